@@ -1,0 +1,11 @@
+pub mod Lines
+pub mod Numbers
+pub mod Words
+pub mod Counts
+pub mod Places
+pub mod Reading
+pub mod Accepting
+pub mod Order
+pub mod Spelled
+pub mod Decimals
+pub mod Worked

@@ -1,0 +1,9 @@
+pub mod Text
+pub mod Rules
+pub mod LineTests
+pub mod Outcome
+pub mod Steps
+pub mod Accepted
+pub mod Spelling
+pub mod Shapes
+pub mod Example

@@ -1,0 +1,47 @@
+-- What the words of a line are to be: the pieces of which a grammar makes its items.
+use Rattle.std.specs.Prelude.{ℕ, Bool, List, [], length, ◌==◌, if◌then◌else◌, slice_index_or, Option, Some, None, Result, Ok, Err, codes}
+use Rattle.std.specs.Str.{bytes_eq}
+use Rattle.line_text.specs.Text.{number_of}
+use Rattle.line_text.specs.declared.fault.FaultKind.{FaultKind}
+use Rattle.line_text.specs.declared.fault.FaultKind.TheVariants.{UnknownWord, BadNumber}
+use Rattle.type_table.specs.Name.{is_name}
+use Rattle.type_table.specs.declared.kind.Kind.{Kind}
+use Rattle.type_table.specs.declared.kind.Kind.TheVariants.{Undo, Intentions}
+
+infixl 10 ◌>>=◌
+-- a step behind one that may fail, as `?` makes it
+abbrev pub ◌>>=◌ : {A B : Type 0} → Result A FaultKind → (A → Result B FaultKind) → Result B FaultKind
+(Ok x) >>= f = f x
+(Err e) >>= f = Err e
+
+-- the word at a place, where there is one
+abbrev pub word : List (List ℕ) → ℕ → List ℕ
+word words place = slice_index_or words place []
+
+-- a line has so many words, its keyword among them
+unfoldable pub exactly : List (List ℕ) → ℕ → Result (Unit {0}) FaultKind
+exactly words count = if length words == count then Ok tt else Err UnknownWord
+
+-- the value, or a fault where there is none
+abbrev pub or_kind : {A : Type 0} → FaultKind → Option A → Result A FaultKind
+or_kind kind None = Err kind
+or_kind kind (Some x) = Ok x
+
+-- the number at a place
+unfoldable pub number_at : List (List ℕ) → ℕ → Result ℕ FaultKind
+number_at words place = or_kind BadNumber (number_of (word words place))
+
+-- the name at a place
+unfoldable pub name_at : List (List ℕ) → ℕ → Result (List ℕ) FaultKind
+name_at words place = if is_name (word words place) then Ok (word words place) else Err UnknownWord
+
+-- the recovery kind at a place
+unfoldable pub kind_at : List (List ℕ) → ℕ → Result Kind FaultKind
+kind_at words place =
+    if bytes_eq (word words place) (codes "undo") then Ok Undo
+    else (if bytes_eq (word words place) (codes "intentions") then Ok Intentions
+    else Err UnknownWord)
+
+-- whether the first word is this keyword
+unfoldable pub is_key : List (List ℕ) → List ℕ → Bool
+is_key words key = bytes_eq (word words 0) key

@@ -1,0 +1,53 @@
+ghost use Rattle.std.specs.Prelude.{◌≡◌, ◌<◌, length, map};
+ghost use Rattle.std.specs.List.{list_any};
+ghost use Rattle.line_text.specs.Rules.{Rules, IsCounted};
+
+use crate::fault::FaultKind;
+use crate::section::Section;
+
+/// A grammar of lines: what the words of a line say, and what is its own of the tests of a line.
+///
+/// A method that judges an item is handed `before`, the items before it in the text, or `counts`, how
+/// many of them are of each rank. The ranks of `before` never fall, so a grammar finds what it needs
+/// at a known place or in the counts, and no method has to look at all items.
+pub trait Grammar {
+    /// What a line says that isn't blank and no comment.
+    type Item: Copy;
+
+    /// The grammar as contracts see it.
+    ghost rules: { Self → Rules Self.Item };
+
+    /// What the words of a line say: `UnknownWord` or `BadNumber` where they say nothing.
+    fn item(&self, words: &[&[u8]]) -> Result<Self::Item, FaultKind>
+        requires { 0 < length words.now }
+        ensures { result ≡ (rules self.now).item_of (map (λ w. w.now) words.now) };
+
+    /// The sections by rank. The last is that of `end`.
+    fn sections(&self) -> &[Section]
+        ensures value { result.now ≡ (rules self.now).sections }
+        ensures some { 0 < length result.now };
+
+    /// The rank of the section in which an item's line stands.
+    fn rank(&self, item: Self::Item) -> usize
+        ensures value { result ≡ (rules self.now).rank_of item }
+        ensures known { result < length (rules self.now).sections };
+
+    /// Whether a line of its own section must stand before the item and doesn't.
+    fn misses(&self, before: &[Self::Item], counts: &[usize], item: Self::Item) -> bool
+        requires { IsCounted (rules self.now) before.now counts.now }
+        ensures { result ≡ (rules self.now).misses before.now item };
+
+    /// Whether the item's numbers are in range.
+    fn is_in_range(&self, before: &[Self::Item], counts: &[usize], item: Self::Item) -> bool
+        requires { IsCounted (rules self.now) before.now counts.now }
+        ensures { result ≡ (rules self.now).is_in_range before.now item };
+
+    /// What the item is greater by than the one before it, where its section ascends.
+    fn key(&self, item: Self::Item) -> Option<(u32, u32)>
+        ensures { result ≡ (rules self.now).key_of item };
+
+    /// Whether an item before it is one that may not stand twice. For an item that may it answers
+    /// `false` at once.
+    fn has_twin(&self, before: &[Self::Item], item: Self::Item) -> bool
+        ensures { result ≡ list_any ((rules self.now).is_twin item) before.now };
+}

@@ -1,0 +1,27 @@
+//! The line machine of the text formats: lines, words, numbers, the tests of a line in their order,
+//! and one reader for every grammar of lines.
+#![tactic(auto)]
+
+mod fault;
+mod grammar;
+mod judge;
+mod laws;
+mod line;
+mod number;
+mod read;
+mod section;
+mod shapes;
+mod stood;
+
+pub use fault::{FaultKind, TextFault};
+pub use grammar::Grammar;
+pub use laws::{
+    accepted_in_order, canonical_reads_again, names_are_words, numbers_read_again, outcome_by_lines,
+};
+pub use number::number_of;
+pub use read::read_items;
+pub use section::Section;
+pub use shapes::{exactly, is_key, kind_at, name_at, number_at};
+
+#[cfg(test)]
+mod tests;

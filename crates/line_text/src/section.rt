@@ -1,0 +1,10 @@
+/// A section of a text: the lines of one rank.
+#[derive(Clone, Copy, Debug, PartialEq, Eq)]
+pub struct Section {
+    /// A second line of it is out of order.
+    pub is_single: bool,
+    /// No line of a higher rank stands without one of it.
+    pub is_needed: bool,
+    /// The most lines that it may have; `None` where any number may stand.
+    pub most: Option<usize>,
+}

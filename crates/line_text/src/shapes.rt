@@ -1,0 +1,73 @@
+ghost use Rattle.std.specs.Prelude.{◌≡◌, map};
+ghost use Rattle.line_text.specs.Shapes.{word, exactly, number_at, name_at, kind_at, is_key};
+
+use crate::fault::FaultKind;
+use crate::number::number_of;
+use type_table::{Kind, Name};
+
+/// Whether the first word of a line is this keyword.
+#[tactic(auto, unfolding(crate::specs::Shapes::is_key))]
+pub fn is_key(words: &[&[u8]], key: &str) -> bool
+    ensures { result ≡ is_key (map (λ w. w.now) words.now) key.now }
+{
+    word(words, 0) == key.as_bytes()
+}
+
+/// That a line has so many words, its keyword among them; else `UnknownWord`.
+#[tactic(auto, unfolding(crate::specs::Shapes::exactly))]
+pub fn exactly(words: &[&[u8]], count: usize) -> Result<(), FaultKind>
+    ensures { result ≡ exactly (map (λ w. w.now) words.now) count }
+{
+    if words.len() == count {
+        Ok(())
+    } else {
+        Err(FaultKind::UnknownWord)
+    }
+}
+
+/// The number at a place of a line, where the keyword is at place 0; else `BadNumber`.
+#[tactic(auto, unfolding(crate::specs::Shapes::number_at))]
+pub fn number_at(words: &[&[u8]], place: usize) -> Result<u32, FaultKind>
+    ensures { result ≡ number_at (map (λ w. w.now) words.now) place }
+{
+    match number_of(word(words, place)) {
+        Some(number) => Ok(number),
+        None => Err(FaultKind::BadNumber),
+    }
+}
+
+/// The name at a place of a line; else `UnknownWord`.
+#[tactic(auto, unfolding(crate::specs::Shapes::name_at))]
+pub fn name_at(words: &[&[u8]], place: usize) -> Result<Name, FaultKind>
+    ensures { result ≡ name_at (map (λ w. w.now) words.now) place }
+{
+    match Name::from_bytes(word(words, place)) {
+        Some(name) => Ok(name),
+        None => Err(FaultKind::UnknownWord),
+    }
+}
+
+/// The recovery kind at a place of a line: `undo` or `intentions`; else `UnknownWord`.
+#[tactic(auto, unfolding(crate::specs::Shapes::kind_at))]
+pub fn kind_at(words: &[&[u8]], place: usize) -> Result<Kind, FaultKind>
+    ensures { result ≡ kind_at (map (λ w. w.now) words.now) place }
+{
+    let word = word(words, place);
+    if word == b"undo".as_slice() {
+        Ok(Kind::Undo)
+    } else if word == b"intentions".as_slice() {
+        Ok(Kind::Intentions)
+    } else {
+        Err(FaultKind::UnknownWord)
+    }
+}
+
+/// The word at a place, which is empty where the line has fewer.
+fn word<'a>(words: &[&'a [u8]], place: usize) -> &'a [u8]
+    ensures { result.now ≡ word (map (λ w. w.now) words.now) place }
+{
+    match words.get(place) {
+        Some(word) => *word,
+        None => &[],
+    }
+}

@@ -1,0 +1,24 @@
+-- Runs along lists of operations.
+use Rattle.std.proofs.Common.{◌≡◌, ℕ, ◌+◌, ◌<◌, length, get_or, drop, ◌∙◌, List, [], ◌∷◌, ◌++◌, Option, Some, None, refl, ap}
+use Rattle.std.proofs.lemmas.List.{at_drop_more}
+use Rattle.type_table.specs.Table.{Table, next}
+use Rattle.type_table.specs.Run.{next_of, run, Looks, AreEqui}
+
+pub run-append : (T : Table) (from : Option ℕ) (v w : List ℕ) → run T from (v ++ w) ≡ run T (run T from v) w
+run-append T from [] w = refl
+run-append T from (k ∷ v) w = run-append T (next_of T from k) v w
+
+pub Looks-run : (T : Table) (a b : Option ℕ) (w : List ℕ) → Looks T a b → Looks T (run T a w) (run T b w)
+Looks-run T a b w h = λ ks legal. rw (run-append T b w ks) at (h (w ++ ks) (rw (run-append T a w ks) legal))
+
+pub AreEqui-run : (T : Table) (a b : Option ℕ) (w : List ℕ) → AreEqui T a b → AreEqui T (run T a w) (run T b w)
+AreEqui-run T a b w h = (Looks-run T a b w h.0, Looks-run T b a w h.1)
+
+-- nothing is legal where there is no state
+pub run_from_none : (T : Table) (ks : List ℕ) → run T None ks ≡ None
+run_from_none T [] = refl
+run_from_none T (k ∷ ks) = run_from_none T ks
+
+-- a run ends at an operation that isn't legal
+pub run_stuck : (T : Table) (s : ℕ) (ks : List ℕ) (i : ℕ) → i < length ks → next T s (get_or ks i 0) ≡ None → run T (Some s) (drop i ks) ≡ None
+run_stuck T s ks i below e = at_drop_more (run T (Some s)) ks i 0 below ∙ ap (λ o. run T o (drop (i + 1) ks)) e ∙ run_from_none T (drop (i + 1) ks)

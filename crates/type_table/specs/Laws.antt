@@ -1,0 +1,20 @@
+-- Statements of laws of types.
+use Rattle.std.specs.Prelude.{◌≡◌, ℕ, ◌<◌, ◌++◌, List, length, Option, Some}
+use Rattle.type_table.specs.Table.{Table, IsTable, next}
+use Rattle.type_table.specs.Run.{run, IsLegal, Looks, AreEqui}
+
+-- a run along one list and then another
+abbrev pub RunsAlong : Type 0
+RunsAlong = (T : Table) (from : Option ℕ) (v w : List ℕ) → run T from (v ++ w) ≡ run T (run T from v) w
+
+-- extension: what looks like another looks like it after the same operations
+abbrev pub LooksAfter : Type 0
+LooksAfter = (T : Table) (a b : Option ℕ) (w : List ℕ) → Looks T a b → IsLegal T a w → IsLegal T b w × Looks T (run T a w) (run T b w)
+
+-- and so for equieffective states
+abbrev pub EquiAfter : Type 0
+EquiAfter = (T : Table) (a b : Option ℕ) (w : List ℕ) → AreEqui T a b → IsLegal T a w → IsLegal T b w × AreEqui T (run T a w) (run T b w)
+
+-- a step is of an operation of the table, from a state to a state
+abbrev pub StepsWithin : Type 0
+StepsWithin = (T : Table) (s k t : ℕ) → IsTable T → next T s k ≡ Some t → (s < T.states) × (k < length T.ops) × (t < T.states)

@@ -1,0 +1,12 @@
+pub mod Name
+pub mod Kind
+pub mod Padded
+pub mod Op
+pub mod Counts
+pub mod Table
+pub mod Run
+pub mod StateSet
+pub mod ConflictTable
+pub mod Commute
+pub mod Laws
+pub mod Examples

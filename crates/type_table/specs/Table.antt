@@ -1,0 +1,57 @@
+-- A type of shared objects, as a finite table (Weihl's serial specification, with finitely many states).
+use Rattle.std.specs.Prelude.{◌≡◌, ℕ, ◌+◌, ◌*◌, ◌<◌, ◌≤◌, Bool, false, true, not, List, [], length, map, nat_lt, if◌then◌else◌, Option, Some, None, slice_get, slice_index_or, option_and_then}
+use Rattle.std.specs.List.{list_all, position}
+use Rattle.std.specs.Str.{bytes_eq}
+use Rattle.type_table.specs.Op.{has_twin}
+use Rattle.type_table.specs.Counts.{has_counts, is_inside}
+use Rattle.type_table.specs.declared.op.Op.{Op}
+use Rattle.type_table.specs.declared.table_error.TableError.{TableError}
+use Rattle.type_table.specs.declared.table_error.TableError.TheVariants.{BadCount, BadInitial, BadStep, TwiceOp}
+
+-- Its name, its number of states, the initial state, the operations in order, and the steps: the entry of
+-- state s and operation k stands at s * (number of operations) + k, and is None where k isn't legal in s.
+pub record Table : Type 0 where
+  pub name : List ℕ
+  pub states : ℕ
+  pub initial : ℕ
+  pub ops : List Op
+  pub steps : List (Option ℕ)
+
+-- the next state, where operation k is legal in state s
+unfoldable pub next : Table → ℕ → ℕ → Option ℕ
+next T s k = if nat_lt k (length T.ops) then option_and_then (λ entry. entry) (slice_get T.steps (s * length T.ops + k)) else None
+
+-- ---- calls
+
+-- the name of the call of operation k
+abbrev pub call_of : Table → ℕ → List ℕ
+call_of T k = slice_index_or (map (λ (o : Op). o.call) T.ops) k []
+
+-- the first operation whose call has this name
+abbrev pub first_op : Table → List ℕ → Option ℕ
+first_op T name = position (λ (o : Op). bytes_eq o.call name) T.ops
+
+-- two operations are of one call
+abbrev pub is_same_call : Table → ℕ → ℕ → Bool
+is_same_call T k c = bytes_eq (call_of T k) (call_of T c)
+
+-- ---- what makes a table
+
+-- why it is no table: the first reason that holds
+unfoldable pub table_fault : Table → Option TableError
+table_fault T =
+    if not (has_counts T.states (length T.ops) (length T.steps)) then Some BadCount
+    else (if not (nat_lt T.initial T.states) then Some BadInitial
+    else (if not (list_all (is_inside T.states) T.steps) then Some BadStep
+    else (if has_twin T.ops then Some TwiceOp else None)))
+
+-- what is known of each table
+pub record IsTable (T : Table) : Type 0 where
+  pub some_states : 0 < T.states
+  pub states_fit : T.states ≤ 1024
+  pub some_ops : 0 < length T.ops
+  pub ops_fit : length T.ops ≤ 64
+  pub whole : length T.steps ≡ T.states * length T.ops
+  pub initial_inside : T.initial < T.states
+  pub steps_inside : list_all (is_inside T.states) T.steps ≡ true
+  pub no_twin : has_twin T.ops ≡ false

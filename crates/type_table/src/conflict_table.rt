@@ -1,0 +1,57 @@
+ghost use Rattle.std.specs.Prelude.{◌≡◌, ◌≤◌, ◌<◌, ◌==◌, ◌&&◌, ◌||◌, ℕ, false, length};
+ghost use Rattle.type_table.specs.ConflictTable.{conflicts, IsSquare};
+
+use std::marker::Model;
+
+/// Which pairs of operations conflict: the first is requested, the second is held.
+///
+/// Contracts see it as a row for each requested operation, with a cell for each held one.
+#[derive(Drop)]
+pub struct ConflictTable {
+    words: [u64; 64],
+    ops: u8,
+}
+
+impl Model for ConflictTable {
+    ghost use Rattle.std.specs.Prelude.{◌≤◌, Bool, List};
+    ghost use Rattle.type_table.specs.ConflictTable.{rows_of};
+
+    ghost Value = { List (List Bool) };
+
+    ghost view = { λ a. rows_of a.ops a.words };
+
+    ghost invariant = { λ a. a.ops ≤ 64 };
+}
+
+impl ConflictTable {
+    /// A table of no pair, for at most 64 operations.
+    pub fn new(ops: u8) -> ConflictTable
+        requires { ops ≤ 64 }
+        ensures square { IsSquare ops result }
+        ensures none { (p q : ℕ) → conflicts result p q ≡ false }
+    {
+        let words = [0; 64];
+        ConflictTable { words, ops }
+    }
+
+    /// Adds the pair of the requested operation p and the held operation q.
+    pub fn set(&mut self, p: u8, q: u8)
+        requires requested { p < length self.old }
+        requires held { q < length self.old }
+        ensures square { IsSquare (length self.old) self.new }
+        ensures pairs { (a b : ℕ) → conflicts self.new a b ≡ (conflicts self.old a b || (a == p && b == q)) }
+    {
+        let word = self.words[p as usize];
+        self.words[p as usize] = word | 1 << q;
+    }
+
+    /// Whether the requested operation p conflicts with the held operation q.
+    pub fn conflicts(&self, p: u8, q: u8) -> bool
+        requires requested { p < length self.now }
+        requires held { q < length self.now }
+        ensures { result ≡ conflicts self.now p q }
+    {
+        let word = self.words[p as usize];
+        word >> q & 1 == 1
+    }
+}

@@ -1,0 +1,23 @@
+//! Types of shared objects as finite tables: their operations, states and steps, sets of states,
+//! and which operations conflict.
+#![tactic(auto)]
+
+mod conflict_table;
+mod kind;
+mod laws;
+mod name;
+mod op;
+mod state_set;
+mod table;
+mod table_error;
+#[cfg(test)]
+mod tests;
+
+pub use conflict_table::ConflictTable;
+pub use kind::Kind;
+pub use laws::{equi_after, looks_after, runs_along, steps_within};
+pub use name::Name;
+pub use op::Op;
+pub use state_set::StateSet;
+pub use table::TypeTable;
+pub use table_error::TableError;
