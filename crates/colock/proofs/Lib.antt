@@ -1,0 +1,5 @@
+pub mod OptionLemmas
+pub mod CheckLemmas
+pub mod ProgramLemmas
+pub mod ParseLemmas
+pub mod VerdictLemmas

@@ -1,0 +1,15 @@
+use Rattle.std.proofs.Common.{◌≡◌, ◌∙◌, rules, ap, ap₂, true}
+use Rattle.std.specs.Prelude.{codes}
+use Rattle.std.proofs.lemmas.Result.{IfOk-weaker}
+use Rattle.clap.specs.Simple.{App, app_of, new_app, on_top, with_subcommand}
+use Rattle.colock.proofs.words.program.Goals as goal
+
+pub returns : goal.returns
+returns c =
+    let shaped = c.in_ok-check_command.ensures.shape in
+    let top_is : app_of c.subcommand_required.result ≡ on_top (λ top. record top { no_binary_name = true; subcommand_required = true }) (new_app (codes "colock")) = search rules in
+    IfOk-weaker c.subcommand.result _ _ (λ command added. (
+      shaped.0,
+      shaped.1,
+      added.shape c.in_ok-check_command.ensures.local ∙ ap₂ with_subcommand top_is (ap (λ (a : App). a.top) shaped.2),
+    )) c.subcommand.ensures

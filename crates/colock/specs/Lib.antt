@@ -1,0 +1,5 @@
+pub mod Program
+pub mod Source
+pub mod Words
+pub mod Verdict
+pub mod Next

@@ -1,0 +1,88 @@
+//! The program: reads its words, does their task and ends with its status.
+#![tactic(auto)]
+
+ghost use Rattle.std.specs.Prelude.{◌≡◌, None};
+
+#[cfg(test)]
+mod memory_source;
+mod prepare;
+mod source;
+mod status;
+mod words;
+
+use prepare::{Next, out_of_memory, prepare};
+use source::FileSource;
+use status::BAD_INPUT;
+use std::env;
+use std::io::ErrorKind;
+use std::process::ExitCode;
+use std::rt::Env;
+use type_text::{Out, Sink, put};
+use words::{WordFault, read_words};
+
+fn main(rt: HostRuntime) -> ExitCode {
+    let mut err = Sink::new(rt.stderr());
+    let status = match words_given(&rt) {
+        Ok(words) => run(&rt, words.as_slice(), &mut err),
+        Err(fault) => say(fault, &mut err),
+    };
+    ExitCode::from(status)
+}
+
+/// The words after the program's name.
+fn words_given<R: Env + AllocGlobal>(rt: &R) -> Result<Vec<String>, WordFault> {
+    match env::args(rt) {
+        Ok(all) => match all.skip(1).collect(rt.alloc()) {
+            Ok(words) => Ok(words),
+            Err(_) => Err(WordFault::NoMemory),
+        },
+        Err(error) => Err(no_words(rt, error.kind())),
+    }
+}
+
+fn no_words<R: AllocGlobal>(rt: &R, kind: ErrorKind) -> WordFault {
+    if kind == ErrorKind::OutOfMemory {
+        return WordFault::NoMemory;
+    }
+    match String::from_str(rt.alloc(), "error: a word is no text\n") {
+        Ok(text) => WordFault::Usage { text },
+        Err(_) => WordFault::NoMemory,
+    }
+}
+
+/// Does what the words ask for.
+fn run<E: Out>(rt: &HostRuntime, words: &[String], err: &mut E) -> u8
+    requires { E.fault err.old ≡ None }
+{
+    let words: Vec<&str> = match words.iter().map(|word| word.as_str()).collect(rt.alloc()) {
+        Ok(words) => words,
+        Err(_) => return out_of_memory(err),
+    };
+    match read_words(rt.alloc(), words.as_slice()) {
+        Ok(task) => {
+            let mut out = Sink::new(rt.stdout());
+            let Next::Done(status) = prepare(
+                rt.alloc(),
+                task,
+                &mut FileSource { runtime: rt },
+                &mut out,
+                err,
+            );
+            status
+        }
+        Err(fault) => say(fault, err),
+    }
+}
+
+/// Says the fault, and answers its status. That standard error fails changes no status.
+fn say<E: Out>(fault: WordFault, err: &mut E) -> u8
+    requires { E.fault err.old ≡ None }
+{
+    match fault {
+        WordFault::Usage { text } => {
+            let _ = put(err, text.as_bytes());
+            BAD_INPUT
+        }
+        WordFault::NoMemory => out_of_memory(err),
+    }
+}

@@ -1,0 +1,6 @@
+pub mod Words
+pub mod Rows
+pub mod Cells
+pub mod Steps
+pub mod Faults
+pub mod Examples

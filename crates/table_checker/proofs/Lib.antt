@@ -1,0 +1,4 @@
+pub mod Numbers
+pub mod Failures
+pub mod Covering
+pub mod Examples

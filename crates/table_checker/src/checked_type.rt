@@ -1,0 +1,73 @@
+ghost use Rattle.std.specs.Prelude.{◌≡◌, true};
+
+use std::marker::Model;
+use type_table::{ConflictTable, Kind, TypeTable};
+use type_text::TypeFile;
+
+/// A type file that the checker accepted for a kind of recovery. Only the checker makes one.
+#[derive(Drop)]
+pub struct CheckedType {
+    kind: Kind,
+    file: TypeFile,
+}
+
+impl Model for CheckedType {
+    ghost use Rattle.table_checker.specs.Checked.{Checked, IsChecked};
+
+    ghost Value = { Checked };
+
+    ghost view = { λ a. record { kind = a.kind; file = a.file } };
+
+    ghost invariant = { λ a. IsChecked (record { kind = a.kind; file = a.file }) };
+}
+
+impl CheckedType {
+    ghost use Rattle.table_checker.specs.Checked.{IsChecked, conflicts_of};
+
+    /// What the checker tested, as a value.
+    pub(crate) fn new(kind: Kind, file: TypeFile) -> CheckedType
+        requires { IsChecked (record { kind = kind; file = file }) }
+        ensures { result ≡ record { kind = kind; file = file } }
+    {
+        CheckedType { kind, file }
+    }
+
+    /// The kind of recovery for which the file was accepted.
+    pub fn kind(&self) -> Kind
+        ensures { result ≡ self.now.kind }
+    {
+        self.kind
+    }
+
+    /// The accepted file, and what was tested of it.
+    pub fn file(&self) -> &TypeFile
+        ensures exact { result.now ≡ self.now.file }
+        ensures checked { IsChecked self.now }
+    {
+        &self.file
+    }
+
+    /// The file's table.
+    pub fn table(&self) -> &TypeTable
+        ensures { result.now ≡ self.now.file.table }
+    {
+        &self.file.table
+    }
+
+    /// The conflict table of its kind.
+    pub fn conflicts(&self) -> &ConflictTable
+        ensures { result.now ≡ conflicts_of self.now.kind self.now.file }
+    {
+        match self.kind {
+            Kind::Undo => &self.file.undo,
+            Kind::Intentions => &self.file.intentions,
+        }
+    }
+
+    /// Whether kept states are equieffective to serial ones. For deferred update they always are.
+    pub fn is_strong(&self) -> bool
+        ensures { result ≡ true }
+    {
+        true
+    }
+}

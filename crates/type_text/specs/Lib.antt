@@ -1,0 +1,4 @@
+pub mod Out
+pub mod TypeLines
+pub mod TypeFile
+pub mod Examples

@@ -1,0 +1,179 @@
+//! The file that the lines of an accepted text describe.
+
+ghost use Rattle.std.specs.Prelude.{◌≡◌, ℕ, ◌+◌, ◌*◌, ◌<◌, ◌≤◌, ◌↔◌, true, false, Some, None, length, IfOk, OnOk, Contains, [], ◌∷◌, ◌++◌, slice_get, slice_index_or, slice_set, replicate, ◌⊎◌};
+ghost use Rattle.std.specs.List.{list_all, list_any};
+ghost use Rattle.type_table.specs.Op.{has_twin, is_same_op};
+ghost use Rattle.type_table.specs.declared.op.Op.{Op as OpValue};
+ghost use Rattle.type_table.specs.Counts.{is_inside};
+ghost use Rattle.type_table.specs.ConflictTable.{conflicts};
+ghost use Rattle.type_text.specs.TypeLines.{AreTypeLines, states_of, ops_of};
+ghost use Rattle.type_text.specs.TypeFile.{IsFileOf, IsTableOf};
+
+use crate::type_file::TypeFile;
+use crate::type_line::TypeLine;
+use indexmap::IndexSet;
+use std::alloc::{AllocError, Global};
+use type_table::{ConflictTable, Kind, Name, Op, TypeTable};
+
+/// The file that the lines describe.
+pub fn file_of(alloc: Global, lines: &[TypeLine]) -> Result<TypeFile, AllocError>
+    requires { AreTypeLines lines.now }
+    ensures { IfOk result (IsFileOf lines.now) }
+{
+    let table = table_of(alloc, lines)?;
+    let ops = table.op_count();
+    let undo = conflicts_of(Kind::Undo, ops, lines);
+    let intentions = conflicts_of(Kind::Intentions, ops, lines);
+    Ok(TypeFile {
+        table,
+        undo,
+        intentions,
+    })
+}
+
+fn table_of(alloc: Global, lines: &[TypeLine]) -> Result<TypeTable, AllocError>
+    requires { AreTypeLines lines.now }
+    ensures { IfOk result (IsTableOf lines.now) }
+{
+    let ops = ops_of(alloc, lines)?;
+    let states = states_of(lines);
+    let steps = steps_of(alloc, lines, states, ops.len())?;
+    match TypeTable::new(name_of(lines), states, initial_of(lines), ops, steps) {
+        Ok(table) => Ok(table),
+        Err(_) => unreachable!(),
+    }
+}
+
+fn name_of(lines: &[TypeLine]) -> Name
+    requires { AreTypeLines lines.now }
+    ensures { slice_get lines.now 0 ≡ Some (TypeLine.TypeName result) }
+{
+    match lines.first() {
+        Some(TypeLine::TypeName(name)) => *name,
+        _ => unreachable!(),
+    }
+}
+
+fn states_of(lines: &[TypeLine]) -> u16
+    requires { AreTypeLines lines.now }
+    ensures exact { slice_get lines.now 1 ≡ Some (TypeLine.States result) }
+    ensures some { 0 < result }
+    ensures fit { result ≤ 1024 }
+{
+    match lines.get(1) {
+        Some(TypeLine::States(states)) => *states as u16,
+        _ => unreachable!(),
+    }
+}
+
+fn initial_of(lines: &[TypeLine]) -> u16
+    requires { AreTypeLines lines.now }
+    ensures exact { slice_get lines.now 2 ≡ Some (TypeLine.Initial result) }
+    ensures inside { result < states_of lines.now }
+{
+    match lines.get(2) {
+        Some(TypeLine::Initial(s)) => *s as u16,
+        _ => unreachable!(),
+    }
+}
+
+/// The operations, numbered in the order of their lines.
+fn ops_of(alloc: Global, lines: &[TypeLine]) -> Result<Vec<Op>, AllocError>
+    requires { AreTypeLines lines.now }
+    ensures exact { IfOk result (λ ops. ops.items ≡ ops_of lines.now) }
+    ensures no_twin { IfOk result (λ ops. has_twin ops.items ≡ false) }
+{
+    let mut ops = IndexSet::new(alloc);
+    for line in lines {
+        number_op(&mut ops, *line)?;
+    }
+    listed(alloc, &ops)
+}
+
+/// Gives the operation of an `op` line the next number.
+fn number_op(ops: &mut IndexSet<Op>, line: TypeLine) -> Result<(), AllocError>
+    requires { (op : OpValue) → line ≡ TypeLine.Operation op → list_any (is_same_op op) ops.old.keys ≡ false }
+    ensures { OnOk result (ops.new.keys ≡ ops.old.keys ++ ops_of (line ∷ [])) }
+{
+    if let TypeLine::Operation(op) = line {
+        ops.insert(op)?;
+    }
+    Ok(())
+}
+
+fn listed(alloc: Global, ops: &IndexSet<Op>) -> Result<Vec<Op>, AllocError>
+    ensures { IfOk result (λ list. list.items ≡ ops.now.keys) }
+{
+    ops.iter().copied().collect(alloc)
+}
+
+/// The entries of a table: that of state s and operation k stands at `s * ops + k`.
+fn steps_of(
+    alloc: Global,
+    lines: &[TypeLine],
+    states: u16,
+    ops: usize,
+) -> Result<Vec<Option<u16>>, AllocError>
+    requires lines { AreTypeLines lines.now }
+    requires states { states ≡ states_of lines.now }
+    requires ops { ops ≡ length (ops_of lines.now) }
+    requires fit { states ≤ 1024 }
+    ensures whole { IfOk result (λ steps. length steps.items ≡ states * ops) }
+    ensures exact { IfOk result (λ steps. (s k t : ℕ) → k < ops → (slice_index_or steps.items (s * ops + k) None ≡ Some t) ↔ Contains lines.now (TypeLine.Step s k t)) }
+{
+    let mut steps = vec![in alloc; None; states as usize * ops]?;
+    put_steps(&mut steps, ops, lines);
+    Ok(steps)
+}
+
+/// Writes the entries of the `step` lines where there are none.
+fn put_steps(steps: &mut [Option<u16>], ops: usize, lines: &[TypeLine])
+    requires lines { AreTypeLines lines.now }
+    requires ops { ops ≡ length (ops_of lines.now) }
+    requires fit { states_of lines.now ≤ 1024 }
+    requires empty { steps.old ≡ replicate (states_of lines.now * ops) None }
+    ensures { (s k t : ℕ) → k < ops → (slice_index_or steps.new (s * ops + k) None ≡ Some t) ↔ Contains lines.now (TypeLine.Step s k t) }
+{
+    for line in lines {
+        put_step(steps, ops, *line);
+    }
+}
+
+/// Writes the entry of a `step` line.
+fn put_step(steps: &mut [Option<u16>], ops: usize, line: TypeLine)
+    requires { (s k t : ℕ) → line ≡ TypeLine.Step s k t → (s < 1024) × (t < 1024) × (ops ≤ 64) × (s * ops + k < length steps.old) }
+    ensures step { (s k t : ℕ) → line ≡ TypeLine.Step s k t → steps.new ≡ slice_set steps.old (s * ops + k) (Some t) }
+    ensures other { ((s k t : ℕ) → line ≡ TypeLine.Step s k t → ⊥) → steps.new ≡ steps.old }
+{
+    if let TypeLine::Step { s, k, t } = line {
+        steps[s as usize * ops + k as usize] = Some(t as u16);
+    }
+}
+
+/// The conflict table of a kind.
+fn conflicts_of(kind: Kind, ops: u8, lines: &[TypeLine]) -> ConflictTable
+    requires lines { AreTypeLines lines.now }
+    requires ops { ops ≡ length (ops_of lines.now) }
+    ensures fits { length result ≡ ops }
+    ensures exact { (p q : ℕ) → (conflicts result p q ≡ true) ↔ Contains lines.now (TypeLine.Conflict kind p q) }
+{
+    let mut table = ConflictTable::new(ops);
+    for line in lines {
+        add_conflict(&mut table, kind, *line);
+    }
+    table
+}
+
+/// Adds the pair of a `conflict` line of this kind.
+fn add_conflict(table: &mut ConflictTable, kind: Kind, line: TypeLine)
+    requires fits { length table.old ≤ 64 }
+    requires inside { (p q : ℕ) → line ≡ TypeLine.Conflict kind p q → (p < length table.old) × (q < length table.old) }
+    ensures fits { length table.new ≡ length table.old }
+    ensures pairs { (p q : ℕ) → (conflicts table.new p q ≡ true) ↔ ((conflicts table.old p q ≡ true) ⊎ (line ≡ TypeLine.Conflict kind p q)) }
+{
+    if let TypeLine::Conflict { kind: of, p, q } = line
+        && of == kind
+    {
+        table.set(p as u8, q as u8);
+    }
+}

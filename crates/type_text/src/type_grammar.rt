@@ -1,0 +1,203 @@
+//! The grammar of type files: what a line says, and its tests behind the lines before it.
+
+ghost use Rattle.std.specs.Prelude.{◌≡◌, map};
+ghost use Rattle.std.specs.List.{list_any};
+ghost use Rattle.type_table.specs.Op.{is_same_op};
+ghost use Rattle.type_text.specs.TypeLines.{type_rules, line_of, type_name_of, states_of_words, initial_of_words, operation_of, step_of, conflict_of, end_of, states_in, states_of, is_twin};
+
+use crate::type_line::TypeLine;
+use line_text::{FaultKind, Grammar, Section, exactly, is_key, kind_at, name_at, number_at};
+use type_table::{Kind, Op};
+
+const ONE_LINE: Section = Section {
+    is_single: true,
+    is_needed: true,
+    most: None,
+};
+
+const ANY_LINES: Section = Section {
+    is_single: false,
+    is_needed: false,
+    most: None,
+};
+
+const OP_LINES: Section = Section {
+    is_single: false,
+    is_needed: true,
+    most: Some(64),
+};
+
+static SECTIONS: [Section; 8] = [
+    ONE_LINE, ONE_LINE, ONE_LINE, OP_LINES, ANY_LINES, ANY_LINES, ANY_LINES, ONE_LINE,
+];
+
+/// The place of the `op` lines among the sections.
+const OP_RANK: usize = 3;
+
+/// The grammar of type files.
+#[derive(Clone, Copy, Debug)]
+pub struct TypeGrammar;
+
+impl Grammar for TypeGrammar {
+    type Item = TypeLine;
+
+    ghost rules = { λ _. type_rules };
+
+    #[tactic(auto, unfolding(crate::specs::TypeLines::line_of))]
+    fn item(&self, words: &[&[u8]]) -> Result<TypeLine, FaultKind> {
+        if is_key(words, "type") {
+            type_name_of(words)
+        } else if is_key(words, "states") {
+            states_of_words(words)
+        } else if is_key(words, "initial") {
+            initial_of_words(words)
+        } else if is_key(words, "op") {
+            operation_of(words)
+        } else if is_key(words, "step") {
+            step_of(words)
+        } else if is_key(words, "conflict") {
+            conflict_of(words)
+        } else if is_key(words, "end") {
+            end_of(words)
+        } else {
+            Err(FaultKind::UnknownWord)
+        }
+    }
+
+    fn sections(&self) -> &[Section] {
+        &SECTIONS
+    }
+
+    fn rank(&self, item: TypeLine) -> usize {
+        match item {
+            TypeLine::TypeName(_) => 0,
+            TypeLine::States(_) => 1,
+            TypeLine::Initial(_) => 2,
+            TypeLine::Operation(_) => OP_RANK,
+            TypeLine::Step { .. } => 4,
+            TypeLine::Conflict { kind, .. } => match kind {
+                Kind::Undo => 5,
+                Kind::Intentions => 6,
+            },
+            TypeLine::End => 7,
+        }
+    }
+
+    fn misses(&self, _before: &[TypeLine], _counts: &[usize], _item: TypeLine) -> bool {
+        false
+    }
+
+    fn is_in_range(&self, before: &[TypeLine], counts: &[usize], item: TypeLine) -> bool {
+        let states = states_of(before);
+        let ops = counts[OP_RANK];
+        match item {
+            TypeLine::States(states) => 1 <= states && states <= 1024,
+            TypeLine::Initial(s) => s < states,
+            TypeLine::Step { s, k, t } => s < states && (k as usize) < ops && t < states,
+            TypeLine::Conflict { p, q, .. } => (p as usize) < ops && (q as usize) < ops,
+            TypeLine::TypeName(_) | TypeLine::Operation(_) | TypeLine::End => true,
+        }
+    }
+
+    fn key(&self, item: TypeLine) -> Option<(u32, u32)> {
+        match item {
+            TypeLine::Step { s, k, .. } => Some((s, k)),
+            TypeLine::Conflict { p, q, .. } => Some((p, q)),
+            _ => None,
+        }
+    }
+
+    fn has_twin(&self, before: &[TypeLine], item: TypeLine) -> bool {
+        match item {
+            TypeLine::Operation(op) => stands_in(before, op),
+            _ => false,
+        }
+    }
+}
+
+/// The number of states, which stands in the second line.
+fn states_of(lines: &[TypeLine]) -> u32
+    ensures { result ≡ states_of lines.now }
+{
+    match lines.get(1) {
+        Some(TypeLine::States(states)) => *states,
+        _ => 0,
+    }
+}
+
+/// Whether an `op` line of this operation is among the lines.
+fn stands_in(lines: &[TypeLine], op: Op) -> bool
+    ensures { result ≡ list_any (is_twin (TypeLine.Operation op)) lines.now }
+{
+    lines.iter().any(|line| match line {
+        TypeLine::Operation(other) => op == *other,
+        _ => false,
+    })
+}
+
+#[tactic(auto, unfolding(crate::specs::TypeLines::type_name_of))]
+fn type_name_of(words: &[&[u8]]) -> Result<TypeLine, FaultKind>
+    ensures { result ≡ type_name_of (map (λ w. w.now) words.now) }
+{
+    exactly(words, 2)?;
+    let name = name_at(words, 1)?;
+    Ok(TypeLine::TypeName(name))
+}
+
+#[tactic(auto, unfolding(crate::specs::TypeLines::states_of_words))]
+fn states_of_words(words: &[&[u8]]) -> Result<TypeLine, FaultKind>
+    ensures { result ≡ states_of_words (map (λ w. w.now) words.now) }
+{
+    exactly(words, 2)?;
+    let states = number_at(words, 1)?;
+    Ok(TypeLine::States(states))
+}
+
+#[tactic(auto, unfolding(crate::specs::TypeLines::initial_of_words))]
+fn initial_of_words(words: &[&[u8]]) -> Result<TypeLine, FaultKind>
+    ensures { result ≡ initial_of_words (map (λ w. w.now) words.now) }
+{
+    exactly(words, 2)?;
+    let s = number_at(words, 1)?;
+    Ok(TypeLine::Initial(s))
+}
+
+#[tactic(auto, unfolding(crate::specs::TypeLines::operation_of))]
+fn operation_of(words: &[&[u8]]) -> Result<TypeLine, FaultKind>
+    ensures { result ≡ operation_of (map (λ w. w.now) words.now) }
+{
+    exactly(words, 3)?;
+    let call = name_at(words, 1)?;
+    let reply = name_at(words, 2)?;
+    Ok(TypeLine::Operation(Op { call, reply }))
+}
+
+#[tactic(auto, unfolding(crate::specs::TypeLines::step_of))]
+fn step_of(words: &[&[u8]]) -> Result<TypeLine, FaultKind>
+    ensures { result ≡ step_of (map (λ w. w.now) words.now) }
+{
+    exactly(words, 4)?;
+    let s = number_at(words, 1)?;
+    let k = number_at(words, 2)?;
+    let t = number_at(words, 3)?;
+    Ok(TypeLine::Step { s, k, t })
+}
+
+#[tactic(auto, unfolding(crate::specs::TypeLines::conflict_of))]
+fn conflict_of(words: &[&[u8]]) -> Result<TypeLine, FaultKind>
+    ensures { result ≡ conflict_of (map (λ w. w.now) words.now) }
+{
+    exactly(words, 4)?;
+    let kind = kind_at(words, 1)?;
+    let p = number_at(words, 2)?;
+    let q = number_at(words, 3)?;
+    Ok(TypeLine::Conflict { kind, p, q })
+}
+
+#[tactic(auto, unfolding(crate::specs::TypeLines::end_of))]
+fn end_of(words: &[&[u8]]) -> Result<TypeLine, FaultKind>
+    ensures { result ≡ end_of (map (λ w. w.now) words.now) }
+{
+    exactly(words, 1)?;
+    Ok(TypeLine::End)
+}

@@ -1,0 +1,20 @@
+use type_table::{Kind, Name, Op};
+
+/// What a line of a type file says.
+#[derive(Clone, Copy, PartialEq, Eq)]
+pub enum TypeLine {
+    /// `type NAME`
+    TypeName(Name),
+    /// `states N`
+    States(u32),
+    /// `initial S`
+    Initial(u32),
+    /// `op CALL REPLY`
+    Operation(Op),
+    /// `step S K T`
+    Step { s: u32, k: u32, t: u32 },
+    /// `conflict KIND P Q`
+    Conflict { kind: Kind, p: u32, q: u32 },
+    /// `end`
+    End,
+}
