@@ -1,5 +1,6 @@
 -- What `check KIND FILE` answers.
 use Rattle.std.specs.Prelude.{◌≡◌, ℕ, List, [], ◌∷◌, ◌++◌, Option, codes, Ok, Err}
+use Rattle.std.specs.Fmt.{decimal}
 use Rattle.std.specs.Io.KnownBytes.{Appends}
 use Rattle.line_text.specs.Outcome.{outcome_of}
 use Rattle.line_text.specs.declared.fault.TextFault.{TextFault}
@@ -48,7 +49,12 @@ Tells kind status text = (status ≡ 0 → IsYes kind text) × (status ≡ 1 →
 abbrev pub yes_line : List ℕ
 yes_line = codes "yes strong" ++ 10 ∷ []
 
--- what an output took, by the status: the line of a yes at 0, nothing where the text has a fault
+-- the line of a no
+abbrev pub no_line : ℕ → ℕ → ℕ → List ℕ
+no_line p q s = codes "no NotCommuting " ++ (decimal p ++ (codes " " ++ (decimal q ++ (codes " " ++ (decimal s ++ 10 ∷ [])))))
+
+-- what an output took, by the status: the line of a yes at 0, that of a no at 1, nothing where the text has a fault
 pub record Writes (status : ℕ) (old new : Option (List ℕ)) : Type 0 where
   pub yes : status ≡ 0 → Appends old new yes_line
+  pub no : status ≡ 1 → (p : ℕ) × (q : ℕ) × (s : ℕ) × Appends old new (no_line p q s)
   pub fault : status ≡ 2 → new ≡ old

@@ -2,7 +2,7 @@
 
 ghost use Rattle.std.specs.Prelude.{◌≡◌, ◌≢◌, ◌≤◌, ◌⊎◌, None, IfSome};
 ghost use Rattle.table_checker.specs.Laws.{CoversType};
-ghost use Rattle.colock.specs.Verdict.{Tells, HasFailure, Writes, yes_line};
+ghost use Rattle.colock.specs.Verdict.{Tells, HasFailure, Writes, yes_line, no_line};
 ghost use Rattle.colock.specs.Words.{IsOffered, IsOfferedTask};
 ghost use Rattle.colock.specs.Next.{TellsNext, WritesNext};
 ghost use Rattle.std.specs.Io.KnownBytes.{Appends};
@@ -113,7 +113,7 @@ fn check_read<W: Out, E: Out>(
 {
     match check(file, kind) {
         Ok(checked) => say_yes(&checked, out),
-        Err((_, refusal)) => say_no(alloc, refusal, out, err),
+        Err((_, CheckRefusal::NotCommuting { p, q, s })) => say_no(alloc, p, q, s, out, err),
     }
 }
 
@@ -133,12 +133,14 @@ fn say_yes<W: Out>(checked: &CheckedType, out: &mut W) -> u8
     }
 }
 
-fn say_no<W: Out, E: Out>(alloc: Global, refusal: CheckRefusal, out: &mut W, err: &mut E) -> u8
+/// The line is spelled here, not by the refusal's `Display`, so that its bytes are proved.
+fn say_no<W: Out, E: Out>(alloc: Global, p: u8, q: u8, s: u16, out: &mut W, err: &mut E) -> u8
     requires out_takes { W.fault out.old ≡ None }
     requires err_takes { E.fault err.old ≡ None }
-    ensures { (result ≡ 1) ⊎ (result ≡ 3) }
+    ensures decides { (result ≡ 1) ⊎ (result ≡ 3) }
+    ensures writes { result ≡ 1 → Appends (W.taken out.old) (W.taken out.new) (no_line p q s) }
 {
-    match format!(in alloc; "no {refusal}\n") {
+    match format!(in alloc; "no NotCommuting {p} {q} {s}\n") {
         Ok(line) => match put(out, line.as_bytes()) {
             Ok(()) => NO,
             Err(_) => FAILED,
