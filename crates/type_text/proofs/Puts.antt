@@ -9,7 +9,7 @@ use Rattle.std.specs.List.{flat_map}
 use Rattle.std.specs.Result.{IsErrAnd}
 use Rattle.std.specs.Io.KnownBytes.{Appends}
 use Rattle.type_text.specs.Out.{AppendsBeginning, Puts}
-use Rattle.type_text.specs.declared.out.OutFault.{OutFault}
+use Rattle.type_text.specs.declared.output.OutFault.{OutFault}
 
 -- a beginning of a text is one of a longer text
 pub AppendsBeginning-append : (a b : Option (List ℕ)) (x y : List ℕ) → AppendsBeginning a b x → AppendsBeginning a b (x ++ y)

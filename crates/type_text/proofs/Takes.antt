@@ -4,8 +4,8 @@ use Rattle.std.proofs.lemmas.Bool.Decides.{nat_tests}
 use Rattle.std.proofs.lemmas.List.{take_rest}
 use Rattle.std.specs.Io.KnownBytes.{Appends, Keeps}
 use Rattle.type_text.specs.Out.{fault_after, Puts}
-use Rattle.type_text.specs.declared.out.OutFault.{OutFault}
-use Rattle.type_text.specs.declared.out.OutFault.TheVariants.{WroteNothing}
+use Rattle.type_text.specs.declared.output.OutFault.{OutFault}
+use Rattle.type_text.specs.declared.output.OutFault.TheVariants.{WroteNothing}
 
 -- what keeps the bytes appends none
 pub Appends-from_kept : (a b : Option (List ℕ)) → Keeps a b → Appends a b []

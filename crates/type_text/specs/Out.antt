@@ -2,10 +2,10 @@
 use Rattle.std.specs.Prelude.{◌≡◌, ℕ, ◌<◌, ◌==◌, ◌&&◌, not, if◌then◌else◌, List, ◌++◌, length, take, Option, None, Some, Result, Ok, Err, OnOk, OnErr}
 use Rattle.std.specs.Result.{result_err}
 use Rattle.std.specs.Io.KnownBytes.{Appends}
-use Rattle.type_text.specs.declared.out.OutFault.{OutFault}
-use Rattle.type_text.specs.declared.out.OutFault.TheVariants.{Device, WroteNothing}
-use Rattle.type_text.specs.declared.out.Failed.{Failed}
-use Rattle.type_text.specs.declared.out.Sink.{Sink}
+use Rattle.type_text.specs.declared.output.OutFault.{OutFault}
+use Rattle.type_text.specs.declared.output.OutFault.TheVariants.{Device, WroteNothing}
+use Rattle.type_text.specs.declared.output.Failed.{Failed}
+use Rattle.type_text.specs.declared.output.Sink.{Sink}
 
 -- the writer under a sink
 abbrev pub sink_writer : {W : Type 0} → Sink W → W

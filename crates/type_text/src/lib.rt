@@ -2,14 +2,14 @@
 #![tactic(auto)]
 
 mod build;
-mod out;
+mod output;
 mod read;
 mod type_file;
 mod type_grammar;
 mod type_line;
 
 pub use line_text::{FaultKind, TextFault};
-pub use out::{Failed, Out, OutFault, Sink, put, put_all, texts_in_turn};
+pub use output::{Failed, Out, OutFault, Sink, put, put_all, texts_in_turn};
 pub use read::read_type;
 pub use type_file::TypeFile;
 

@@ -2,7 +2,7 @@
 use Rattle.std.proofs.Common.{Ok, take}
 use Rattle.std.specs.List.{flat_map}
 use Rattle.type_text.specs.Out.{Puts}
-use Rattle.type_text.proofs.out.put_all.Given as goal
+use Rattle.type_text.proofs.output.put_all.Given as goal
 
 abbrev pub invariant-loop-piece : goal.invariant-loop-piece
 invariant-loop-piece g l =

@@ -1,7 +1,7 @@
 -- What is gone from `rest` was taken.
 use Rattle.std.proofs.Common.{◌≡◌, List, ℕ, ◌++◌, Ok, length}
 use Rattle.type_text.specs.Out.{Puts}
-use Rattle.type_text.proofs.out.put.Given as goal
+use Rattle.type_text.proofs.output.put.Given as goal
 
 abbrev pub invariant-loop-rest : goal.invariant-loop-rest
 invariant-loop-rest g l =

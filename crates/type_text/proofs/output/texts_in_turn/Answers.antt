@@ -1,5 +1,5 @@
 use Rattle.type_text.proofs.Puts.{Puts-append, Puts-stop}
-use Rattle.type_text.proofs.out.texts_in_turn.Goals as goal
+use Rattle.type_text.proofs.output.texts_in_turn.Goals as goal
 
 pub returns-clause-joined : goal.returns-clause-joined
 returns-clause-joined c a b d f g x y result p q = Puts-append p q

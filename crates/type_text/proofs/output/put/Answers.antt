@@ -1,9 +1,9 @@
 use Rattle.std.proofs.Common.{◌≡◌, ◌<◌, ◌==◌, false, length, ◌++◌, take, sym, ◌∙◌, arith}
 use Rattle.std.proofs.lemmas.Grind.{common_steps}
-use Rattle.type_text.specs.declared.out.OutFault.TheVariants.{Device, WroteNothing}
+use Rattle.type_text.specs.declared.output.OutFault.TheVariants.{Device, WroteNothing}
 use Rattle.type_text.proofs.Puts.{Puts-append}
 use Rattle.type_text.proofs.Takes.{Appends-from_kept, Puts-taken, Puts-untaken, fault_after-nothing, piece-moved}
-use Rattle.type_text.proofs.out.put.Goals as goal
+use Rattle.type_text.proofs.output.put.Goals as goal
 
 pub returns-in-Ok-eq0 : goal.returns-in-Ok-eq0
 returns-in-Ok-eq0 g c =

@@ -4,7 +4,7 @@ ghost use Rattle.std.specs.Prelude.{◌≡◌, ◌≤◌, List, ℕ, Option, Non
 ghost use Rattle.std.specs.Io.KnownBytes.{WriteAppends};
 ghost use Rattle.std.specs.List.{flat_map};
 ghost use Rattle.type_text.specs.Out.{fault_after, Puts, PutsJoin, PutsStop, sink_writer, sink_fault};
-ghost use Rattle.type_text.specs.declared.out.OutFault.{OutFault};
+ghost use Rattle.type_text.specs.declared.output.OutFault.{OutFault};
 
 use std::io::Write;
 use thiserror::Error;
