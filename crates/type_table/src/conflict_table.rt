@@ -34,6 +34,24 @@ impl ConflictTable {
         ConflictTable { words, ops }
     }
 
+    /// An equal table. It takes no memory.
+    pub fn copy(&self) -> ConflictTable
+        ensures { result ≡ self.now }
+    {
+        ConflictTable {
+            words: self.words,
+            ops: self.ops,
+        }
+    }
+
+    /// The number of operations, at most 64, and what else is known of each table.
+    pub fn ops(&self) -> u8
+        ensures exact { result ≡ length self.now }
+        ensures square { IsSquare (length self.now) self.now }
+    {
+        self.ops
+    }
+
     /// Adds the pair of the requested operation p and the held operation q.
     pub fn set(&mut self, p: u8, q: u8)
         requires requested { p < length self.old }

@@ -63,9 +63,10 @@ impl Name {
         Some(Name { bytes: buffer, len })
     }
 
-    /// The bytes of the name.
+    /// The bytes of the name, and what is known of each name.
     pub fn as_bytes(&self) -> &[u8]
-        ensures { result.now ≡ self.now }
+        ensures exact { result.now ≡ self.now }
+        ensures name { is_name self.now ≡ true }
     {
         &self.bytes[..self.len as usize]
     }

@@ -1,4 +1,4 @@
-ghost use Rattle.std.specs.Prelude.{◌≡◌, ◌<◌, ℕ, Some, None, List, length, All, MatchResult, IfSome};
+ghost use Rattle.std.specs.Prelude.{◌≡◌, ◌<◌, ℕ, Some, None, List, length, All, MatchResult, IfOk, IfSome};
 ghost use Rattle.std.specs.List.{list_all, position};
 ghost use Rattle.std.specs.Str.{bytes_eq};
 ghost use Rattle.type_table.specs.declared.op.Op.{Op as OpValue};
@@ -9,6 +9,7 @@ ghost use Rattle.type_table.specs.Counts.{has_counts, is_inside};
 use crate::name::Name;
 use crate::op::Op;
 use crate::table_error::TableError;
+use std::alloc::{AllocError, Global};
 use std::marker::Model;
 
 /// A type of shared objects: states, an initial state, operations, and the next state of each
@@ -68,6 +69,21 @@ impl TypeTable {
             name,
             states,
             initial,
+            ops,
+            steps,
+        })
+    }
+
+    /// An equal table.
+    pub fn copy(&self, alloc: Global) -> Result<TypeTable, AllocError>
+        ensures { IfOk result (λ t. t ≡ self.now) }
+    {
+        let ops = Vec::from_slice(alloc, &self.ops)?;
+        let steps = Vec::from_slice(alloc, &self.steps)?;
+        Ok(TypeTable {
+            name: self.name,
+            states: self.states,
+            initial: self.initial,
             ops,
             steps,
         })

@@ -236,6 +236,23 @@ fn conflicts_have_a_direction(rt: HostRuntime) {
 }
 
 #[test]
+fn copies_have_the_same_parts(rt: HostRuntime) -> Result<(), Fail> {
+    let table = counter(rt.alloc())?.copy(rt.alloc())?;
+    assert_eq!(rt; table.name().as_bytes(), b"counter".as_slice());
+    assert_eq!(rt;
+        (table.states(), table.initial(), table.op_count()),
+        (3, 0, 2)
+    );
+    assert_eq!(rt; (table.next(1, 0), table.next(1, 1)), (Some(2), Some(0)));
+    let mut conflicts = ConflictTable::new(2);
+    conflicts.set(1, 0);
+    let copy = conflicts.copy();
+    assert_eq!(rt; copy.ops(), 2);
+    assert!(rt; copy.conflicts(1, 0) && !copy.conflicts(0, 1));
+    Ok(())
+}
+
+#[test]
 fn words_are_printed(rt: HostRuntime) -> Result<(), Fail> {
     let alloc = rt.alloc();
     let kinds = format!(in alloc; "{} {}", Kind::Undo, Kind::Intentions)?;
