@@ -12,7 +12,7 @@ use Rattle.clap.specs.declared.error.Error.{Error}
 use Rattle.clap.specs.declared.parser.matches.ArgMatches.{ArgMatches}
 use Rattle.clap.specs.declared.builder.value_parser.ValueParser.{ValueParser}
 use Rattle.colock.specs.Program.{HasCheck, Parses, ReadsKinds, program, row}
-use Rattle.colock.specs.Words.{AreWordsOf, IsOffered, IsTask, OnUsage, Text, check_words, without_dashes}
+use Rattle.colock.specs.Words.{AreWordsOf, IsTask, OnUsage, Text, check_words, without_dashes}
 use Rattle.colock.specs.declared.words.Task.{Task}
 use Rattle.colock.specs.declared.words.Task.TheVariants.{Check}
 use Rattle.colock.specs.declared.words.WordFault.{WordFault}
@@ -67,11 +67,9 @@ kind_found (Some k) kind is = refl
 
 -- ---- what the program answers
 
-pub task_words : (task : Task) (words : List Text) (kind : Kind) (path : Text) → IsOffered kind → without_dashes words ≡ check_words kind path → IsTask task kind path → AreWordsOf words task
-task_words (Check k p) words kind path is words_are same = (
-  subst IsOffered (sym same.0) is,
-  words_are ∙ ap (λ (k : Kind). check_words k path) (sym same.0) ∙ ap (check_words k) (sym same.1),
-)
+pub task_words : (task : Task) (words : List Text) (kind : Kind) (path : Text) → without_dashes words ≡ check_words kind path → IsTask task kind path → AreWordsOf words task
+task_words (Check k p) words kind path words_are same =
+    words_are ∙ ap (λ (k : Kind). check_words k path) (sym same.0) ∙ ap (check_words k) (sym same.1)
 
 pub usage_of : (fault : WordFault) (M P : Type 0) → M ⊎ P → (M → fault ≡ NoMemory) → OnUsage fault P
 usage_of NoMemory M P either memory = tt

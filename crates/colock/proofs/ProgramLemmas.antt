@@ -21,7 +21,7 @@ use Rattle.clap.proofs.OnLiterals.{clap_on_literals}
 use Rattle.type_table.specs.declared.kind.Kind.{Kind}
 use Rattle.type_table.specs.declared.kind.Kind.TheVariants.{Undo, Intentions}
 use Rattle.colock.specs.Program.{HasCheck, Parses, kind_words, program, row}
-use Rattle.colock.specs.Words.{AreNoTask, IsOffered, IsPlain, Text, check_words, without_dashes}
+use Rattle.colock.specs.Words.{AreNoTask, IsPlain, Text, check_words, without_dashes}
 use Rattle.type_table.specs.Kind.{kind_word}
 use Rattle.colock.proofs.OptionLemmas.{by_test, leaf_of, never, no_option, or_else_none, top_of, top_refuses}
 use Rattle.colock.proofs.CheckLemmas.{HasBoth, plain_taken, start, start_before}
@@ -140,22 +140,24 @@ plain_check listed kind path plain_kind plain_path accepted =
 -- ---- the words of the kinds
 
 kind_fault : (listed : Bor (List (Bor Text))) (word : Text) → texts listed.now ≡ kind_words
-    → value_kinds false (parser.Names listed) word ≡ (if bytes_eq (codes "intentions") word || false then [] else (InvalidValue ∷ []))
+    → value_kinds false (parser.Names listed) word ≡ (if bytes_eq (codes "undo") word || (bytes_eq (codes "intentions") word || false) then [] else (InvalidValue ∷ []))
 kind_fault listed word are =
     ap (λ (b : Bool). if b then [] else (InvalidValue ∷ []))
     (list_any-map (λ (w : Text). bytes_eq w word) (λ (s : Bor Text). s.now) listed.now ∙ ap (list_any (λ (w : Text). bytes_eq w word)) are)
 
 named_kind : (listed : Bor (List (Bor Text))) (word : Text) → texts listed.now ≡ kind_words → value_kinds false (parser.Names listed) word ≡ []
-    → (kind : Kind) × IsOffered kind × (word ≡ kind_word kind)
+    → (kind : Kind) × (word ≡ kind_word kind)
 named_kind listed word are accepted =
     let none = sym (kind_fault listed word are) ∙ accepted in
-    by_test (bytes_eq (codes "intentions") word)
-    (λ intentions. (Intentions, tt, sym (same_text (codes "intentions") word (sym intentions))))
-    (λ other. absurd (never InvalidValue [] (simp other at none)))
+    by_test (bytes_eq (codes "undo") word)
+    (λ undo. (Undo, sym (same_text (codes "undo") word (sym undo))))
+    (λ not_undo. by_test (bytes_eq (codes "intentions") word)
+    (λ intentions. (Intentions, sym (same_text (codes "intentions") word (sym intentions))))
+    (λ other. absurd (never InvalidValue [] (simp (not_undo, other) at none))))
 
-offered : (listed : Bor (List (Bor Text))) (kind : Kind) → texts listed.now ≡ kind_words → IsOffered kind → value_kinds false (parser.Names listed) (kind_word kind) ≡ []
-offered listed Undo are is = absurd is
-offered listed Intentions are is = kind_fault listed (codes "intentions") are
+offered : (listed : Bor (List (Bor Text))) (kind : Kind) → texts listed.now ≡ kind_words → value_kinds false (parser.Names listed) (kind_word kind) ≡ []
+offered listed Undo are = kind_fault listed (codes "undo") are
+offered listed Intentions are = kind_fault listed (codes "intentions") are
 
 plain_kind : (kind : Kind) → IsPlain (kind_word kind)
 plain_kind Undo = refl
@@ -165,7 +167,7 @@ plain_kind Intentions = refl
 
 -- matches are those of `check`, whose words were given
 pub matches_of_check : (words : List Text) (m : ArgMatches) → Parses words (Ok m)
-    → (kind : Kind) × (path : Text) × IsOffered kind × HasCheck m (kind_word kind) path × (without_dashes words ≡ check_words kind path)
+    → (kind : Kind) × (path : Text) × HasCheck m (kind_word kind) path × (without_dashes words ≡ check_words kind path)
 matches_of_check words m p =
     let listed = p.1.0 in
     let P : ValueParser → Type 0 = λ k. fault_of (program k) words ≡ [] in
@@ -176,16 +178,15 @@ matches_of_check words m p =
     let named = named_kind listed words_taken.0 p.1.2 gives.accepted in (
       named.0,
       words_taken.1,
-      named.1,
-      found ∙ gives.rows ∙ ap (λ (k : Text). Some (codes "check", row (codes "kind") k ∷ row (codes "path") words_taken.1 ∷ [])) named.2,
-      gives.words_are ∙ ap (λ (k : Text). codes "check" ∷ k ∷ words_taken.1 ∷ []) named.2,
+      found ∙ gives.rows ∙ ap (λ (k : Text). Some (codes "check", row (codes "kind") k ∷ row (codes "path") words_taken.1 ∷ [])) named.1,
+      gives.words_are ∙ ap (λ (k : Text). codes "check" ∷ k ∷ words_taken.1 ∷ []) named.1,
     )
 
 -- an error comes of want of memory, or the words are no task's
 pub error_of_check : (words : List Text) (e : Error) → Parses words (Err e) → (kind_of e ≡ OutOfMemory) ⊎ AreNoTask words
-error_of_check words e p = ⊎_elim (λ (memory : kind_of e ≡ OutOfMemory). inl memory) (λ q. inr (λ kind path is plain words_are.
+error_of_check words e p = ⊎_elim (λ (memory : kind_of e ≡ OutOfMemory). inl memory) (λ q. inr (λ kind path plain words_are.
     let listed = q.1.0 in
     let P : ValueParser → Type 0 = λ k. fault_of (program k) words ≡ [] in
     let none : fault_of (program (parser.Names listed)) words ≡ [] = subst (λ (ws : List Text). fault_of (program (parser.Names listed)) ws ≡ []) (sym words_are)
-    (plain_check listed (kind_word kind) path (plain_kind kind) plain (offered listed kind q.1.2 is)) in
+    (plain_check listed (kind_word kind) path (plain_kind kind) plain (offered listed kind q.1.2)) in
     subst (IsAmong (kind_of e)) (subst P (sym q.1.1) none) q.2)) p

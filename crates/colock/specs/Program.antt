@@ -13,13 +13,13 @@ use Rattle.clap.specs.declared.builder.value_parser.Reading.TheVariants.{AsWritt
 use Rattle.clap.specs.declared.builder.value_parser.ValueParser.{ValueParser}
 use Rattle.clap.specs.declared.builder.value_parser.ValueParser.TheVariants as parser
 use Rattle.std.specs.Borrow.{Bor}
-use Rattle.colock.specs.Words.{IsOffered, Text}
+use Rattle.colock.specs.Words.{Text}
 use Rattle.type_table.specs.Kind.{kind_word}
 use Rattle.type_table.specs.declared.kind.Kind.{Kind}
 
--- the words that stand for the kinds that the command line takes
+-- the words that stand for the kinds
 abbrev pub kind_words : List Text
-kind_words = codes "intentions" ∷ []
+kind_words = codes "undo" ∷ codes "intentions" ∷ []
 
 -- the parser takes the words of the kinds, and no other
 abbrev pub ReadsKinds : ValueParser → Type 0
@@ -71,5 +71,4 @@ HasCheck matches kind path = subcommand_rows_of matches
 
 -- the matches are those of `check`, with one of the kinds
 abbrev pub IsCheck : ArgMatches → Type 0
-IsCheck matches = (kind : Kind) × (path : Text) × IsOffered kind
-    × HasCheck matches (kind_word kind) path
+IsCheck matches = (kind : Kind) × (path : Text) × HasCheck matches (kind_word kind) path

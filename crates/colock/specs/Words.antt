@@ -2,7 +2,6 @@
 use Rattle.std.specs.Prelude.{◌≡◌, ◌≢◌, ◌==◌, ℕ, false, List, [], ◌∷◌, ⊤, slice_index, codes, if◌then◌else◌}
 use Rattle.std.specs.Str.{bytes_eq}
 use Rattle.type_table.specs.declared.kind.Kind.{Kind}
-use Rattle.type_table.specs.declared.kind.Kind.TheVariants.{Undo, Intentions}
 use Rattle.type_table.specs.Kind.{kind_word}
 use Rattle.colock.specs.declared.words.Task.{Task}
 use Rattle.colock.specs.declared.words.Task.TheVariants.{Check}
@@ -11,11 +10,6 @@ use Rattle.colock.specs.declared.words.WordFault.TheVariants.{Usage, NoMemory}
 
 abbrev pub Text : Type 0
 Text = List ℕ
-
--- the command line takes this kind
-abbrev pub IsOffered : Kind → Type 0
-IsOffered Undo = ⊥
-IsOffered Intentions = ⊤
 
 -- `check KIND FILE`
 abbrev pub check_words : Kind → Text → List Text
@@ -29,8 +23,7 @@ without_dashes (word ∷ rest) =
 
 -- the words are those of the task, in their order
 abbrev pub AreWordsOf : List Text → Task → Type 0
-AreWordsOf words (Check kind path) =
-    IsOffered kind × (without_dashes words ≡ check_words kind path.now)
+AreWordsOf words (Check kind path) = without_dashes words ≡ check_words kind path.now
 
 -- the task is a check of this kind and path
 abbrev pub IsTask : Task → Kind → Text → Type 0
@@ -42,14 +35,9 @@ IsPlain word = (slice_index word 0 == 45) ≡ false
 
 -- the words are no task's that has plain words
 abbrev pub AreNoTask : List Text → Type 0
-AreNoTask words = (kind : Kind) (path : Text) → IsOffered kind → IsPlain path
-    → words ≢ check_words kind path
+AreNoTask words = (kind : Kind) (path : Text) → IsPlain path → words ≢ check_words kind path
 
 -- a fact for a fault that is none of memory
 abbrev pub OnUsage : WordFault → Type 0 → Type 0
 OnUsage (Usage text) P = P
 OnUsage NoMemory P = ⊤
-
--- the task is one that the command line gives
-abbrev pub IsOfferedTask : Task → Type 0
-IsOfferedTask (Check kind path) = IsOffered kind

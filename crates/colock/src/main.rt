@@ -16,14 +16,15 @@ use status::BAD_INPUT;
 use std::env;
 use std::io::ErrorKind;
 use std::process::ExitCode;
-use std::rt::Env;
+use std::rt::{Env, Files};
+use std::thread::Threads;
 use type_text::{Out, Sink, put};
 use words::{WordFault, read_words};
 
 fn main(rt: HostRuntime) -> ExitCode {
     let mut err = Sink::new(rt.stderr());
     let status = match words_given(&rt) {
-        Ok(words) => run(&rt, words.as_slice(), &mut err),
+        Ok(words) => run(&rt, words.as_slice(), &mut Sink::new(rt.stdout()), &mut err),
         Err(fault) => say(fault, &mut err),
     };
     ExitCode::from(status)
@@ -51,8 +52,14 @@ fn no_words<R: AllocGlobal>(rt: &R, kind: ErrorKind) -> WordFault {
 }
 
 /// Does what the words ask for.
-fn run<E: Out>(rt: &HostRuntime, words: &[String], err: &mut E) -> u8
-    requires { E.fault err.old ≡ None }
+fn run<R: Files + AllocGlobal + Threads + Sync, W: Out, E: Out>(
+    rt: &R,
+    words: &[String],
+    out: &mut W,
+    err: &mut E,
+) -> u8
+    requires out_takes { W.fault out.old ≡ None }
+    requires err_takes { E.fault err.old ≡ None }
 {
     let words: Vec<&str> = match words.iter().map(|word| word.as_str()).collect(rt.alloc()) {
         Ok(words) => words,
@@ -60,14 +67,8 @@ fn run<E: Out>(rt: &HostRuntime, words: &[String], err: &mut E) -> u8
     };
     match read_words(rt.alloc(), words.as_slice()) {
         Ok(task) => {
-            let mut out = Sink::new(rt.stdout());
-            let Next::Done(status) = prepare(
-                rt.alloc(),
-                task,
-                &mut FileSource { runtime: rt },
-                &mut out,
-                err,
-            );
+            let source = &mut FileSource { runtime: rt };
+            let Next::Done(status) = prepare(rt, task, source, out, err);
             status
         }
         Err(fault) => say(fault, err),

@@ -1,17 +1,18 @@
 //! The tasks of the program.
 
-ghost use Rattle.std.specs.Prelude.{◌≡◌, ◌≢◌, ◌≤◌, ◌⊎◌, None, IfSome};
-ghost use Rattle.table_checker.specs.Laws.{CoversType};
-ghost use Rattle.colock.specs.Verdict.{Tells, HasFailure, Writes, yes_line, no_line};
-ghost use Rattle.colock.specs.Words.{IsOffered, IsOfferedTask};
+ghost use Rattle.std.specs.Prelude.{◌≡◌, ◌≢◌, ◌≤◌, ◌⊎◌, ◌↔◌, Bool, true, None, IfSome, IfOk};
+ghost use Rattle.table_checker.specs.Checked.{IsStrong};
+ghost use Rattle.table_checker.specs.Refusal.{IsFirstReason};
+ghost use Rattle.colock.specs.Verdict.{Tells, SaysYes, SaysNo, Writes, yes_line, no_line};
 ghost use Rattle.colock.specs.Next.{TellsNext, WritesNext};
 ghost use Rattle.std.specs.Io.KnownBytes.{Appends};
 
 use crate::source::{Source, SourceFault};
 use crate::status::{BAD_INPUT, FAILED, NO, YES};
 use crate::words::Task;
-use std::alloc::Global;
-use table_checker::{CheckRefusal, CheckedType, check};
+use std::alloc::{AllocError, Global};
+use std::thread::Threads;
+use table_checker::{CheckRefusal, CheckedType, check_parallel};
 use type_table::Kind;
 use type_text::{FaultKind, Out, TextFault, TypeFile, put, read_type};
 
@@ -26,126 +27,143 @@ pub enum Next {
 ///
 /// The status is 0 for a yes, 1 for a no, 2 where the text has a fault, and 3 where a file can't be
 /// read, memory was refused or the first output failed. That the second failed changes no status.
-pub fn prepare<S: Source, W: Out, E: Out>(
-    alloc: Global,
+pub fn prepare<R: AllocGlobal + Threads + Sync, S: Source, W: Out, E: Out>(
+    rt: &R,
     task: Task<'_>,
     source: &mut S,
     out: &mut W,
     err: &mut E,
 ) -> Next
-    requires offered { IsOfferedTask task }
     requires out_takes { W.fault out.old ≡ None }
     requires err_takes { E.fault err.old ≡ None }
-    ensures tells { TellsNext (S.holds source.old) task.entry result }
+    ensures tells { TellsNext (S.holds source.old) task.entry result (W.taken out.old) (W.taken out.new) }
     ensures writes { WritesNext result (W.taken out.old) (W.taken out.new) }
 {
     let Task::Check { kind, path } = task;
-    Next::Done(check_file(alloc, kind, path, source, out, err))
+    Next::Done(check_file(rt, kind, path, source, out, err))
 }
 
 /// `check KIND FILE`.
-fn check_file<S: Source, W: Out, E: Out>(
-    alloc: Global,
+fn check_file<R: AllocGlobal + Threads + Sync, S: Source, W: Out, E: Out>(
+    rt: &R,
     kind: Kind,
     path: &str,
     source: &mut S,
     out: &mut W,
     err: &mut E,
 ) -> u8
-    requires offered { IsOffered kind }
     requires out_takes { W.fault out.old ≡ None }
     requires err_takes { E.fault err.old ≡ None }
     ensures fit { result ≤ 3 }
-    ensures tells { IfSome (S.holds source.old path.now) (Tells kind result) }
+    ensures tells { IfSome (S.holds source.old path.now)
+        (Tells kind result (W.taken out.old) (W.taken out.new)) }
     ensures writes { Writes result (W.taken out.old) (W.taken out.new) }
 {
     match source.bytes(path) {
-        Ok(text) => check_text(alloc, kind, path, &text, out, err),
-        Err(SourceFault::CannotRead) => cannot_read(alloc, path, err),
+        Ok(text) => check_text(rt, kind, path, &text, out, err),
+        Err(SourceFault::CannotRead) => cannot_read(rt.alloc(), path, err),
         Err(SourceFault::NoMemory) => out_of_memory(err),
     }
 }
 
 /// The answer to a type file's text.
-fn check_text<W: Out, E: Out>(
-    alloc: Global,
+fn check_text<R: AllocGlobal + Threads + Sync, W: Out, E: Out>(
+    rt: &R,
     kind: Kind,
     path: &str,
     text: &[u8],
     out: &mut W,
     err: &mut E,
 ) -> u8
-    requires offered { IsOffered kind }
     requires out_takes { W.fault out.old ≡ None }
     requires err_takes { E.fault err.old ≡ None }
     ensures fit { result ≤ 3 }
-    ensures tells { Tells kind result text.now }
+    ensures tells { Tells kind result (W.taken out.old) (W.taken out.new) text.now }
     ensures writes { Writes result (W.taken out.old) (W.taken out.new) }
 {
-    match read_type(alloc, text) {
-        Ok(file) => check_read(alloc, kind, file, out, err),
+    match read_type(rt.alloc(), text) {
+        Ok(file) => check_read(rt, kind, file, out, err),
         Err(
             TextFault {
                 kind: FaultKind::NoMemory,
                 ..
             },
         ) => out_of_memory(err),
-        Err(fault) => refuse(alloc, path, fault, err),
+        Err(fault) => refuse(rt.alloc(), path, fault, err),
     }
 }
 
 /// The answer to a file that was read.
-fn check_read<W: Out, E: Out>(
-    alloc: Global,
+fn check_read<R: AllocGlobal + Threads + Sync, W: Out, E: Out>(
+    rt: &R,
     kind: Kind,
     file: TypeFile,
     out: &mut W,
     err: &mut E,
 ) -> u8
-    requires offered { IsOffered kind }
     requires out_takes { W.fault out.old ≡ None }
     requires err_takes { E.fault err.old ≡ None }
     ensures fit { result ≤ 3 }
-    ensures yes { result ≡ 0 → CoversType kind file }
-    ensures no { result ≡ 1 → HasFailure file }
+    ensures yes { result ≡ 0 → SaysYes kind file (W.taken out.old) (W.taken out.new) }
+    ensures no { result ≡ 1 → SaysNo kind file (W.taken out.old) (W.taken out.new) }
     ensures decides { result ≢ 2 }
-    ensures writes { Writes result (W.taken out.old) (W.taken out.new) }
 {
-    match check(file, kind) {
+    match check_parallel(rt, file, kind) {
         Ok(checked) => say_yes(&checked, out),
-        Err((_, CheckRefusal::NotCommuting { p, q, s })) => say_no(alloc, p, q, s, out, err),
+        Err((_, refusal)) => say_no(rt.alloc(), refusal, out, err),
     }
 }
 
 fn say_yes<W: Out>(checked: &CheckedType, out: &mut W) -> u8
     requires { W.fault out.old ≡ None }
     ensures decides { (result ≡ 0) ⊎ (result ≡ 3) }
-    ensures writes { result ≡ 0 → Appends (W.taken out.old) (W.taken out.new) yes_line }
+    ensures writes { result ≡ 0 → (strong : Bool) × ((strong ≡ true) ↔ IsStrong checked.now)
+        × Appends (W.taken out.old) (W.taken out.new) (yes_line strong) }
 {
-    let line = if checked.is_strong() {
-        "yes strong\n"
-    } else {
-        "yes one-way\n"
-    };
-    match put(out, line.as_bytes()) {
+    match put(out, yes_line(checked.is_strong()).as_bytes()) {
         Ok(()) => YES,
         Err(_) => FAILED,
     }
 }
 
-/// The line is spelled here, not by the refusal's `Display`, so that its bytes are proved.
-fn say_no<W: Out, E: Out>(alloc: Global, p: u8, q: u8, s: u16, out: &mut W, err: &mut E) -> u8
+fn yes_line(strong: bool) -> &'static str
+    ensures { result.now ≡ yes_line strong }
+{
+    if strong {
+        "yes strong\n"
+    } else {
+        "yes one-way\n"
+    }
+}
+
+fn say_no<W: Out, E: Out>(alloc: Global, refusal: CheckRefusal, out: &mut W, err: &mut E) -> u8
     requires out_takes { W.fault out.old ≡ None }
     requires err_takes { E.fault err.old ≡ None }
     ensures decides { (result ≡ 1) ⊎ (result ≡ 3) }
-    ensures writes { result ≡ 1 → Appends (W.taken out.old) (W.taken out.new) (no_line p q s) }
+    ensures writes { result ≡ 1 → Appends (W.taken out.old) (W.taken out.new) (no_line refusal) }
 {
-    match format!(in alloc; "no NotCommuting {p} {q} {s}\n") {
+    match no_line(alloc, refusal) {
         Ok(line) => match put(out, line.as_bytes()) {
             Ok(()) => NO,
             Err(_) => FAILED,
         },
         Err(_) => out_of_memory(err),
+    }
+}
+
+/// The line of a no, spelled here and not by the refusal's `Display`, so that its bytes are proved.
+fn no_line(alloc: Global, refusal: CheckRefusal) -> Result<String, AllocError>
+    ensures { IfOk result (λ line. line.bytes.items ≡ no_line refusal) }
+{
+    match refusal {
+        CheckRefusal::InitialOutside => format!(in alloc; "no InitialOutside\n"),
+        CheckRefusal::NotClosed { s, k } => format!(in alloc; "no NotClosed {s} {k}\n"),
+        CheckRefusal::NotSimulation { s, t, k } => {
+            format!(in alloc; "no NotSimulation {s} {t} {k}\n")
+        }
+        CheckRefusal::NotCommuting { p, q, s } => {
+            format!(in alloc; "no NotCommuting {p} {q} {s}\n")
+        }
     }
 }
 

@@ -41,7 +41,7 @@ pub enum WordFault {
 }
 
 // The words that stand for a kind on the command line.
-static KINDS: [&str; 1] = ["intentions"];
+static KINDS: [&str; 2] = ["undo", "intentions"];
 
 fn kind_named(word: &str) -> Option<Kind>
     ensures named { (kind : Kind) → kind_word kind ≡ word.now → result ≡ Some kind }

@@ -1,68 +1,178 @@
 -- From the finite condition to all lists of operations.
-use Rattle.std.proofs.Common.{◌≡◌, ℕ, Bool, true, false, not, ◌&&◌, ◌||◌, ltb, List, [], ◌∷◌, Option, Some, None, IsSome, refl, sym, ap, ◌∙◌}
-use Rattle.std.proofs.lemmas.Bool.{false≢true, lt-ltb, eqb-true}
+use Rattle.std.proofs.Common.{◌≡◌, ℕ, Bool, true, false, not, ◌&&◌, ◌||◌, List, [], ◌∷◌, Option, Some, None, IsSome, is_some, refl, sym, ◌∙◌}
+use Rattle.std.proofs.lemmas.Bool.{false≢true, not-false}
+use Rattle.equi_cert.specs.Laws.{EndsLook}
+use Rattle.equi_cert.specs.Relation.{relates}
+use Rattle.equi_cert.specs.Simulation.{IsSimulation}
 use Rattle.type_table.specs.Table.{Table, IsTable, next}
-use Rattle.type_table.specs.Run.{run, AreEqui}
+use Rattle.type_table.specs.Run.{next_of, run, IsLegal, Looks}
 use Rattle.type_table.specs.Laws.{StepsWithin}
-use Rattle.type_table.specs.StateSet.{IsClosed}
-use Rattle.type_table.specs.Commute.{CommuteForward}
+use Rattle.type_table.specs.StateSet.{has, IsClosed}
 use Rattle.type_table.specs.ConflictTable.{conflicts}
-use Rattle.table_checker.specs.Condition.{is_same_end, passes_forward, PassesEverywhere}
-use Rattle.table_checker.specs.Checked.{Checked, IsChecked, conflicts_of}
+use Rattle.type_table.specs.Commute.{CommuteForward, CommutesBackward, CommutesBackwardBothWays, Commutes, CommutesStrongly}
+use Rattle.type_table.specs.declared.kind.Kind.{Kind}
+use Rattle.type_table.specs.declared.kind.Kind.TheVariants.{Undo, Intentions}
+use Rattle.type_text.specs.declared.type_file.TypeFile.{TypeFile}
+use Rattle.table_checker.specs.Condition.{ends_relate, end_of, passes, passes_forward, passes_backward, passes_both_ways, AreInside, PassesEverywhere}
+use Rattle.table_checker.specs.Reach.{is_outside, NeverLeaves}
+use Rattle.table_checker.specs.Checked.{conflicts_of, condition_of, strong_condition_of}
 use Rattle.table_checker.specs.Laws.{YesCovers, StrongYesCovers}
+use Rattle.table_checker.specs.declared.condition.Condition.{Condition}
+use Rattle.table_checker.specs.declared.condition.Condition.TheVariants.{Forward, Backward, BackwardBothWays}
 
-all_states : Table → ℕ → Bool
-all_states T s = ltb s T.states
+-- ---- tests
 
+-- what is there is some state
 some_state : (o : Option ℕ) → IsSome o → (t : ℕ) × (o ≡ Some t)
 some_state None h = absurd (false≢true h)
 some_state (Some t) h = (t, refl)
 
-same_end : (x y : Option ℕ) → is_same_end x y ≡ true → IsSome x × (x ≡ y)
-same_end (Some a) (Some b) h = (refl, ap Some (eqb-true a b h))
-same_end (Some a) None h = absurd (false≢true h)
-same_end None (Some b) h = absurd (false≢true h)
-same_end None None h = absurd (false≢true h)
+-- both parts of a test that holds
+both : (a b : Bool) → (a && b) ≡ true → (a ≡ true) × (b ≡ true)
+both true b h = (refl, h)
+both false b h = absurd (false≢true h)
 
-equal_equi : (T : Table) (x y : Option ℕ) → x ≡ y → AreEqui T x y
-equal_equi T x y e = (λ ks h. rw (← e) h, λ ks h. rw e h)
+-- a pair outside the table doesn't fail at a state of the set: it passes
+must_pass : (conflict inside pass : Bool) → conflict ≡ false → inside ≡ true → (not conflict && (inside && not pass)) ≡ false → pass ≡ true
+must_pass conflict inside true free member h = refl
+must_pass conflict inside false free member h = absurd (false≢true (sym h ∙ rw (free, member) refl))
 
--- a test that isn't forced is the condition itself
-condition_holds : (b c d e : Bool) → b ≡ false → c ≡ true → d ≡ true → (not b && not (not (c && d) || e)) ≡ false → e ≡ true
-condition_holds b c d true hb hc hd h = refl
-condition_holds b c d false hb hc hd h = absurd (false≢true (sym h ∙ rw (hb, hc, hd) refl))
+-- the condition is forced where its premise holds
+forced : (premise rest : Bool) → premise ≡ true → (not premise || rest) ≡ true → rest ≡ true
+forced premise rest e h = rw e at h
 
-pub passes-commute : (T : Table) (rows : List (List Bool)) → StepsWithin → IsTable T → PassesEverywhere T rows →
-    (p q : ℕ) → conflicts rows p q ≡ false → CommuteForward T (λ s. ltb s T.states) p q
-unfolding passes_forward
-passes-commute T rows within table passes p q free = λ s inside p_legal q_legal.
+-- ---- the set
+
+-- a step from a state of the set that isn't outside leads to a state of the set
+stays_inside : (members : List Bool) (o : Option ℕ) (inside : Bool) (t : ℕ) → inside ≡ true → o ≡ Some t → (inside && is_outside members o) ≡ false → has members t ≡ true
+stays_inside members o inside t member step h = not-false _ (rw (member, step) at h)
+
+-- where no step leaves the set, it is closed
+closed : StepsWithin → (T : Table) (members : List Bool) → IsTable T → NeverLeaves T members → IsClosed T (has members)
+closed within T members table never = λ s k t member step.
+    let inside = within T s k t table step in
+    stays_inside members (next T s k) (has members s) t member step (never s k inside.0 inside.1)
+
+-- ---- ends
+
+-- both ends are there, and the first looks like the second
+pub record AreEndsLike (T : Table) (x y : Option ℕ) : Type 0 where
+  pub first : IsSome x
+  pub second : IsSome y
+  pub looks : Looks T x y
+
+-- ends that are related are some states that are
+related_states : (related : ℕ → ℕ → Bool) (x y : Option ℕ) → ends_relate related x y ≡ true → (a : ℕ) × (b : ℕ) × (x ≡ Some a) × (y ≡ Some b) × (related a b ≡ true)
+related_states related (Some a) (Some b) h = (a, b, refl, refl, h)
+related_states related (Some a) None h = absurd (false≢true h)
+related_states related None y h = absurd (false≢true h)
+
+-- what is some state is there
+there : (x : Option ℕ) (a : ℕ) → x ≡ Some a → IsSome x
+there x a e = rw e refl
+
+-- where two lists end in a pair of a simulation, the ends are like each other
+related_ends : EndsLook → (T : Table) (related : ℕ → ℕ → Bool) → IsSimulation T related → (s : ℕ) (v w : List ℕ) →
+    ends_relate related (run T (Some s) v) (run T (Some s) w) ≡ true → AreEndsLike T (run T (Some s) v) (run T (Some s) w)
+related_ends ends T related simulation s v w h =
+    let found = related_states related (run T (Some s) v) (run T (Some s) w) h in
+    record {
+      first = there (run T (Some s) v) found.0 found.2;
+      second = there (run T (Some s) w) found.1 found.3;
+      looks = ends T related s found.0 found.1 v w simulation found.2 found.3 found.4;
+    }
+
+-- ---- pairs
+
+-- two operations that are legal one after the other are operations, and the state is one of the table
+legal_inside : StepsWithin → (T : Table) (s q p : ℕ) → IsTable T → IsLegal T (Some s) (q ∷ p ∷ []) → AreInside T p q s
+legal_inside within T s q p table h =
+    let held = some_state (next T s q) (first_there (next T s q) h) in
+    let requested = some_state (next T (held.0) p) (rw held.1 at h) in
+    let first = within T s q held.0 table held.1 in
+    record { requested = (within T (held.0) p requested.0 table requested.1).1; held = first.1; state = first.0 }
+  where
+    first_there : (o : Option ℕ) → IsSome (next_of T o p) → IsSome o
+    first_there None legal = absurd (false≢true legal)
+    first_there (Some t) legal = refl
+
+-- two operations that are both legal are operations, at a state of the table
+both_inside : StepsWithin → (T : Table) (s p q : ℕ) → IsTable T → IsSome (next T s p) → IsSome (next T s q) → AreInside T p q s
+both_inside within T s p q table p_legal q_legal =
     let after_p = some_state (next T s p) p_legal in
     let after_q = some_state (next T s q) q_legal in
-    let p_in = within T s p after_p.0 table after_p.1 in
-    let q_in = within T s q after_q.0 table after_q.1 in
-    let ends = same_end _ _ (condition_holds _ _ _ (is_same_end (run T (Some s) (p ∷ q ∷ [])) (run T (Some s) (q ∷ p ∷ []))) free p_legal q_legal (passes p q s p_in.1 q_in.1 p_in.0)) in
-    (ends.0, rw (← ends.1) (ends.0), equal_equi T _ _ ends.1)
+    let requested = within T s p after_p.0 table after_p.1 in
+    record { requested = requested.1; held = (within T s q after_q.0 table after_q.1).1; state = requested.0 }
 
-pub closed : (T : Table) → StepsWithin → IsTable T → IsClosed T (λ s. ltb s T.states)
-closed T within table = λ s k t inside step. lt-ltb t T.states (within T s k t table step).2
+-- a pair outside the table passes at each state of the set
+passes_at : (condition : Condition) (file : TypeFile) (rows : List (List Bool)) → PassesEverywhere condition file rows → (p q s : ℕ) →
+    conflicts rows p q ≡ false → has file.reach s ≡ true → AreInside file.table p q s → passes condition file.table (relates file.relation) p q s ≡ true
+passes_at condition file rows all p q s free member inside =
+    must_pass (conflicts rows p q) (has file.reach s) (passes condition file.table (relates file.relation) p q s) free member (all p q s inside)
 
-pub begins_inside : (T : Table) → IsTable T → ltb T.initial T.states ≡ true
-begins_inside T table = lt-ltb T.initial T.states table.initial_inside
+-- what passes the forward condition at each state of the set commutes forward, over all lists
+forward_commutes : StepsWithin → EndsLook → (file : TypeFile) (rows : List (List Bool)) → IsTable file.table → IsSimulation file.table (relates file.relation) →
+    PassesEverywhere Forward file rows → (p q : ℕ) → conflicts rows p q ≡ false → CommuteForward file.table (has file.reach) p q
+unfolding passes_forward
+forward_commutes within ends file rows table simulation all p q free = λ s member p_legal q_legal.
+    let T = file.table in
+    let related = relates file.relation in
+    let pass = passes_at Forward file rows all p q s free member (both_inside within T s p q table p_legal q_legal) in
+    let ways = both _ _ (forced (is_some (next T s p) && is_some (next T s q)) _ (rw (p_legal, q_legal) refl) pass) in
+    let like = related_ends ends T related simulation s (p ∷ q ∷ []) (q ∷ p ∷ []) ways.0 in
+    let back = related_ends ends T related simulation s (q ∷ p ∷ []) (p ∷ q ∷ []) ways.1 in
+    (like.first, like.second, (like.looks, back.looks))
 
-commutes : (c : Checked) → StepsWithin → IsChecked c → (p q : ℕ) → conflicts (conflicts_of c.kind c.file) p q ≡ false → CommuteForward c.file.table (λ s. ltb s c.file.table.states) p q
-commutes c within h p q free =
-    passes-commute c.file.table c.file.intentions within h.table h.passes p q (rw h.kind at free)
+-- and so for the backward condition
+backward_commutes : StepsWithin → EndsLook → (file : TypeFile) (rows : List (List Bool)) → IsTable file.table → IsSimulation file.table (relates file.relation) →
+    PassesEverywhere Backward file rows → (p q : ℕ) → conflicts rows p q ≡ false → CommutesBackward file.table (has file.reach) p q
+unfolding passes_backward
+backward_commutes within ends file rows table simulation all p q free = λ s member legal.
+    let T = file.table in
+    let related = relates file.relation in
+    let pass = passes_at Backward file rows all p q s free member (legal_inside within T s q p table legal) in
+    let like = related_ends ends T related simulation s (q ∷ p ∷ []) (p ∷ q ∷ []) (forced (is_some (end_of T s q p)) _ legal pass) in
+    (like.second, like.looks)
 
-pub yes-covers : StepsWithin → YesCovers
-yes-covers within = λ c h. record {
-  begins_inside = begins_inside c.file.table h.table;
-  closed = closed c.file.table within h.table;
-  commute = λ p q free. rw h.kind (commutes c within h p q free);
+-- and for the two-way condition
+both_ways_commute : StepsWithin → EndsLook → (file : TypeFile) (rows : List (List Bool)) → IsTable file.table → IsSimulation file.table (relates file.relation) →
+    PassesEverywhere BackwardBothWays file rows → (p q : ℕ) → conflicts rows p q ≡ false → CommutesBackwardBothWays file.table (has file.reach) p q
+unfolding passes_both_ways
+both_ways_commute within ends file rows table simulation all p q free = λ s member legal.
+    let T = file.table in
+    let related = relates file.relation in
+    let pass = passes_at BackwardBothWays file rows all p q s free member (legal_inside within T s q p table legal) in
+    let ways = both _ _ (forced (is_some (end_of T s q p)) _ legal pass) in
+    let like = related_ends ends T related simulation s (q ∷ p ∷ []) (p ∷ q ∷ []) ways.0 in
+    let back = related_ends ends T related simulation s (p ∷ q ∷ []) (q ∷ p ∷ []) ways.1 in
+    (like.second, (like.looks, back.looks))
+
+-- ---- kinds
+
+-- each pair outside the table commutes, as the kind asks
+commutes : StepsWithin → EndsLook → (kind : Kind) (file : TypeFile) → IsTable file.table → IsSimulation file.table (relates file.relation) →
+    PassesEverywhere (condition_of kind) file (conflicts_of kind file) → (p q : ℕ) → conflicts (conflicts_of kind file) p q ≡ false → Commutes kind file.table (has file.reach) p q
+commutes within ends Undo file table simulation all = backward_commutes within ends file file.undo table simulation all
+commutes within ends Intentions file table simulation all = forward_commutes within ends file file.intentions table simulation all
+
+-- and as the stronger claim asks
+commutes_strongly : StepsWithin → EndsLook → (kind : Kind) (file : TypeFile) → IsTable file.table → IsSimulation file.table (relates file.relation) →
+    PassesEverywhere (strong_condition_of kind) file (conflicts_of kind file) → (p q : ℕ) → conflicts (conflicts_of kind file) p q ≡ false → CommutesStrongly kind file.table (has file.reach) p q
+commutes_strongly within ends Undo file table simulation all = both_ways_commute within ends file file.undo table simulation all
+commutes_strongly within ends Intentions file table simulation all = forward_commutes within ends file file.intentions table simulation all
+
+-- a yes gives covering
+pub yes-covers : StepsWithin → EndsLook → YesCovers
+yes-covers within ends = λ c h. record {
+  begins_inside = h.certified.begins_inside;
+  closed = closed within c.file.table c.file.reach h.table h.certified.never_leaves;
+  commute = commutes within ends c.kind c.file h.table h.certified.simulation h.passes;
 }
 
-pub yes-covers_strongly : StepsWithin → StrongYesCovers
-yes-covers_strongly within = λ c h. record {
-  begins_inside = begins_inside c.file.table h.table;
-  closed = closed c.file.table within h.table;
-  commute = λ p q free. rw h.kind (commutes c within h p q free);
+-- a strong yes gives strong covering
+pub strong_yes-covers : StepsWithin → EndsLook → StrongYesCovers
+strong_yes-covers within ends = λ c h strong. record {
+  begins_inside = h.certified.begins_inside;
+  closed = closed within c.file.table c.file.reach h.table h.certified.never_leaves;
+  commute = commutes_strongly within ends c.kind c.file h.table h.certified.simulation strong;
 }

@@ -1,32 +1,84 @@
 -- The counter of the worked examples.
-use Rattle.std.proofs.Common.{◌≡◌, ℕ, zero, suc, ◌<◌, false, length, refl, arith, below_none, below_more}
+use Rattle.std.proofs.Common.{◌≡◌, ℕ, zero, suc, ◌<◌, Bool, true, false, List, refl, inl, arith, below_none, below_more}
+use Rattle.std.proofs.lemmas.Bool.{false≢true, agree_below, agree_below_at}
+use Rattle.equi_cert.specs.Relation.{relates}
+use Rattle.equi_cert.specs.Simulation.{IsSimulation}
 use Rattle.type_table.specs.Table.{next, IsTable}
-use Rattle.type_table.specs.Examples.{counter, forward_pairs, backward_pairs}
+use Rattle.type_table.specs.Examples.{counter, forward_pairs}
 use Rattle.type_table.specs.declared.kind.Kind.TheVariants.{Intentions}
-use Rattle.table_checker.specs.Condition.{passes_forward, fails_at}
-use Rattle.table_checker.specs.Checked.{Checked, IsChecked}
+use Rattle.type_text.specs.declared.type_file.TypeFile.{TypeFile}
+use Rattle.table_checker.specs.Condition.{passes_forward, PassesEverywhere, IsFirstFailure}
+use Rattle.table_checker.specs.Reach.{leaves_at, NeverLeaves}
+use Rattle.table_checker.specs.Scan.{fails_at_number, NoneBelow}
+use Rattle.table_checker.specs.Checked.{Checked, IsChecked, IsCertified}
+use Rattle.table_checker.specs.Examples.{counter_file, ups_alone}
+use Rattle.table_checker.specs.declared.condition.Condition.{Condition}
+use Rattle.table_checker.specs.declared.condition.Condition.TheVariants.{Forward}
+use Rattle.table_checker.proofs.Found.{none-passes, first-fails}
 
--- what holds at each of three states
+-- ---- triples
+
+-- the triples of the numbers below n pass: a test that computes
+abbrev is_quiet : Condition → TypeFile → List (List Bool) → ℕ → Bool
+is_quiet condition file rows n = agree_below (fails_at_number condition file rows) (λ _. false) n
+
+-- and what that means
+quiet_below : (condition : Condition) (file : TypeFile) (rows : List (List Bool)) (n : ℕ) → is_quiet condition file rows n ≡ true → NoneBelow (fails_at_number condition file rows) n
+quiet_below condition file rows n quiet i below = agree_below_at (fails_at_number condition file rows) (λ _. false) n i quiet below
+
+-- with its two pairs of equal operations, the counter passes
+pub counter-passes : PassesEverywhere Forward counter_file forward_pairs
+unfolding passes_forward next fails_at_number
+counter-passes = none-passes Forward counter_file forward_pairs (quiet_below Forward counter_file forward_pairs 12 refl)
+
+-- without the pair of two downs, it fails at them first
+pub downs-fail_first : IsFirstFailure Forward counter_file ups_alone 1 1 1
+unfolding passes_forward next fails_at_number
+downs-fail_first = first-fails Forward counter_file ups_alone 1 1 1 10 12
+    (record { requested = omega arith; held = omega arith; state = omega arith })
+    refl
+    (record { below = omega arith; passes = refl; first = quiet_below Forward counter_file ups_alone 10 refl })
+
+-- ---- the counter's file, as the checker accepts it
+
+-- what holds at each of two numbers
+at_two : (P : ℕ → Type 0) → P 0 → P 1 → (k : ℕ) → k < 2 → P k
+at_two P zeroth first = below_more P 1 (below_more P 0 (below_none P) zeroth) first
+
+-- and at each of three
 at_three : (P : ℕ → Type 0) → P 0 → P 1 → P 2 → (s : ℕ) → s < 3 → P s
-at_three P zeroth first second = below_more P 2 (below_more P 1 (below_more P 0 (below_none P) zeroth) first) second
+at_three P zeroth first second = below_more P 2 (at_two P zeroth first) second
 
-pub counter-passes : (p q s : ℕ) → p < length counter.ops → q < length counter.ops → s < counter.states → fails_at counter forward_pairs p q s ≡ false
-unfolding passes_forward next
-counter-passes zero zero s p_in q_in s_in = refl
-counter-passes zero (suc zero) s p_in q_in s_in = at_three (λ r. fails_at counter forward_pairs 0 1 r ≡ false) refl refl refl s s_in
-counter-passes zero (suc (suc q)) s p_in q_in s_in = absurd (omega (arith, q_in))
-counter-passes (suc zero) zero s p_in q_in s_in = at_three (λ r. fails_at counter forward_pairs 1 0 r ≡ false) refl refl refl s s_in
-counter-passes (suc zero) (suc zero) s p_in q_in s_in = refl
-counter-passes (suc zero) (suc (suc q)) s p_in q_in s_in = absurd (omega (arith, q_in))
-counter-passes (suc (suc p)) q s p_in q_in s_in = absurd (omega (arith, p_in))
+-- no step leaves the set of all states
+counter-stays : NeverLeaves counter counter_file.reach
+unfolding next
+counter-stays s k s_in k_in =
+    at_two (λ c. leaves_at counter counter_file.reach s c ≡ false)
+    (at_three (λ r. leaves_at counter counter_file.reach r 0 ≡ false) refl refl refl s s_in)
+    (at_three (λ r. leaves_at counter counter_file.reach r 1 ≡ false) refl refl refl s s_in)
+    k k_in
 
--- its file, as the checker accepts it
-abbrev pub accepted_counter : Checked
-accepted_counter = record {
-  kind = Intentions;
-  file = record { table = counter; undo = backward_pairs; intentions = forward_pairs; undo_fits = refl; intentions_fits = refl };
-}
+-- each state is related to itself alone
+diagonal : (s t : ℕ) → relates counter_file.relation s t ≡ true → s ≡ t
+diagonal zero zero h = refl
+diagonal zero (suc zero) h = absurd (false≢true h)
+diagonal zero (suc (suc zero)) h = absurd (false≢true h)
+diagonal zero (suc (suc (suc t))) h = absurd (false≢true h)
+diagonal (suc zero) zero h = absurd (false≢true h)
+diagonal (suc zero) (suc zero) h = refl
+diagonal (suc zero) (suc (suc zero)) h = absurd (false≢true h)
+diagonal (suc zero) (suc (suc (suc t))) h = absurd (false≢true h)
+diagonal (suc (suc zero)) zero h = absurd (false≢true h)
+diagonal (suc (suc zero)) (suc zero) h = absurd (false≢true h)
+diagonal (suc (suc zero)) (suc (suc zero)) h = refl
+diagonal (suc (suc zero)) (suc (suc (suc t))) h = absurd (false≢true h)
+diagonal (suc (suc (suc s))) t h = absurd (false≢true h)
 
+-- and so the relation is a simulation
+counter-simulates : IsSimulation counter (relates counter_file.relation)
+counter-simulates s t k s2 pair step = (s2, rw (← diagonal s t pair) step, inl refl)
+
+-- the counter is a table
 counter-table : IsTable counter
 counter-table = record {
   some_states = omega arith;
@@ -39,5 +91,14 @@ counter-table = record {
   no_twin = refl;
 }
 
+-- its set and its relation are in order
+counter-certified : IsCertified counter_file
+counter-certified = record { begins_inside = refl; never_leaves = counter-stays; simulation = counter-simulates }
+
+-- the counter, accepted for deferred update
+abbrev pub accepted_counter : Checked
+accepted_counter = record { kind = Intentions; file = counter_file }
+
+-- it is what the checker accepts
 pub counter-checked : IsChecked accepted_counter
-counter-checked = record { kind = refl; table = counter-table; passes = counter-passes }
+counter-checked = record { table = counter-table; certified = counter-certified; passes = counter-passes }

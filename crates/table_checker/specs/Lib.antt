@@ -1,6 +1,8 @@
 pub mod Condition
 pub mod Scan
-pub mod Refusal
+pub mod Reach
 pub mod Checked
+pub mod Refusal
 pub mod Laws
+pub mod Lists
 pub mod Examples

@@ -1,26 +1,57 @@
--- How far the search for the first failure has come: at one pair, and at one requested operation.
-use Rattle.std.specs.Prelude.{◌≡◌, ℕ, ◌<◌, Bool, true, false, List, length}
+-- How far the search for the first failure has come: at one pair, and at one requested operation. And triples by their numbers.
+use Rattle.std.specs.Prelude.{◌≡◌, ℕ, ◌<◌, ◌/◌, ◌%◌, Bool, true, false, List, length}
 use Rattle.type_table.specs.Table.{Table}
-use Rattle.table_checker.specs.Condition.{passes_forward, fails_at}
+use Rattle.type_text.specs.declared.type_file.TypeFile.{TypeFile}
+use Rattle.table_checker.specs.Condition.{fails_in_set, fails_at}
+use Rattle.table_checker.specs.declared.condition.Condition.{Condition}
 
--- the pair passes at each state
-abbrev pub PairPasses : Table → ℕ → ℕ → Type 0
-PairPasses T p q = (s : ℕ) → s < T.states → passes_forward T p q s ≡ true
+-- the pair fails at no state of the set
+abbrev pub PairPasses : Condition → TypeFile → ℕ → ℕ → Type 0
+PairPasses condition file p q = (s : ℕ) → s < file.table.states → fails_in_set condition file p q s ≡ false
 
 -- the pair fails at s and at no state before it
-pub record IsFirstState (T : Table) (p q s : ℕ) : Type 0 where
-  pub state : s < T.states
-  pub fails : passes_forward T p q s ≡ false
-  pub first : (r : ℕ) → r < s → passes_forward T p q r ≡ true
+pub record IsFirstState (condition : Condition) (file : TypeFile) (p q s : ℕ) : Type 0 where
+  pub state : s < file.table.states
+  pub fails : fails_in_set condition file p q s ≡ true
+  pub first : (r : ℕ) → r < s → fails_in_set condition file p q r ≡ false
 
 -- no held operation fails with p
-abbrev pub RowPasses : Table → List (List Bool) → ℕ → Type 0
-RowPasses T rows p = (q s : ℕ) → q < length T.ops → s < T.states → fails_at T rows p q s ≡ false
+abbrev pub RowPasses : Condition → TypeFile → List (List Bool) → ℕ → Type 0
+RowPasses condition file rows p = (q s : ℕ) → q < length file.table.ops → s < file.table.states → fails_at condition file rows p q s ≡ false
 
 -- p fails with q at s, with q at no state before it, and with no held operation before q
-pub record IsFirstHeld (T : Table) (rows : List (List Bool)) (p q s : ℕ) : Type 0 where
-  pub held : q < length T.ops
-  pub state : s < T.states
-  pub fails : fails_at T rows p q s ≡ true
-  pub first_state : (r : ℕ) → r < s → fails_at T rows p q r ≡ false
-  pub first_held : (b r : ℕ) → b < q → r < T.states → fails_at T rows p b r ≡ false
+pub record IsFirstHeld (condition : Condition) (file : TypeFile) (rows : List (List Bool)) (p q s : ℕ) : Type 0 where
+  pub held : q < length file.table.ops
+  pub state : s < file.table.states
+  pub fails : fails_at condition file rows p q s ≡ true
+  pub first_state : (r : ℕ) → r < s → fails_at condition file rows p q r ≡ false
+  pub first_held : (b r : ℕ) → b < q → r < file.table.states → fails_at condition file rows p b r ≡ false
+
+-- ---- triples by their numbers
+
+-- the requested operation of a number
+abbrev pub requested_of : Table → ℕ → ℕ
+requested_of T number = number / T.states / length T.ops
+
+-- the held operation
+abbrev pub held_of : Table → ℕ → ℕ
+held_of T number = number / T.states % length T.ops
+
+-- the state
+abbrev pub state_of : Table → ℕ → ℕ
+state_of T number = number % T.states
+
+-- the triple of a number fails
+unfoldable pub fails_at_number : Condition → TypeFile → List (List Bool) → ℕ → Bool
+fails_at_number condition file rows number =
+    fails_at condition file rows (requested_of file.table number) (held_of file.table number) (state_of file.table number)
+
+-- no number below n passes a test
+abbrev pub NoneBelow : (ℕ → Bool) → ℕ → Type 0
+NoneBelow test n = (i : ℕ) → i < n → test i ≡ false
+
+-- k is below n and passes, and no number before it does
+pub record IsFirstBelow (test : ℕ → Bool) (n k : ℕ) : Type 0 where
+  pub below : k < n
+  pub passes : test k ≡ true
+  pub first : NoneBelow test k

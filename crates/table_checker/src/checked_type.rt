@@ -1,5 +1,8 @@
-ghost use Rattle.std.specs.Prelude.{◌≡◌, true};
+ghost use Rattle.std.specs.Prelude.{◌≡◌, ◌↔◌, true, length};
+ghost use Rattle.table_checker.specs.Checked.{conflicts_of, condition_of};
 
+use crate::condition::Condition;
+use crate::scan::passes_everywhere;
 use std::marker::Model;
 use type_table::{ConflictTable, Kind, TypeTable};
 use type_text::TypeFile;
@@ -22,7 +25,7 @@ impl Model for CheckedType {
 }
 
 impl CheckedType {
-    ghost use Rattle.table_checker.specs.Checked.{IsChecked, conflicts_of};
+    ghost use Rattle.table_checker.specs.Checked.{IsChecked, IsStrong, conflicts_of};
 
     /// What the checker tested, as a value.
     pub(crate) fn new(kind: Kind, file: TypeFile) -> CheckedType
@@ -58,16 +61,41 @@ impl CheckedType {
     pub fn conflicts(&self) -> &ConflictTable
         ensures { result.now ≡ conflicts_of self.now.kind self.now.file }
     {
-        match self.kind {
-            Kind::Undo => &self.file.undo,
-            Kind::Intentions => &self.file.intentions,
-        }
+        conflicts_of(self.kind, &self.file)
     }
 
-    /// Whether kept states are equieffective to serial ones. For deferred update they always are.
+    /// Whether kept states are equieffective to serial ones. For deferred update they always are;
+    /// for update in place they are where each pair outside the conflict table meets the two-way
+    /// condition at each state of the set.
     pub fn is_strong(&self) -> bool
-        ensures { result ≡ true }
+        ensures { (result ≡ true) ↔ IsStrong self.now }
     {
-        true
+        match self.kind {
+            Kind::Undo => {
+                passes_everywhere(Condition::BackwardBothWays, &self.file, &self.file.undo)
+            }
+            Kind::Intentions => true,
+        }
+    }
+}
+
+/// What a kind asks of each pair outside its conflict table.
+pub fn condition_of(kind: Kind) -> Condition
+    ensures { result ≡ condition_of kind }
+{
+    match kind {
+        Kind::Undo => Condition::Backward,
+        Kind::Intentions => Condition::Forward,
+    }
+}
+
+/// The conflict table of a kind.
+pub fn conflicts_of(kind: Kind, file: &TypeFile) -> &ConflictTable
+    ensures exact { result.now ≡ conflicts_of kind file.now }
+    ensures fits { length result.now ≡ length file.now.table.ops }
+{
+    match kind {
+        Kind::Undo => &file.undo,
+        Kind::Intentions => &file.intentions,
     }
 }

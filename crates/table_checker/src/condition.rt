@@ -1,79 +1,97 @@
-//! The search for the first triple of a requested operation, a held one and a state that fails.
+//! What is tested of a pair of operations at a state.
 
-ghost use Rattle.std.specs.Prelude.{◌≡◌, ◌<◌, ℕ, true, false, not, length, MatchOption};
-ghost use Rattle.table_checker.specs.Condition.{is_same_end, passes_forward, fails_at, PassesEverywhere, IsFirstFailure};
-ghost use Rattle.table_checker.specs.Scan.{PairPasses, IsFirstState, RowPasses, IsFirstHeld};
+ghost use Rattle.std.specs.Prelude.{◌≡◌, ◌<◌, ℕ, length, Option, IfSome};
+ghost use Rattle.equi_cert.specs.Relation.{relates};
+ghost use Rattle.table_checker.specs.Condition.{ends_relate, end_of, passes, passes_forward, passes_backward, passes_both_ways, AreInside};
 
-use type_table::{ConflictTable, TypeTable};
+use equi_cert::Relation;
+use type_table::TypeTable;
+use type_text::TypeFile;
 
-/// A pair of operations and a state at which it fails.
-#[derive(Clone, Copy)]
-pub struct Failure {
-    pub p: u8,
-    pub q: u8,
-    pub s: u16,
+/// What is asked of a pair of a requested operation p and a held one q, at a state.
+#[derive(Clone, Copy, Debug, PartialEq, Eq)]
+pub enum Condition {
+    /// Where both are legal, both orders are, and the two ends are related both ways.
+    Forward,
+    /// Where q and then p is legal, p and then q is, and the end of the first order is related to
+    /// that of the second.
+    Backward,
+    /// The same, and the two ends are related both ways.
+    BackwardBothWays,
 }
 
-/// The first failing triple in ascending order.
-pub fn first_failure(table: &TypeTable, conflicts: &ConflictTable) -> Option<Failure>
-    requires { length conflicts.now ≡ length table.now.ops }
-    ensures { MatchOption result
-        (PassesEverywhere table.now conflicts.now)
-        (λ f. IsFirstFailure table.now conflicts.now f.p f.q f.s) }
+/// Whether a pair passes at a state.
+pub fn passes(condition: Condition, file: &TypeFile, p: u8, q: u8, s: u16) -> bool
+    requires { AreInside file.now.table p q s }
+    ensures { result ≡ passes condition file.now.table (relates file.now.relation) p q s }
 {
-    for p in 0..table.op_count() {
-        if let Some(failure) = first_failure_of(table, conflicts, p) {
-            return Some(failure);
-        }
+    match condition {
+        Condition::Forward => passes_forward(file, p, q, s),
+        Condition::Backward => passes_backward(file, p, q, s),
+        Condition::BackwardBothWays => passes_both_ways(file, p, q, s),
     }
-    None
 }
 
-/// The first failing held operation and state of a requested one.
-fn first_failure_of(table: &TypeTable, conflicts: &ConflictTable, p: u8) -> Option<Failure>
-    requires fits { length conflicts.now ≡ length table.now.ops }
-    requires requested { p < length table.now.ops }
-    ensures { MatchOption result
-        (RowPasses table.now conflicts.now p)
-        (λ f. (f.p ≡ p) × IsFirstHeld table.now conflicts.now p f.q f.s) }
-{
-    for q in 0..table.op_count() {
-        if !conflicts.conflicts(p, q) {
-            if let Some(s) = first_failing_state(table, p, q) {
-                return Some(Failure { p, q, s });
-            }
-        }
-    }
-    None
-}
-
-/// The first state at which the pair doesn't pass.
-fn first_failing_state(table: &TypeTable, p: u8, q: u8) -> Option<u16>
-    requires requested { p < length table.now.ops }
-    requires held { q < length table.now.ops }
-    ensures { MatchOption result (PairPasses table.now p q) (IsFirstState table.now p q) }
-{
-    for s in 0..table.states() {
-        if !passes_forward(table, p, q, s) {
-            return Some(s);
-        }
-    }
-    None
-}
-
-/// Whether both orders lead to one state, where both operations are legal.
 #[tactic(auto, unfolding(crate::specs::Condition::passes_forward))]
-fn passes_forward(table: &TypeTable, p: u8, q: u8, s: u16) -> bool
-    requires requested { p < length table.now.ops }
-    requires held { q < length table.now.ops }
-    requires state { s < table.now.states }
-    ensures { result ≡ passes_forward table.now p q s }
+fn passes_forward(file: &TypeFile, p: u8, q: u8, s: u16) -> bool
+    requires { AreInside file.now.table p q s }
+    ensures { result ≡ passes_forward file.now.table (relates file.now.relation) p q s }
 {
-    let (Some(after_p), Some(after_q)) = (table.next(s, p), table.next(s, q)) else {
+    let table = &file.table;
+    if table.next(s, p).is_none() || table.next(s, q).is_none() {
         return true;
-    };
-    match (table.next(after_p, q), table.next(after_q, p)) {
-        (Some(a), Some(b)) => a == b,
+    }
+    let requested_first = end_of(table, s, p, q);
+    let held_first = end_of(table, s, q, p);
+    ends_relate(&file.relation, requested_first, held_first)
+        && ends_relate(&file.relation, held_first, requested_first)
+}
+
+#[tactic(auto, unfolding(crate::specs::Condition::passes_backward))]
+fn passes_backward(file: &TypeFile, p: u8, q: u8, s: u16) -> bool
+    requires { AreInside file.now.table p q s }
+    ensures { result ≡ passes_backward file.now.table (relates file.now.relation) p q s }
+{
+    let held_first = end_of(&file.table, s, q, p);
+    if held_first.is_none() {
+        return true;
+    }
+    let requested_first = end_of(&file.table, s, p, q);
+    ends_relate(&file.relation, held_first, requested_first)
+}
+
+#[tactic(auto, unfolding(crate::specs::Condition::passes_both_ways))]
+fn passes_both_ways(file: &TypeFile, p: u8, q: u8, s: u16) -> bool
+    requires { AreInside file.now.table p q s }
+    ensures { result ≡ passes_both_ways file.now.table (relates file.now.relation) p q s }
+{
+    let held_first = end_of(&file.table, s, q, p);
+    if held_first.is_none() {
+        return true;
+    }
+    let requested_first = end_of(&file.table, s, p, q);
+    ends_relate(&file.relation, held_first, requested_first)
+        && ends_relate(&file.relation, requested_first, held_first)
+}
+
+/// The end of one operation and then another.
+fn end_of(table: &TypeTable, s: u16, first: u8, second: u8) -> Option<u16>
+    requires { AreInside table.now first second s }
+    ensures exact { result ≡ end_of table.now s first second }
+    ensures inside { IfSome result (λ t. t < table.now.states) }
+{
+    let middle = table.next(s, first)?;
+    table.next(middle, second)
+}
+
+/// Whether both ends are there and the first is related to the second.
+fn ends_relate(relation: &Relation, first: Option<u16>, second: Option<u16>) -> bool
+    requires first { IfSome first (λ s. s < length relation.now) }
+    requires second { IfSome second (λ s. s < length relation.now) }
+    ensures { result ≡ ends_relate (relates relation.now) first second }
+{
+    match (first, second) {
+        (Some(first), Some(second)) => relation.has(first, second),
         _ => false,
     }
 }

@@ -6,12 +6,17 @@ mod checked_type;
 mod checker;
 mod condition;
 mod laws;
+mod parallel;
+mod reach;
 mod refusal;
+mod scan;
 #[cfg(test)]
 mod tests;
 
 pub use checked_type::CheckedType;
-pub use checker::check;
-pub use laws::{strong_yes_covers, yes_covers};
+pub use checker::{check, check_parallel};
+pub use laws::{
+    lists_backward, lists_backward_both_ways, lists_forward, strong_yes_covers, yes_covers,
+};
 pub use refusal::CheckRefusal;
 pub use type_table::Kind;

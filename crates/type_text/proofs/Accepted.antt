@@ -1,5 +1,5 @@
 -- What is known of the lines of an accepted text.
-use Rattle.std.proofs.Common.{◌≡◌, ℕ, zero, suc, ◌+◌, ◌<◌, ◌≤◌, true, cond, ◌&&◌, ◌||◌, eqb, ltb, leb, List, [], ◌∷◌, ◌++◌, length, take, drop, Some, Contains, refl, sym, ap, ◌∙◌, inl, inr, arith}
+use Rattle.std.proofs.Common.{◌≡◌, ℕ, zero, suc, ◌+◌, ◌<◌, ◌≤◌, true, not, cond, ◌&&◌, ◌||◌, eqb, ltb, leb, List, [], ◌∷◌, ◌++◌, length, take, drop, Some, Contains, refl, sym, ap, ◌∙◌, inl, inr, arith}
 use Rattle.std.specs.List.{slice_get, list_any}
 use Rattle.std.proofs.lemmas.Bool.{ltb-true, leb-true, and_parts, or_cases, cases_order}
 use Rattle.std.proofs.lemmas.List.{take-append-drop, length-append}
@@ -14,7 +14,7 @@ use Rattle.type_table.specs.declared.kind.Kind.TheVariants.{Undo, Intentions}
 use Rattle.line_text.specs.LineTests.{pair_below, is_single, is_needed}
 use Rattle.line_text.specs.Accepted.{AreInOrder, HasKeys, HasPassed}
 use Rattle.type_text.specs.declared.type_line.TypeLine.{TypeLine}
-use Rattle.type_text.specs.declared.type_line.TypeLine.TheVariants.{TypeName, States, Initial, Operation, Step, Conflict, End}
+use Rattle.type_text.specs.declared.type_line.TypeLine.TheVariants.{TypeName, States, Initial, Operation, Step, Reach, Equi, Conflict, End}
 use Rattle.type_text.specs.TypeLines.{type_rules, rank_of, conflict_rank, states_of, op_in, ops_of, op_count, is_twin, sections, op_lines, AreTypeLines}
 
 -- ---- lines by their ranks
@@ -29,6 +29,8 @@ name_line (States states) e = absurd (omega (arith, e))
 name_line (Initial s) e = absurd (omega (arith, e))
 name_line (Operation op) e = absurd (omega (arith, e))
 name_line (Step s k t) e = absurd (omega (arith, e))
+name_line (Reach s) e = absurd (omega (arith, e))
+name_line (Equi s t) e = absurd (omega (arith, e))
 name_line (Conflict kind p q) e = absurd (other_rank kind 0 e (omega arith))
 name_line End e = absurd (omega (arith, e))
 
@@ -38,6 +40,8 @@ states_line (States states) e = (states, refl)
 states_line (Initial s) e = absurd (omega (arith, e))
 states_line (Operation op) e = absurd (omega (arith, e))
 states_line (Step s k t) e = absurd (omega (arith, e))
+states_line (Reach s) e = absurd (omega (arith, e))
+states_line (Equi s t) e = absurd (omega (arith, e))
 states_line (Conflict kind p q) e = absurd (other_rank kind 1 e (omega arith))
 states_line End e = absurd (omega (arith, e))
 
@@ -47,6 +51,8 @@ initial_line (States states) e = absurd (omega (arith, e))
 initial_line (Initial s) e = (s, refl)
 initial_line (Operation op) e = absurd (omega (arith, e))
 initial_line (Step s k t) e = absurd (omega (arith, e))
+initial_line (Reach s) e = absurd (omega (arith, e))
+initial_line (Equi s t) e = absurd (omega (arith, e))
 initial_line (Conflict kind p q) e = absurd (other_rank kind 2 e (omega arith))
 initial_line End e = absurd (omega (arith, e))
 
@@ -56,6 +62,8 @@ op_line (States states) e = absurd (omega (arith, e))
 op_line (Initial s) e = absurd (omega (arith, e))
 op_line (Operation op) e = (op, refl)
 op_line (Step s k t) e = absurd (omega (arith, e))
+op_line (Reach s) e = absurd (omega (arith, e))
+op_line (Equi s t) e = absurd (omega (arith, e))
 op_line (Conflict kind p q) e = absurd (other_rank kind 3 e (omega arith))
 op_line End e = absurd (omega (arith, e))
 
@@ -66,6 +74,8 @@ step_keys (States states) e = absurd (omega (arith, e))
 step_keys (Initial s) e = absurd (omega (arith, e))
 step_keys (Operation op) e = absurd (omega (arith, e))
 step_keys (Step s k t) e = refl
+step_keys (Reach s) e = absurd (omega (arith, e))
+step_keys (Equi s t) e = absurd (omega (arith, e))
 step_keys (Conflict kind p q) e = absurd (other_rank kind 4 e (omega arith))
 step_keys End e = absurd (omega (arith, e))
 
@@ -79,6 +89,8 @@ op_count-ops_of (States states ∷ lines) = op_count-ops_of lines
 op_count-ops_of (Initial s ∷ lines) = op_count-ops_of lines
 op_count-ops_of (Operation op ∷ lines) = let more : 1 + op_count lines ≡ suc (length (ops_of lines)) = omega (arith, op_count-ops_of lines) in sum_by-cons (λ x. cond (eqb (rank_of x) 3) 1 0) (Operation op) lines ∙ more
 op_count-ops_of (Step s k t ∷ lines) = op_count-ops_of lines
+op_count-ops_of (Reach s ∷ lines) = op_count-ops_of lines
+op_count-ops_of (Equi s t ∷ lines) = op_count-ops_of lines
 op_count-ops_of (Conflict Undo p q ∷ lines) = op_count-ops_of lines
 op_count-ops_of (Conflict Intentions p q ∷ lines) = op_count-ops_of lines
 op_count-ops_of (End ∷ lines) = op_count-ops_of lines
@@ -105,6 +117,8 @@ twins-ops_of op (States states ∷ lines) = twins-ops_of op lines
 twins-ops_of op (Initial s ∷ lines) = twins-ops_of op lines
 twins-ops_of op (Operation other ∷ lines) = ap (λ b. is_same_op op other || b) (twins-ops_of op lines)
 twins-ops_of op (Step s k t ∷ lines) = twins-ops_of op lines
+twins-ops_of op (Reach s ∷ lines) = twins-ops_of op lines
+twins-ops_of op (Equi s t ∷ lines) = twins-ops_of op lines
 twins-ops_of op (Conflict kind p q ∷ lines) = twins-ops_of op lines
 twins-ops_of op (End ∷ lines) = twins-ops_of op lines
 
@@ -163,6 +177,23 @@ conflict_inside lines order kind p q h =
       omega (arith, ltb-true q ops tests.1, ops_of-take lines found.0),
     )
 
+-- so is the state of a `reach` line
+reach_inside : (lines : List TypeLine) → AreInOrder type_rules lines → (s : ℕ) → Contains lines (Reach s) → s < states_of lines
+reach_inside lines order s h =
+    let found = passed_in lines order (Reach s) h in
+    let below : s < states_of (take found.0 lines) = ltb-true s (states_of (take found.0 lines)) found.2.in_range in
+    omega (arith, below, states_of-take lines found.0)
+
+-- so are those of an `equi` line
+equi_inside : (lines : List TypeLine) → AreInOrder type_rules lines → (s t : ℕ) → Contains lines (Equi s t) → (s < states_of lines) × (t < states_of lines)
+equi_inside lines order s t h =
+    let found = passed_in lines order (Equi s t) h in
+    let tests : ((ltb s (states_of (take found.0 lines)) && ltb t (states_of (take found.0 lines))) ≡ true) × (not (eqb s t) ≡ true) = and_parts _ _ found.2.in_range in
+    let both : (ltb s (states_of (take found.0 lines)) ≡ true) × (ltb t (states_of (take found.0 lines)) ≡ true) = and_parts _ _ tests.0 in
+    let first : s < states_of (take found.0 lines) = ltb-true s (states_of (take found.0 lines)) both.0 in
+    let second : t < states_of (take found.0 lines) = ltb-true t (states_of (take found.0 lines)) both.1 in
+    (omega (arith, first, states_of-take lines found.0), omega (arith, second, states_of-take lines found.0))
+
 -- no pair is below itself
 never_below : (a b : ℕ) → pair_below (a, b) (a, b) ≡ true → ⊥
 never_below a b h = elim (or_cases _ _ h) [
@@ -207,5 +238,7 @@ are_type_lines lines order =
       ops_differ = λ i o at. sym (twins-ops_of o (take i lines)) ∙ (order.passed i (Operation o) at).no_twin;
       steps_inside = step_inside lines order;
       steps_once = step_once lines order;
+      reach_inside = reach_inside lines order;
+      equi_inside = equi_inside lines order;
       conflicts_inside = conflict_inside lines order;
     }

@@ -6,3 +6,16 @@ pub mod Conflicts
 pub mod Twins
 pub mod Tables
 pub mod Accepted
+pub mod Pairs
+pub mod Writing
+pub mod CanonicalFollows
+pub mod CanonicalFront
+pub mod CanonicalEntries
+pub mod CanonicalGrid
+pub mod CanonicalOps
+pub mod CanonicalMembers
+pub mod CanonicalAccepted
+pub mod CanonicalSpelled
+pub mod CanonicalFile
+pub mod CanonicalRead
+pub mod SameFile

@@ -5,7 +5,7 @@ use Rattle.std.proofs.lemmas.List.{get_or-set_same, get_or-set_other, get_or-rep
 use Rattle.std.proofs.Math.Nat.{mul-le-mul_left}
 use Rattle.type_text.proofs.Members.{Contains-more, Contains-last, Contains-more_cases, Contains-front, at-place}
 use Rattle.type_text.specs.declared.type_line.TypeLine.{TypeLine}
-use Rattle.type_text.specs.declared.type_line.TypeLine.TheVariants.{TypeName, States, Initial, Operation, Step, Conflict, End}
+use Rattle.type_text.specs.declared.type_line.TypeLine.TheVariants.{TypeName, States, Initial, Operation, Step, Reach, Equi, Conflict, End}
 
 -- the entry of a state and an operation leads where the lines say
 abbrev pub AreStepsOf : ℕ → List TypeLine → List (Option ℕ) → Type 0
@@ -83,5 +83,7 @@ steps_more ops i lines (TypeName name) old new below e inside once step other so
 steps_more ops i lines (States states) old new below e inside once step other so_far = let no_step = λ (s k t : ℕ) (h : States states ≡ Step s k t). absurd cc in rw (other no_step) (steps_other ops i lines (States states) old below e no_step so_far)
 steps_more ops i lines (Initial first) old new below e inside once step other so_far = let no_step = λ (s k t : ℕ) (h : Initial first ≡ Step s k t). absurd cc in rw (other no_step) (steps_other ops i lines (Initial first) old below e no_step so_far)
 steps_more ops i lines (Operation op) old new below e inside once step other so_far = let no_step = λ (s k t : ℕ) (h : Operation op ≡ Step s k t). absurd cc in rw (other no_step) (steps_other ops i lines (Operation op) old below e no_step so_far)
+steps_more ops i lines (Reach r) old new below e inside once step other so_far = let no_step = λ (s k t : ℕ) (h : Reach r ≡ Step s k t). absurd cc in rw (other no_step) (steps_other ops i lines (Reach r) old below e no_step so_far)
+steps_more ops i lines (Equi a b) old new below e inside once step other so_far = let no_step = λ (s k t : ℕ) (h : Equi a b ≡ Step s k t). absurd cc in rw (other no_step) (steps_other ops i lines (Equi a b) old below e no_step so_far)
 steps_more ops i lines (Conflict kind p q) old new below e inside once step other so_far = let no_step = λ (s k t : ℕ) (h : Conflict kind p q ≡ Step s k t). absurd cc in rw (other no_step) (steps_other ops i lines (Conflict kind p q) old below e no_step so_far)
 steps_more ops i lines End old new below e inside once step other so_far = let no_step = λ (s k t : ℕ) (h : End ≡ Step s k t). absurd cc in rw (other no_step) (steps_other ops i lines End old below e no_step so_far)

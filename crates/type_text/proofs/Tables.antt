@@ -13,7 +13,6 @@ use Rattle.type_text.specs.TypeLines.{ops_of, states_in, states_of, AreTypeLines
 use Rattle.type_text.specs.TypeFile.{IsTableOf}
 use Rattle.type_text.specs.declared.type_line.TypeLine.{TypeLine}
 use Rattle.type_text.specs.declared.type_line.TypeLine.TheVariants.{TypeName, States, Initial, Step}
-use Rattle.type_text.proofs.Members.{Contains-at}
 use Rattle.type_text.proofs.Steps.{AreStepsOf}
 
 flat : (o : Option (Option ℕ)) → option_and_then (λ entry. entry) o ≡ unwrap_or o None
@@ -87,9 +86,9 @@ parts-fault lines T known parts =
 
 pub parts-table : (lines : List TypeLine) (T : Table) → AreTypeLines lines → AreParts lines T → IsTableOf lines T
 parts-table lines T known parts = record {
-  name = Contains-at lines 0 (TypeName T.name) parts.name;
-  states = Contains-at lines 1 (States T.states) parts.states;
-  initial = Contains-at lines 2 (Initial T.initial) parts.initial;
+  name = parts.name;
+  states = parts.states;
+  initial = parts.initial;
   ops = parts.ops;
   steps = next-lines T lines parts.entries (λ s k t h. omega (arith, (known.steps_inside s k t h).1, ap length parts.ops));
 }

@@ -10,7 +10,7 @@ use Rattle.type_table.specs.declared.op.Op.{Op}
 use Rattle.type_text.specs.TypeLines.{is_twin, op_in, ops_of}
 use Rattle.type_text.proofs.Members.{take-more}
 use Rattle.type_text.specs.declared.type_line.TypeLine.{TypeLine}
-use Rattle.type_text.specs.declared.type_line.TypeLine.TheVariants.{TypeName, States, Initial, Operation, Step, Conflict, End}
+use Rattle.type_text.specs.declared.type_line.TypeLine.TheVariants.{TypeName, States, Initial, Operation, Step, Reach, Equi, Conflict, End}
 
 never : (xs : List TypeLine) → false ≡ list_any (λ (y : TypeLine). false) xs
 never [] = refl
@@ -23,6 +23,8 @@ never_twin (States states) xs h = never xs
 never_twin (Initial s) xs h = never xs
 never_twin (Operation op) xs h = absurd (h op refl)
 never_twin (Step s k t) xs h = never xs
+never_twin (Reach s) xs h = never xs
+never_twin (Equi s t) xs h = never xs
 never_twin (Conflict kind p q) xs h = never xs
 never_twin End xs h = never xs
 
@@ -57,5 +59,7 @@ ops_more lines i line old new below e differ step so_far apart = (
     by_line (Initial s) h = rw append-nil apart
     by_line (Operation op) h = has_twin_push old op apart (h op refl)
     by_line (Step s k t) h = rw append-nil apart
+    by_line (Reach s) h = rw append-nil apart
+    by_line (Equi s t) h = rw append-nil apart
     by_line (Conflict kind p q) h = rw append-nil apart
     by_line End h = rw append-nil apart

@@ -1,4 +1,6 @@
 pub mod Out
 pub mod TypeLines
+pub mod Reach
 pub mod TypeFile
+pub mod Canonical
 pub mod Examples

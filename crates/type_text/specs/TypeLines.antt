@@ -1,5 +1,5 @@
 -- The grammar of type files, and what its lines say together.
-use Rattle.std.specs.Prelude.{◌≡◌, ℕ, ◌<◌, ◌≤◌, Bool, true, false, ◌&&◌, List, [], ◌∷◌, length, take, nat_lt, nat_le, ◌==◌, if◌then◌else◌, count_by, slice_get, Option, Some, None, Result, Ok, Err, Contains, codes}
+use Rattle.std.specs.Prelude.{◌≡◌, ℕ, ◌<◌, ◌≤◌, Bool, true, false, not, ◌&&◌, List, [], ◌∷◌, length, take, nat_lt, nat_le, ◌==◌, if◌then◌else◌, count_by, slice_get, Option, Some, None, Result, Ok, Err, Contains, codes}
 use Rattle.std.specs.List.{filter_map, list_any}
 use Rattle.type_table.specs.Op.{is_same_op}
 use Rattle.type_table.specs.declared.kind.Kind.{Kind}
@@ -11,7 +11,7 @@ use Rattle.line_text.specs.declared.fault.FaultKind.{FaultKind}
 use Rattle.line_text.specs.declared.fault.FaultKind.TheVariants.{UnknownWord}
 use Rattle.line_text.specs.declared.section.Section.{Section}
 use Rattle.type_text.specs.declared.type_line.TypeLine.{TypeLine}
-use Rattle.type_text.specs.declared.type_line.TypeLine.TheVariants.{TypeName, States, Initial, Operation, Step, Conflict, End}
+use Rattle.type_text.specs.declared.type_line.TypeLine.TheVariants.{TypeName, States, Initial, Operation, Step, Reach, Equi, Conflict, End}
 
 -- ---- what a line says
 
@@ -48,6 +48,19 @@ step_of words = do
   t ← number_at words 3
   Ok (Step s k t)
 
+unfoldable pub reach_of_words : List (List ℕ) → Result TypeLine FaultKind
+reach_of_words words = do
+  done ← exactly words 2
+  s ← number_at words 1
+  Ok (Reach s)
+
+unfoldable pub equi_of : List (List ℕ) → Result TypeLine FaultKind
+equi_of words = do
+  done ← exactly words 3
+  s ← number_at words 1
+  t ← number_at words 2
+  Ok (Equi s t)
+
 unfoldable pub conflict_of : List (List ℕ) → Result TypeLine FaultKind
 conflict_of words = do
   done ← exactly words 4
@@ -69,15 +82,17 @@ line_of words =
     else (if is_key words (codes "initial") then initial_of_words words
     else (if is_key words (codes "op") then operation_of words
     else (if is_key words (codes "step") then step_of words
+    else (if is_key words (codes "reach") then reach_of_words words
+    else (if is_key words (codes "equi") then equi_of words
     else (if is_key words (codes "conflict") then conflict_of words
     else (if is_key words (codes "end") then end_of words
-    else Err UnknownWord))))))
+    else Err UnknownWord))))))))
 
 -- ---- the sections
 
 abbrev pub conflict_rank : Kind → ℕ
-conflict_rank Undo = 5
-conflict_rank Intentions = 6
+conflict_rank Undo = 7
+conflict_rank Intentions = 8
 
 abbrev pub rank_of : TypeLine → ℕ
 rank_of (TypeName name) = 0
@@ -85,8 +100,10 @@ rank_of (States states) = 1
 rank_of (Initial s) = 2
 rank_of (Operation op) = 3
 rank_of (Step s k t) = 4
+rank_of (Reach s) = 5
+rank_of (Equi s t) = 6
 rank_of (Conflict kind p q) = conflict_rank kind
-rank_of End = 7
+rank_of End = 9
 
 -- a section that is one line
 abbrev pub one_line : Section
@@ -101,7 +118,7 @@ abbrev pub op_lines : Section
 op_lines = record { is_single = false; is_needed = true; most = Some 64 }
 
 abbrev pub sections : List Section
-sections = one_line ∷ one_line ∷ one_line ∷ op_lines ∷ any_lines ∷ any_lines ∷ any_lines ∷ one_line ∷ []
+sections = one_line ∷ one_line ∷ one_line ∷ op_lines ∷ any_lines ∷ any_lines ∷ any_lines ∷ any_lines ∷ any_lines ∷ one_line ∷ []
 
 -- ---- what the lines say together
 
@@ -131,12 +148,16 @@ abbrev pub is_in_range : List TypeLine → TypeLine → Bool
 is_in_range before (States states) = nat_le 1 states && nat_le states 1024
 is_in_range before (Initial s) = nat_lt s (states_of before)
 is_in_range before (Step s k t) = nat_lt s (states_of before) && nat_lt k (op_count before) && nat_lt t (states_of before)
+is_in_range before (Reach s) = nat_lt s (states_of before)
+is_in_range before (Equi s t) = nat_lt s (states_of before) && nat_lt t (states_of before) && not (s == t)
 is_in_range before (Conflict kind p q) = nat_lt p (op_count before) && nat_lt q (op_count before)
 is_in_range before _ = true
 
--- `step` lines ascend by state and operation, `conflict` lines by the pair
+-- `step` lines ascend by state and operation, `reach` lines by the state, `equi` and `conflict` lines by the pair
 abbrev pub key_of : TypeLine → Option (ℕ × ℕ)
 key_of (Step s k t) = Some (s, k)
+key_of (Reach s) = Some (s, 0)
+key_of (Equi s t) = Some (s, t)
 key_of (Conflict kind p q) = Some (p, q)
 key_of _ = None
 
@@ -168,4 +189,6 @@ pub record AreTypeLines (lines : List TypeLine) : Type 0 where
   pub ops_differ : (i : ℕ) (op : Op) → slice_get lines i ≡ Some (Operation op) → list_any (is_same_op op) (ops_of (take i lines)) ≡ false
   pub steps_inside : (s k t : ℕ) → Contains lines (Step s k t) → (s < states_of lines) × (k < length (ops_of lines)) × (t < states_of lines)
   pub steps_once : (s k t u : ℕ) → Contains lines (Step s k t) → Contains lines (Step s k u) → t ≡ u
+  pub reach_inside : (s : ℕ) → Contains lines (Reach s) → s < states_of lines
+  pub equi_inside : (s t : ℕ) → Contains lines (Equi s t) → (s < states_of lines) × (t < states_of lines)
   pub conflicts_inside : (kind : Kind) (p q : ℕ) → Contains lines (Conflict kind p q) → (p < length (ops_of lines)) × (q < length (ops_of lines))

@@ -7,13 +7,17 @@ ghost use Rattle.type_table.specs.declared.op.Op.{Op as OpValue};
 ghost use Rattle.type_table.specs.Counts.{is_inside};
 ghost use Rattle.type_table.specs.ConflictTable.{conflicts};
 ghost use Rattle.type_text.specs.TypeLines.{AreTypeLines, states_of, ops_of};
-ghost use Rattle.type_text.specs.TypeFile.{IsFileOf, IsTableOf};
+ghost use Rattle.type_text.specs.TypeFile.{IsFileOf, IsTableOf, IsReached};
+ghost use Rattle.type_text.specs.Reach.{is_reach};
+ghost use Rattle.type_table.specs.StateSet.{has};
+ghost use Rattle.equi_cert.specs.Relation.{relates};
 
 use crate::type_file::TypeFile;
 use crate::type_line::TypeLine;
+use equi_cert::Relation;
 use indexmap::IndexSet;
 use std::alloc::{AllocError, Global};
-use type_table::{ConflictTable, Kind, Name, Op, TypeTable};
+use type_table::{ConflictTable, Kind, Name, Op, StateSet, TypeTable};
 
 /// The file that the lines describe.
 pub fn file_of(alloc: Global, lines: &[TypeLine]) -> Result<TypeFile, AllocError>
@@ -22,10 +26,15 @@ pub fn file_of(alloc: Global, lines: &[TypeLine]) -> Result<TypeFile, AllocError
 {
     let table = table_of(alloc, lines)?;
     let ops = table.op_count();
+    let states = table.states();
+    let reach = reach_of(lines, states);
+    let relation = relation_of(alloc, lines, states)?;
     let undo = conflicts_of(Kind::Undo, ops, lines);
     let intentions = conflicts_of(Kind::Intentions, ops, lines);
     Ok(TypeFile {
         table,
+        reach,
+        relation,
         undo,
         intentions,
     })
@@ -147,6 +156,74 @@ fn put_step(steps: &mut [Option<u16>], ops: usize, line: TypeLine)
 {
     if let TypeLine::Step { s, k, t } = line {
         steps[s as usize * ops + k as usize] = Some(t as u16);
+    }
+}
+
+/// The set of the `reach` lines, or of all states where there is no such line.
+fn reach_of(lines: &[TypeLine], states: u16) -> StateSet
+    requires lines { AreTypeLines lines.now }
+    requires states { states ≡ states_of lines.now }
+    requires some { 0 < states }
+    requires fit { states ≤ 1024 }
+    ensures fits { length result ≡ states }
+    ensures exact { (s : ℕ) → (has result s ≡ true) ↔ IsReached lines.now states s }
+    ensures some { list_any (λ member. member) result ≡ true }
+{
+    if !has_reach(lines) {
+        return StateSet::all(states);
+    }
+    let mut set = StateSet::empty(states);
+    for line in lines {
+        add_reach(&mut set, *line);
+    }
+    set
+}
+
+/// Whether a `reach` line is among the lines.
+fn has_reach(lines: &[TypeLine]) -> bool
+    ensures { result ≡ list_any is_reach lines.now }
+{
+    lines.iter().any(|line| match line {
+        TypeLine::Reach(_) => true,
+        _ => false,
+    })
+}
+
+/// Adds the state of a `reach` line.
+fn add_reach(set: &mut StateSet, line: TypeLine)
+    requires { (s : ℕ) → line ≡ TypeLine.Reach s → (s < length set.old) × (s < 1024) }
+    ensures fits { length set.new ≡ length set.old }
+    ensures members { (s : ℕ) → (has set.new s ≡ true) ↔ ((has set.old s ≡ true) ⊎ (line ≡ TypeLine.Reach s)) }
+{
+    if let TypeLine::Reach(s) = line {
+        set.add(s as u16);
+    }
+}
+
+/// The relation of the `equi` lines and of each state with itself.
+fn relation_of(alloc: Global, lines: &[TypeLine], states: u16) -> Result<Relation, AllocError>
+    requires lines { AreTypeLines lines.now }
+    requires states { states ≡ states_of lines.now }
+    requires some { 0 < states }
+    requires fit { states ≤ 1024 }
+    ensures fits { IfOk result (λ relation. length relation ≡ states) }
+    ensures exact { IfOk result (λ relation. (s t : ℕ) → s < states → t < states → (relates relation s t ≡ true) ↔ ((s ≡ t) ⊎ Contains lines.now (TypeLine.Equi s t))) }
+{
+    let mut relation = Relation::new(alloc, states)?;
+    for line in lines {
+        add_equi(&mut relation, *line);
+    }
+    Ok(relation)
+}
+
+/// Adds the pair of an `equi` line.
+fn add_equi(relation: &mut Relation, line: TypeLine)
+    requires { (s t : ℕ) → line ≡ TypeLine.Equi s t → (s < length relation.old) × (t < length relation.old) × (s < 1024) × (t < 1024) }
+    ensures fits { length relation.new ≡ length relation.old }
+    ensures pairs { (s t : ℕ) → (relates relation.new s t ≡ true) ↔ ((relates relation.old s t ≡ true) ⊎ (line ≡ TypeLine.Equi s t)) }
+{
+    if let TypeLine::Equi { s, t } = line {
+        relation.add(s as u16, t as u16);
     }
 }
 

@@ -1,6 +1,7 @@
 ghost use Rattle.std.specs.Prelude.{◌<◌};
 
 mod worked;
+mod writing;
 
 use super::*;
 use std::alloc::{AllocError, Global};
@@ -27,7 +28,7 @@ static COUNTER: [&[u8]; 14] = [
 ];
 
 /// What stands in place of a line of the counter's text, with the fault that the text then has.
-static FAULTS: [(usize, &[u8], usize, FaultKind); 40] = [
+static FAULTS: [(usize, &[u8], usize, FaultKind); 47] = [
     // A byte that isn't a text's.
     (1, b"\x80ype counter\n", 1, FaultKind::NotAscii),
     (4, b"op inc:1 ok\x80", 4, FaultKind::NotAscii),
@@ -44,17 +45,24 @@ static FAULTS: [(usize, &[u8], usize, FaultKind); 40] = [
     (1, b"type Counter\n", 1, FaultKind::UnknownWord),
     (5, b"op dec:1 ok ok\n", 5, FaultKind::UnknownWord),
     (9, b"step 2 1\n", 9, FaultKind::UnknownWord),
-    (9, b"step 2 1 1\nreach 0\n", 10, FaultKind::UnknownWord),
-    (9, b"step 2 1 1\nequi 0 1\n", 10, FaultKind::UnknownWord),
+    (9, b"step 2 1 1\nreach 0 0\n", 10, FaultKind::UnknownWord),
+    (9, b"step 2 1 1\nequi 0\n", 10, FaultKind::UnknownWord),
     (10, b"conflict redo 0 01\n", 10, FaultKind::UnknownWord),
     (14, b"end 1\n", 14, FaultKind::UnknownWord),
     // Numbers.
     (2, b"states 00000003\n", 2, FaultKind::BadNumber),
     (6, b"step 0 0 01\n", 6, FaultKind::BadNumber),
+    (9, b"step 2 1 1\nequi 0 01\n", 10, FaultKind::BadNumber),
     (10, b"conflict undo 0 -1\n", 10, FaultKind::BadNumber),
     // The order of the sections.
     (2, b"states 3\nstates 3\n", 3, FaultKind::OutOfOrder),
     (9, b"step 2 1 1\nop up ok\n", 10, FaultKind::OutOfOrder),
+    (
+        9,
+        b"step 2 1 1\nequi 0 1\nreach 1\n",
+        11,
+        FaultKind::OutOfOrder,
+    ),
     (
         11,
         b"conflict intentions 1 0\nconflict undo 1 0\n",
@@ -72,11 +80,26 @@ static FAULTS: [(usize, &[u8], usize, FaultKind); 40] = [
     (6, b"step 3 0 1\n", 6, FaultKind::OutOfRange),
     (6, b"step 0 2 1\n", 6, FaultKind::OutOfRange),
     (6, b"step 0 0 3\n", 6, FaultKind::OutOfRange),
+    (9, b"step 2 1 1\nreach 3\n", 10, FaultKind::OutOfRange),
+    (9, b"step 2 1 1\nequi 0 0\n", 10, FaultKind::OutOfRange),
+    (9, b"step 2 1 1\nequi 0 3\n", 10, FaultKind::OutOfRange),
     (10, b"conflict undo 2 1\n", 10, FaultKind::OutOfRange),
     (12, b"conflict intentions 0 2\n", 12, FaultKind::OutOfRange),
     // The order of the entries.
     (6, b"step 0 0 1\nstep 0 0 1\n", 7, FaultKind::OutOfOrder),
     (8, b"step 0 1 0\n", 8, FaultKind::OutOfOrder),
+    (
+        9,
+        b"step 2 1 1\nreach 1\nreach 1\n",
+        11,
+        FaultKind::OutOfOrder,
+    ),
+    (
+        9,
+        b"step 2 1 1\nequi 1 0\nequi 0 1\n",
+        11,
+        FaultKind::OutOfOrder,
+    ),
     (11, b"conflict undo 0 0\n", 11, FaultKind::OutOfOrder),
     (13, b"conflict intentions 0 0\n", 13, FaultKind::OutOfOrder),
     // An operation stands once.
@@ -112,6 +135,12 @@ fn assert_is_counter(rt: &impl Abort, file: &TypeFile) {
         for k in 0..2 {
             let t = file.table.next(s, k);
             assert_eq!(rt; t, next[s as usize][k as usize], "at {s} {k}");
+        }
+    }
+    for s in 0..3 {
+        assert!(rt; file.reach.has(s), "at {s}");
+        for t in 0..3 {
+            assert_eq!(rt; file.relation.has(s, t), s == t, "at {s} {t}");
         }
     }
     for p in 0..2 {
@@ -174,6 +203,8 @@ fn comments_have_200_bytes_at_most(rt: HostRuntime) -> Result<(), Fail> {
 #[test]
 fn each_beginning_of_a_text_has_its_fault(rt: HostRuntime) -> Result<(), Fail> {
     let text = counter_text(rt.alloc())?;
+    assert_eq!(rt; text.len(), 188);
+    let mut of_whole_lines = 0u8;
     for len in 0..text.len() {
         let front = &text[..len];
         let line = line_at(front);
@@ -183,7 +214,11 @@ fn each_beginning_of_a_text_has_its_fault(rt: HostRuntime) -> Result<(), Fail> {
         };
         let fault = read_type(rt.alloc(), front).err();
         assert_eq!(rt; fault, Some(TextFault { line, kind }), "of {len} bytes");
+        if kind == FaultKind::Missing {
+            of_whole_lines = of_whole_lines.wrapping_add(1);
+        }
     }
+    assert_eq!(rt; of_whole_lines, 14);
     Ok(())
 }
 

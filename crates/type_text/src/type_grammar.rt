@@ -3,7 +3,7 @@
 ghost use Rattle.std.specs.Prelude.{◌≡◌, map};
 ghost use Rattle.std.specs.List.{list_any};
 ghost use Rattle.type_table.specs.Op.{is_same_op};
-ghost use Rattle.type_text.specs.TypeLines.{type_rules, line_of, type_name_of, states_of_words, initial_of_words, operation_of, step_of, conflict_of, end_of, states_in, states_of, is_twin};
+ghost use Rattle.type_text.specs.TypeLines.{type_rules, line_of, type_name_of, states_of_words, initial_of_words, operation_of, step_of, reach_of_words, equi_of, conflict_of, end_of, states_in, states_of, is_twin};
 
 use crate::type_line::TypeLine;
 use line_text::{FaultKind, Grammar, Section, exactly, is_key, kind_at, name_at, number_at};
@@ -27,8 +27,9 @@ const OP_LINES: Section = Section {
     most: Some(64),
 };
 
-static SECTIONS: [Section; 8] = [
-    ONE_LINE, ONE_LINE, ONE_LINE, OP_LINES, ANY_LINES, ANY_LINES, ANY_LINES, ONE_LINE,
+static SECTIONS: [Section; 10] = [
+    ONE_LINE, ONE_LINE, ONE_LINE, OP_LINES, ANY_LINES, ANY_LINES, ANY_LINES, ANY_LINES, ANY_LINES,
+    ONE_LINE,
 ];
 
 /// The place of the `op` lines among the sections.
@@ -55,6 +56,10 @@ impl Grammar for TypeGrammar {
             operation_of(words)
         } else if is_key(words, "step") {
             step_of(words)
+        } else if is_key(words, "reach") {
+            reach_of_words(words)
+        } else if is_key(words, "equi") {
+            equi_of(words)
         } else if is_key(words, "conflict") {
             conflict_of(words)
         } else if is_key(words, "end") {
@@ -75,11 +80,13 @@ impl Grammar for TypeGrammar {
             TypeLine::Initial(_) => 2,
             TypeLine::Operation(_) => OP_RANK,
             TypeLine::Step { .. } => 4,
+            TypeLine::Reach(_) => 5,
+            TypeLine::Equi { .. } => 6,
             TypeLine::Conflict { kind, .. } => match kind {
-                Kind::Undo => 5,
-                Kind::Intentions => 6,
+                Kind::Undo => 7,
+                Kind::Intentions => 8,
             },
-            TypeLine::End => 7,
+            TypeLine::End => 9,
         }
     }
 
@@ -94,6 +101,8 @@ impl Grammar for TypeGrammar {
             TypeLine::States(states) => 1 <= states && states <= 1024,
             TypeLine::Initial(s) => s < states,
             TypeLine::Step { s, k, t } => s < states && (k as usize) < ops && t < states,
+            TypeLine::Reach(s) => s < states,
+            TypeLine::Equi { s, t } => s < states && t < states && s != t,
             TypeLine::Conflict { p, q, .. } => (p as usize) < ops && (q as usize) < ops,
             TypeLine::TypeName(_) | TypeLine::Operation(_) | TypeLine::End => true,
         }
@@ -102,6 +111,8 @@ impl Grammar for TypeGrammar {
     fn key(&self, item: TypeLine) -> Option<(u32, u32)> {
         match item {
             TypeLine::Step { s, k, .. } => Some((s, k)),
+            TypeLine::Reach(s) => Some((s, 0)),
+            TypeLine::Equi { s, t } => Some((s, t)),
             TypeLine::Conflict { p, q, .. } => Some((p, q)),
             _ => None,
         }
@@ -181,6 +192,25 @@ fn step_of(words: &[&[u8]]) -> Result<TypeLine, FaultKind>
     let k = number_at(words, 2)?;
     let t = number_at(words, 3)?;
     Ok(TypeLine::Step { s, k, t })
+}
+
+#[tactic(auto, unfolding(crate::specs::TypeLines::reach_of_words))]
+fn reach_of_words(words: &[&[u8]]) -> Result<TypeLine, FaultKind>
+    ensures { result ≡ reach_of_words (map (λ w. w.now) words.now) }
+{
+    exactly(words, 2)?;
+    let s = number_at(words, 1)?;
+    Ok(TypeLine::Reach(s))
+}
+
+#[tactic(auto, unfolding(crate::specs::TypeLines::equi_of))]
+fn equi_of(words: &[&[u8]]) -> Result<TypeLine, FaultKind>
+    ensures { result ≡ equi_of (map (λ w. w.now) words.now) }
+{
+    exactly(words, 3)?;
+    let s = number_at(words, 1)?;
+    let t = number_at(words, 2)?;
+    Ok(TypeLine::Equi { s, t })
 }
 
 #[tactic(auto, unfolding(crate::specs::TypeLines::conflict_of))]

@@ -13,6 +13,10 @@ pub enum TypeLine {
     Operation(Op),
     /// `step S K T`
     Step { s: u32, k: u32, t: u32 },
+    /// `reach S`
+    Reach(u32),
+    /// `equi S T`
+    Equi { s: u32, t: u32 },
     /// `conflict KIND P Q`
     Conflict { kind: Kind, p: u32, q: u32 },
     /// `end`

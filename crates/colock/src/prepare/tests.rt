@@ -1,13 +1,19 @@
-//! The worked examples of `check intentions`: what each writes, and its status.
+//! What `check` writes of the counter's text with faults, and its status.
 
 ghost use Rattle.std.specs.Prelude.{None};
 
+mod set_of_ten;
+mod types;
+mod verdicts;
+
+use self::types::IDLE;
 use super::{Next, prepare};
 use crate::memory_source::MemorySource;
 use crate::words::Task;
 use std::alloc::{AllocError, Global};
 use std::process::Abort;
 use std::test::Fail;
+use std::thread::Threads;
 use type_table::Kind;
 use type_text::{Failed, Out, OutFault, Sink};
 
@@ -58,9 +64,15 @@ const fn faulty(old: &'static str, new: &'static [u8], err: &'static str) -> Exa
     }
 }
 
+/// The counter's text with the example's change.
 fn text_of(alloc: Global, example: &Example) -> Result<Vec<u8>, AllocError> {
+    changed_text(alloc, COUNTER, example)
+}
+
+/// A text with the example's change.
+fn changed_text(alloc: Global, whole: &str, example: &Example) -> Result<Vec<u8>, AllocError> {
     let mut text = Vec::new(alloc);
-    if let Some((front, back)) = COUNTER.split_once(example.old) {
+    if let Some((front, back)) = whole.split_once(example.old) {
         text.extend_from_slice(front.as_bytes())?;
         text.extend_from_slice(example.new)?;
         text.extend_from_slice(back.as_bytes())?;
@@ -69,8 +81,9 @@ fn text_of(alloc: Global, example: &Example) -> Result<Vec<u8>, AllocError> {
 }
 
 /// That a check of this text, at the path `ctr2.type`, answers so.
-fn answers<R: Abort + AllocGlobal>(
+fn answers<R: Abort + AllocGlobal + Threads + Sync>(
     rt: &R,
+    kind: Kind,
     text: &[u8],
     path: &str,
     out: &str,
@@ -84,11 +97,8 @@ fn answers<R: Abort + AllocGlobal>(
     };
     let mut output = Sink::new(Vec::new(rt.alloc()));
     let mut errors = Sink::new(Vec::new(rt.alloc()));
-    let task = Task::Check {
-        kind: Kind::Intentions,
-        path,
-    };
-    let next = prepare(rt.alloc(), task, &mut source, &mut output, &mut errors);
+    let task = Task::Check { kind, path };
+    let next = prepare(rt, task, &mut source, &mut output, &mut errors);
     assert_eq!(rt; output.into_inner().as_slice(), out.as_bytes());
     assert_eq!(rt; errors.into_inner().as_slice(), err.as_bytes());
     assert_eq!(rt; next, Next::Done(status));
@@ -163,6 +173,7 @@ fn answers_the_examples(rt: HostRuntime) -> Result<(), Fail> {
         let text = text_of(rt.alloc(), example)?;
         answers(
             &rt,
+            Kind::Intentions,
             &text,
             "ctr2.type",
             example.out,
@@ -174,11 +185,32 @@ fn answers_the_examples(rt: HostRuntime) -> Result<(), Fail> {
 }
 
 #[test]
+fn answers_faults_of_the_set(rt: HostRuntime) -> Result<(), Fail> {
+    let cases = [
+        ("reach 0\n", "reach 3\n", "line 10: OutOfRange\n"),
+        ("reach 0\n", "reach 0\nreach 0\n", "line 11: OutOfOrder\n"),
+        (
+            "step 0 0 0\n",
+            "reach 0\nstep 0 0 0\n",
+            "line 7: OutOfOrder\n",
+        ),
+    ];
+    for (old, new, fault) in cases {
+        let example = faulty(old, new.as_bytes(), "");
+        let text = changed_text(rt.alloc(), IDLE, &example)?;
+        let err = format!(in rt.alloc(); "colock: ctr2.type: {fault}")?;
+        answers(&rt, Kind::Undo, &text, "ctr2.type", "", err.as_str(), 2);
+    }
+    Ok(())
+}
+
+#[test]
 fn answers_texts_that_are_cut(rt: HostRuntime) {
     let text = COUNTER.as_bytes();
     if let Some(front) = text.get(..60) {
         answers(
             &rt,
+            Kind::Intentions,
             front,
             "ctr2.type",
             "",
@@ -188,6 +220,7 @@ fn answers_texts_that_are_cut(rt: HostRuntime) {
     }
     answers(
         &rt,
+        Kind::Intentions,
         b"",
         "ctr2.type",
         "",
@@ -204,6 +237,7 @@ fn answers_a_long_comment(rt: HostRuntime) -> Result<(), Fail> {
     text.extend_from_slice(COUNTER.as_bytes())?;
     answers(
         &rt,
+        Kind::Intentions,
         &text,
         "ctr2.type",
         "",
@@ -211,7 +245,7 @@ fn answers_a_long_comment(rt: HostRuntime) -> Result<(), Fail> {
         2,
     );
     text.remove(200);
-    answers(&rt, &text, "ctr2.type", "yes strong\n", "", 0);
+    answers(&rt, Kind::Undo, &text, "ctr2.type", "yes strong\n", "", 0);
     Ok(())
 }
 
@@ -220,6 +254,7 @@ fn answers_a_path_that_names_nothing(rt: HostRuntime) {
     let text = COUNTER.as_bytes();
     answers(
         &rt,
+        Kind::Intentions,
         text,
         "nowhere.type",
         "",
@@ -262,7 +297,7 @@ fn fails_where_the_output_does(rt: HostRuntime) {
         kind: Kind::Intentions,
         path: "ctr2.type",
     };
-    let next = prepare(rt.alloc(), task, &mut source, &mut output, &mut errors);
+    let next = prepare(&rt, task, &mut source, &mut output, &mut errors);
     assert_eq!(rt; next, Next::Done(3));
     assert_eq!(rt; errors.into_inner().as_slice(), b"".as_slice());
 }

@@ -4,15 +4,15 @@ use type_table::Kind;
 
 #[test]
 fn reads_a_check(rt: HostRuntime) {
-    let task = read_words(rt.alloc(), &["check", "intentions", "ctr2.type"]);
-    let good = matches!(
-        &task,
-        Ok(Task::Check {
-            kind: Kind::Intentions,
-            path: "ctr2.type"
-        })
-    );
-    assert!(rt; good);
+    for (word, wanted) in [("undo", Kind::Undo), ("intentions", Kind::Intentions)] {
+        match read_words(rt.alloc(), &["check", word, "ctr2.type"]) {
+            Ok(Task::Check { kind, path }) => {
+                assert_eq!(rt; kind, wanted);
+                assert_eq!(rt; path, "ctr2.type");
+            }
+            Err(_) => assert!(rt; false),
+        }
+    }
 }
 
 #[test]
@@ -30,7 +30,7 @@ fn refuses_other_words(rt: HostRuntime) -> Result<(), Fail> {
         &["check"],
         &["check", "intentions"],
         &["check", "intentions", "a", "b"],
-        &["check", "undo", "a"],
+        &["check", "redo", "a"],
         &["check", "Intentions", "a"],
         &["check", "intentions", "-x"],
         &["--", "check", "intentions", "a"],

@@ -1,35 +1,60 @@
 //! Worked examples of the definitions: each function does nothing, and its contract is the example.
-#![tactic(auto, unfolding(crate::specs::Condition::passes_forward, type_table::specs::Table::next))]
+#![tactic(auto, unfolding(crate::specs::Condition::passes_forward, crate::specs::Condition::passes_backward, crate::specs::Condition::passes_both_ways, type_table::specs::Table::next))]
 
-ghost use Rattle.std.specs.Prelude.{◌≡◌, ℕ, true, false};
+ghost use Rattle.std.specs.Prelude.{◌≡◌, ℕ, true, false, [], ◌∷◌};
 ghost use Rattle.type_table.specs.ConflictTable.{conflicts};
 ghost use Rattle.type_table.specs.Commute.{Covers};
-ghost use Rattle.type_table.specs.Examples.{counter, forward_pairs, one_way, three_states};
+ghost use Rattle.type_table.specs.Examples.{counter, forward_pairs, idle};
+ghost use Rattle.type_table.specs.StateSet.{has};
 ghost use Rattle.table_checker.specs.Condition.{fails_at, number_of, PassesEverywhere, IsFirstFailure};
+ghost use Rattle.table_checker.specs.Reach.{leaves_at, NeverLeaves, IsFirstLeave};
 ghost use Rattle.table_checker.specs.Scan.{PairPasses};
-ghost use Rattle.table_checker.specs.Examples.{no_pairs, ups_alone, no_pairs_of_three};
+ghost use Rattle.table_checker.specs.Examples.{counter_file, one_way_file, idle_file, no_pairs, ups_alone, no_pairs_of_three};
 
+use crate::condition::Condition;
 use crate::laws::yes_covers;
 use type_table::Kind;
 
 fn two_ups_fail_where_one_fits()
-    ensures room { fails_at counter no_pairs 0 0 0 ≡ false }
-    ensures limit { fails_at counter no_pairs 0 0 1 ≡ true }
-    ensures full { fails_at counter no_pairs 0 0 2 ≡ false }
+    ensures room { fails_at Condition.Forward counter_file no_pairs 0 0 0 ≡ false }
+    ensures limit { fails_at Condition.Forward counter_file no_pairs 0 0 1 ≡ true }
+    ensures full { fails_at Condition.Forward counter_file no_pairs 0 0 2 ≡ false }
 {}
 
 fn two_downs_fail_where_one_is_left()
-    ensures empty { fails_at counter no_pairs 1 1 0 ≡ false }
-    ensures last { fails_at counter no_pairs 1 1 1 ≡ true }
-    ensures room { fails_at counter no_pairs 1 1 2 ≡ false }
+    ensures empty { fails_at Condition.Forward counter_file no_pairs 1 1 0 ≡ false }
+    ensures last { fails_at Condition.Forward counter_file no_pairs 1 1 1 ≡ true }
+    ensures room { fails_at Condition.Forward counter_file no_pairs 1 1 2 ≡ false }
 {}
 
 fn up_and_down_pass()
-    ensures { PairPasses counter 0 1 }
+    ensures { PairPasses Condition.Forward counter_file 0 1 }
+{}
+
+fn up_after_a_held_down_fails_where_there_is_no_room()
+    ensures room { fails_at Condition.Backward counter_file no_pairs 0 1 1 ≡ false }
+    ensures full { fails_at Condition.Backward counter_file no_pairs 0 1 2 ≡ true }
+{}
+
+fn down_after_a_held_up_fails_where_none_is_left()
+    ensures empty { fails_at Condition.Backward counter_file no_pairs 1 0 0 ≡ true }
+    ensures some { fails_at Condition.Backward counter_file no_pairs 1 0 1 ≡ false }
 {}
 
 fn a_pair_of_the_table_fails_nowhere()
-    ensures { (s : ℕ) → fails_at counter forward_pairs 0 0 s ≡ false }
+    ensures { (s : ℕ) → fails_at Condition.Forward counter_file forward_pairs 0 0 s ≡ false }
+{}
+
+fn ends_are_related_in_one_direction()
+    ensures requested { fails_at Condition.Backward one_way_file no_pairs_of_three 0 1 0 ≡ false }
+    ensures exchanged { fails_at Condition.Backward one_way_file no_pairs_of_three 1 0 0 ≡ true }
+    ensures both_ways { fails_at Condition.BackwardBothWays one_way_file no_pairs_of_three 0 1 0 ≡ true }
+    ensures forward { fails_at Condition.Forward one_way_file no_pairs_of_three 0 1 0 ≡ true }
+{}
+
+fn a_state_outside_the_set_is_not_looked_at()
+    ensures inside { fails_at Condition.Forward idle_file no_pairs 0 0 0 ≡ false }
+    ensures outside { fails_at Condition.Forward idle_file no_pairs 0 0 1 ≡ false }
 {}
 
 fn triples_are_numbered_in_order()
@@ -41,23 +66,32 @@ fn triples_are_numbered_in_order()
 {}
 
 fn counter_without_a_pair_fails_first_at_two_ups()
-    ensures { IsFirstFailure counter no_pairs 0 0 1 }
+    ensures { IsFirstFailure Condition.Forward counter_file no_pairs 0 0 1 }
 {}
 
 fn counter_without_the_downs_fails_first_at_them()
-    ensures { IsFirstFailure counter ups_alone 1 1 1 }
+    ensures { IsFirstFailure Condition.Forward counter_file ups_alone 1 1 1 }
 {}
 
 fn one_way_type_fails_at_once()
-    ensures { IsFirstFailure one_way no_pairs_of_three 0 0 0 }
+    ensures { IsFirstFailure Condition.Forward one_way_file no_pairs_of_three 0 0 0 }
+{}
+
+fn idle_type_stays_at_its_initial_state()
+    ensures { NeverLeaves idle idle_file.reach }
+{}
+
+fn idle_type_leaves_two_states()
+    ensures stays { leaves_at idle (true ∷ true ∷ false ∷ []) 0 0 ≡ false }
+    ensures first { IsFirstLeave idle (true ∷ true ∷ false ∷ []) 1 0 }
 {}
 
 fn counter_passes_with_both_pairs()
-    ensures { PassesEverywhere counter forward_pairs }
+    ensures { PassesEverywhere Condition.Forward counter_file forward_pairs }
 {}
 
 fn counter_with_both_pairs_is_covered()
-    ensures { Covers Kind.Intentions counter three_states (conflicts forward_pairs) }
+    ensures { Covers Kind.Intentions counter (has counter_file.reach) (conflicts forward_pairs) }
 {
     yes_covers();
 }
@@ -67,11 +101,17 @@ fn examples_hold() {
     two_ups_fail_where_one_fits();
     two_downs_fail_where_one_is_left();
     up_and_down_pass();
+    up_after_a_held_down_fails_where_there_is_no_room();
+    down_after_a_held_up_fails_where_none_is_left();
     a_pair_of_the_table_fails_nowhere();
+    ends_are_related_in_one_direction();
+    a_state_outside_the_set_is_not_looked_at();
     triples_are_numbered_in_order();
     counter_without_a_pair_fails_first_at_two_ups();
     counter_without_the_downs_fails_first_at_them();
     one_way_type_fails_at_once();
+    idle_type_stays_at_its_initial_state();
+    idle_type_leaves_two_states();
     counter_passes_with_both_pairs();
     counter_with_both_pairs_is_covered();
 }

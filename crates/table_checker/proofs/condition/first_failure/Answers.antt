@@ -1,8 +1,0 @@
-use Rattle.std.proofs.Common.{◌<◌, length, arith}
-use Rattle.table_checker.proofs.Failures.{first-failure}
-use Rattle.table_checker.proofs.condition.first_failure.Goals as goal
-
-pub returns-in-Some : goal.returns-in-Some
-returns-in-Some c =
-    let p_in : c.loop-p.p < length c.args.table.now.ops = omega (arith, c.loop-p-test.true, c.op_count-p-end.ensures.exact) in
-    rw c.in-Some.ensures.0 (first-failure c.args.table.now c.args.conflicts.now c.loop-p.p c.in-Some.failure.q c.in-Some.failure.s p_in c.loop-p.invariant c.in-Some.ensures.1)

@@ -1,6 +1,0 @@
-use Rattle.std.proofs.Common.{◌≡◌, ℕ, ◌<◌, length, false}
-use Rattle.table_checker.specs.Condition.{fails_at}
-use Rattle.table_checker.proofs.condition.first_failure.Given as goal
-
-abbrev pub invariant-loop-p : goal.invariant-loop-p
-invariant-loop-p l = (a b r : ℕ) → a < l.p → b < length l.table.ops → r < l.table.states → fails_at l.table l.conflicts a b r ≡ false

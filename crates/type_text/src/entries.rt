@@ -1,0 +1,14 @@
+use type_table::Kind;
+
+/// A section of a type file's text whose lines are the entries of a grid.
+#[derive(Clone, Copy, Debug, PartialEq, Eq)]
+pub enum Entries {
+    /// `step` lines, by state and operation.
+    Steps,
+    /// `reach` lines, by state.
+    Members,
+    /// `equi` lines, by the pair of states.
+    Pairs,
+    /// `conflict` lines of a kind, by requested and held operation.
+    Conflicts(Kind),
+}
