@@ -7,37 +7,36 @@ use Rattle.type_table.specs.Table.{next, IsTable}
 use Rattle.type_table.specs.Examples.{counter, forward_pairs}
 use Rattle.type_table.specs.declared.kind.Kind.TheVariants.{Intentions}
 use Rattle.type_text.specs.declared.type_file.TypeFile.{TypeFile}
-use Rattle.table_checker.specs.Condition.{passes_forward, PassesEverywhere, IsFirstFailure}
+use Rattle.table_checker.specs.Condition.{passes_forward, fails_in_set, PassesEverywhere, IsFirstFailure}
 use Rattle.table_checker.specs.Reach.{leaves_at, NeverLeaves}
-use Rattle.table_checker.specs.Scan.{fails_at_number, NoneBelow}
+use Rattle.table_checker.specs.Scan.{pair_fails, NoneBelow}
 use Rattle.table_checker.specs.Checked.{Checked, IsChecked, IsCertified}
 use Rattle.table_checker.specs.Examples.{counter_file, ups_alone}
 use Rattle.table_checker.specs.declared.condition.Condition.{Condition}
 use Rattle.table_checker.specs.declared.condition.Condition.TheVariants.{Forward}
-use Rattle.table_checker.proofs.Found.{none-passes, first-fails}
+use Rattle.table_checker.proofs.Found.{none-passes, first-of_number}
 
--- ---- triples
+-- ---- pairs
 
--- the triples of the numbers below n pass: a test that computes
+-- the pairs of the numbers below n pass: a test that computes
 abbrev is_quiet : Condition → TypeFile → List (List Bool) → ℕ → Bool
-is_quiet condition file rows n = agree_below (fails_at_number condition file rows) (λ _. false) n
+is_quiet condition file rows n = agree_below (pair_fails condition file rows) (λ _. false) n
 
 -- and what that means
-quiet_below : (condition : Condition) (file : TypeFile) (rows : List (List Bool)) (n : ℕ) → is_quiet condition file rows n ≡ true → NoneBelow (fails_at_number condition file rows) n
-quiet_below condition file rows n quiet i below = agree_below_at (fails_at_number condition file rows) (λ _. false) n i quiet below
+quiet_below : (condition : Condition) (file : TypeFile) (rows : List (List Bool)) (n : ℕ) → is_quiet condition file rows n ≡ true → NoneBelow (pair_fails condition file rows) n
+quiet_below condition file rows n quiet i below = agree_below_at (pair_fails condition file rows) (λ _. false) n i quiet below
 
 -- with its two pairs of equal operations, the counter passes
 pub counter-passes : PassesEverywhere Forward counter_file forward_pairs
-unfolding passes_forward next fails_at_number
-counter-passes = none-passes Forward counter_file forward_pairs (quiet_below Forward counter_file forward_pairs 12 refl)
+unfolding passes_forward next pair_fails
+counter-passes = none-passes Forward counter_file forward_pairs (quiet_below Forward counter_file forward_pairs 4 refl)
 
 -- without the pair of two downs, it fails at them first
 pub downs-fail_first : IsFirstFailure Forward counter_file ups_alone 1 1 1
-unfolding passes_forward next fails_at_number
-downs-fail_first = first-fails Forward counter_file ups_alone 1 1 1 10 12
-    (record { requested = omega arith; held = omega arith; state = omega arith })
-    refl
-    (record { below = omega arith; passes = refl; first = quiet_below Forward counter_file ups_alone 10 refl })
+unfolding passes_forward next pair_fails
+downs-fail_first = first-of_number Forward counter_file ups_alone 3 4 1 1 1 refl refl (omega arith) (omega arith)
+    (record { below = omega arith; passes = refl; first = quiet_below Forward counter_file ups_alone 3 refl })
+    (record { state = omega arith; fails = refl; first = λ r below. agree_below_at (fails_in_set Forward counter_file 1 1) (λ _. false) 1 r refl below })
 
 -- ---- the counter's file, as the checker accepts it
 

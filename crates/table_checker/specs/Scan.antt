@@ -1,5 +1,7 @@
--- How far the search for the first failure has come: at one pair, and at one requested operation. And triples by their numbers.
-use Rattle.std.specs.Prelude.{◌≡◌, ℕ, ◌<◌, ◌/◌, ◌%◌, Bool, true, false, List, length}
+-- How far the search for the first failure has come: at one pair, and at one requested operation. And pairs by their numbers.
+use Rattle.std.specs.Prelude.{◌≡◌, ℕ, ◌<◌, ◌/◌, ◌%◌, Bool, true, false, not, ◌&&◌, List, length}
+use Rattle.std.specs.List.{list_any, range_with_len}
+use Rattle.type_table.specs.ConflictTable.{conflicts}
 use Rattle.type_table.specs.Table.{Table}
 use Rattle.type_text.specs.declared.type_file.TypeFile.{TypeFile}
 use Rattle.table_checker.specs.Condition.{fails_in_set, fails_at}
@@ -27,24 +29,22 @@ pub record IsFirstHeld (condition : Condition) (file : TypeFile) (rows : List (L
   pub first_state : (r : ℕ) → r < s → fails_at condition file rows p q r ≡ false
   pub first_held : (b r : ℕ) → b < q → r < file.table.states → fails_at condition file rows p b r ≡ false
 
--- ---- triples by their numbers
+-- ---- pairs by their numbers
 
 -- the requested operation of a number
 abbrev pub requested_of : Table → ℕ → ℕ
-requested_of T number = number / T.states / length T.ops
+requested_of T number = number / length T.ops
 
 -- the held operation
 abbrev pub held_of : Table → ℕ → ℕ
-held_of T number = number / T.states % length T.ops
+held_of T number = number % length T.ops
 
--- the state
-abbrev pub state_of : Table → ℕ → ℕ
-state_of T number = number % T.states
-
--- the triple of a number fails
-unfoldable pub fails_at_number : Condition → TypeFile → List (List Bool) → ℕ → Bool
-fails_at_number condition file rows number =
-    fails_at condition file rows (requested_of file.table number) (held_of file.table number) (state_of file.table number)
+-- the pair of a number is outside the conflict table, and fails at some state of the set
+unfoldable pub pair_fails : Condition → TypeFile → List (List Bool) → ℕ → Bool
+pair_fails condition file rows number =
+    let p = requested_of file.table number in
+    let q = held_of file.table number in
+    not (conflicts rows p q) && list_any (fails_in_set condition file p q) (range_with_len 0 file.table.states)
 
 -- no number below n passes a test
 abbrev pub NoneBelow : (ℕ → Bool) → ℕ → Type 0

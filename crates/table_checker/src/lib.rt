@@ -13,10 +13,12 @@ mod scan;
 #[cfg(test)]
 mod tests;
 
-pub use checked_type::CheckedType;
+pub use checked_type::{CheckedType, condition_of};
 pub use checker::{check, check_parallel};
+pub use condition::Condition;
 pub use laws::{
     lists_backward, lists_backward_both_ways, lists_forward, strong_yes_covers, yes_covers,
 };
 pub use refusal::CheckRefusal;
+pub use scan::first_failing_state;
 pub use type_table::Kind;

@@ -69,7 +69,7 @@ fn first_failure_of(
 }
 
 /// The first state of the set at which the pair doesn't pass.
-fn first_failing_state(condition: Condition, file: &TypeFile, p: u8, q: u8) -> Option<u16>
+pub fn first_failing_state(condition: Condition, file: &TypeFile, p: u8, q: u8) -> Option<u16>
     requires requested { p < length file.now.table.ops }
     requires held { q < length file.now.table.ops }
     ensures { MatchOption result (PairPasses condition file.now p q) (IsFirstState condition file.now p q) }
@@ -83,7 +83,7 @@ fn first_failing_state(condition: Condition, file: &TypeFile, p: u8, q: u8) -> O
 }
 
 /// Whether the state is of the set and the pair doesn't pass there.
-pub fn fails_in_set(condition: Condition, file: &TypeFile, p: u8, q: u8, s: u16) -> bool
+fn fails_in_set(condition: Condition, file: &TypeFile, p: u8, q: u8, s: u16) -> bool
     requires { AreInside file.now.table p q s }
     ensures { result ≡ (has file.now.reach s && not (passes condition file.now.table (relates file.now.relation) p q s)) }
 {
