@@ -1,0 +1,16 @@
+pub mod Entries
+pub mod NameBytes
+pub mod Distinct
+pub mod Twins
+pub mod AmountFacts
+pub mod CounterFacts
+pub mod AccountFacts
+pub mod Bits
+pub mod SetFacts
+pub mod Numbers
+pub mod CountLists
+pub mod Lexicographic
+pub mod QueueStates
+pub mod QueueOps
+pub mod QueueTable
+pub mod FailingPairs

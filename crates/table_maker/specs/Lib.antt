@@ -1,0 +1,11 @@
+pub mod Made
+pub mod Amounts
+pub mod Account
+pub mod Counter
+pub mod Elements
+pub mod Set
+pub mod Counts
+pub mod Semiqueue
+pub mod Strikes
+pub mod Predecessors
+pub mod MadeConflicts

@@ -1,0 +1,52 @@
+ghost use Rattle.std.specs.Prelude.{◌≡◌, true, length, IfOk, IfErr};
+ghost use Rattle.std.specs.List.{list_any};
+ghost use Rattle.table_checker.specs.declared.condition.Condition.TheVariants.{Forward, Backward};
+ghost use Rattle.table_maker.specs.MadeConflicts.{AreMadeConflicts};
+ghost use Rattle.table_maker.specs.declared.make_error.MakeError.TheVariants.{NoMemory};
+
+use crate::made_conflicts::made_conflicts;
+use crate::made_relation::made_relation;
+use crate::make_error::MakeError;
+use std::alloc::{AllocError, Global};
+use type_table::{ConflictTable, Kind, StateSet, TypeTable};
+use type_text::TypeFile;
+
+/// The file of a table and a set of its states that isn't empty, with the greatest relation that is
+/// a simulation and, for each kind, the pairs whose condition fails at some state of the set.
+///
+/// # Errors
+///
+/// `NoMemory` alone.
+pub fn make_tables(alloc: Global, table: &TypeTable, set: StateSet) -> Result<TypeFile, MakeError>
+    requires fits { length set ≡ table.now.states }
+    requires some { list_any (λ member. member) set ≡ true }
+    ensures table { IfOk result (λ file. file.table ≡ table.now) }
+    ensures set { IfOk result (λ file. file.reach ≡ set) }
+    ensures undo { IfOk result (λ file. AreMadeConflicts Backward file file.undo) }
+    ensures intentions { IfOk result (λ file. AreMadeConflicts Forward file file.intentions) }
+    ensures memory { IfErr result (λ error. error ≡ NoMemory) }
+{
+    let mut file = bare_file(alloc, table, set)?;
+    file.undo = made_conflicts(Kind::Undo, &file);
+    file.intentions = made_conflicts(Kind::Intentions, &file);
+    Ok(file)
+}
+
+/// The file without conflicts.
+fn bare_file(alloc: Global, table: &TypeTable, set: StateSet) -> Result<TypeFile, AllocError>
+    requires fits { length set ≡ table.now.states }
+    requires some { list_any (λ member. member) set ≡ true }
+    ensures table { IfOk result (λ file. file.table ≡ table.now) }
+    ensures set { IfOk result (λ file. file.reach ≡ set) }
+{
+    let relation = made_relation(alloc, table)?;
+    let table = table.copy(alloc)?;
+    let ops = table.op_count();
+    Ok(TypeFile {
+        table,
+        reach: set,
+        relation,
+        undo: ConflictTable::new(ops),
+        intentions: ConflictTable::new(ops),
+    })
+}
