@@ -2,6 +2,10 @@
 //! accepted, and the least nanoseconds of reading it, of `check` and of `check_parallel`.
 #![tactic(auto)]
 
+ghost use Rattle.std.specs.Prelude.{◌≡◌, Some, IfSome};
+ghost use Rattle.type_table.specs.Kind.{kind_word};
+ghost use Rattle.type_table.specs.declared.kind.Kind.{Kind};
+
 use std::alloc::AllocError;
 use std::process::ExitCode;
 use std::rt::{Clock, Env, Files};
@@ -58,7 +62,11 @@ fn measure<R: Env + Files + Clock + Print + AllocGlobal + Threads + Sync>(
     Ok(())
 }
 
-fn kind_named(word: &str) -> Option<Kind> {
+/// The kind of a word.
+fn kind_named(word: &str) -> Option<Kind>
+    ensures named { (kind : Kind) → kind_word kind ≡ word.now → result ≡ Some kind }
+    ensures other { IfSome result (λ kind. kind_word kind ≡ word.now) }
+{
     match word {
         "undo" => Some(Kind::Undo),
         "intentions" => Some(Kind::Intentions),

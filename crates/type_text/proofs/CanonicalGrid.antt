@@ -178,8 +178,8 @@ module _ (within : StepsWithin) (file : TypeFile) (known : IsTypeFile file) (ent
       ((behind_passes row column before x h entry, tt), behind_push file (entry_rank entries) row column before x h entry)
 
   -- the lines of a row
-  row_follows : (row : ℕ) (before : List TypeLine) → row < rows file entries → IsBehind file (entry_rank entries) row 0 before
-      → Follow before (lines_of_row file entries row) × IsBehind file (entry_rank entries) (row + 1) 0 (before ++ lines_of_row file entries row)
+  row_follows : (here : ℕ) (before : List TypeLine) → here < rows file entries → IsBehind file (entry_rank entries) here 0 before
+      → Follow before (lines_of_row file entries here) × IsBehind file (entry_rank entries) (here + 1) 0 (before ++ lines_of_row file entries here)
   row_follows row before row_in h =
       let all = follow_range (IsBehind file (entry_rank entries) row) (λ column. option_to_list (line_at file entries row column)) (columns file entries)
       (λ column lines column_in g. cell_follows row column lines (line_at file entries row column) row_in column_in refl g) (columns file entries) 0 before (omega arith) h in
@@ -189,7 +189,7 @@ module _ (within : StepsWithin) (file : TypeFile) (known : IsTypeFile file) (ent
   section_follows : (before : List TypeLine) → IsBehind file (entry_rank entries) 0 0 before
       → Follow before (lines_of_entries file entries) × IsBehind file (entry_rank entries) (rows file entries) 0 (before ++ lines_of_entries file entries)
   section_follows before h =
-      follow_range (λ row lines. IsBehind file (entry_rank entries) row 0 lines) (lines_of_row file entries) (rows file entries)
+      follow_range (λ here lines. IsBehind file (entry_rank entries) here 0 lines) (lines_of_row file entries) (rows file entries)
       (λ row lines row_in g. row_follows row lines row_in g) (rows file entries) 0 before (omega arith) h
 
 -- ---- from section to section
