@@ -1,0 +1,72 @@
+-- Meanings stay sound by each call, whatever their kind of recovery.
+use Rattle.std.proofs.Common.{◌≡◌, ℕ, false, List, [], ◌∷◌, ◌++◌, Some, refl, sym, subst}
+use Rattle.type_table.specs.Run.{IsLegal}
+use Rattle.type_table.specs.Commute.{Covers}
+use Rattle.type_table.specs.Laws.{RunsAlong}
+use Rattle.type_table.specs.declared.kind.Kind.{Kind}
+use Rattle.type_table.specs.declared.kind.Kind.TheVariants.{Undo, Intentions}
+use Rattle.table_checker.specs.Checked.{Checked}
+use Rattle.table_checker.specs.Lists.{ListsForward}
+use Rattle.object_trait.specs.Object.{Object, object_of}
+use Rattle.object_trait.specs.Orders.{Each}
+use Rattle.object_trait.specs.Strike.{keep_first}
+use Rattle.object_trait.specs.Meaning.{object, ops_of, is_open_of, view_by}
+use Rattle.object_trait.specs.Sound.{IsSoundBy}
+use Rattle.object_trait.specs.Steps.{IsOfAnotherOpen, IsCommitBy, IsStrikeBy}
+use Rattle.object_trait.specs.Laws.{PartsSort, KeepsFirst, StruckPart, SortsLook, StruckLogIsLegal, FreshIsSound, SoundAfterApply, SoundAfterCommit, SoundAfterStrike}
+use Rattle.object_trait.specs.declared.log_entry.LogEntry.{LogEntry}
+use Rattle.object_trait.proofs.Undo.{undo-applied, undo-committed, struck-legal, undo-struck}
+use Rattle.object_trait.proofs.Intentions.{intentions-applied, intentions-committed, intentions-struck}
+
+-- the struck log is legal: the kind is update in place
+struck_by : RunsAlong → PartsSort LogEntry → StruckPart LogEntry → SortsLook LogEntry → (kind : Kind) → kind ≡ Undo → (o : Object) → Covers kind o.table o.set o.conflicts →
+    (base : ℕ) (log : List LogEntry) (t n : ℕ) → IsSoundBy kind o base log → IsLegal o.table (Some base) (ops_of (keep_first (is_open_of t) n log))
+struck_by along parts strike sorts Undo e o covers base log t n sound = struck-legal along parts strike sorts o covers base log t n sound
+struck_by along parts strike sorts Intentions e o covers base log t n sound = absurd (cc)
+
+-- the law of struck logs
+pub struck_log-legal : RunsAlong → PartsSort LogEntry → StruckPart LogEntry → SortsLook LogEntry → StruckLogIsLegal
+struck_log-legal along parts strike sorts = λ m t n covers undo sound. struck_by along parts strike sorts m.checked.kind undo (object m) covers m.base m.log t _ sound
+
+-- a new object is sound
+fresh_by : (kind : Kind) (o : Object) (base : ℕ) (log : List LogEntry) → Covers kind o.table o.set o.conflicts → base ≡ o.table.initial → log ≡ [] → IsSoundBy kind o base log
+fresh_by Undo o base log covers initial empty = rw (initial, empty) (record { inside = covers.begins_inside; legal = refl; in_order = tt; locked = tt })
+fresh_by Intentions o base log covers initial empty = rw (initial, empty) (record { inside = covers.begins_inside; all_open = tt; legal = λ u. refl; locked = tt })
+
+-- the law of new objects
+pub fresh-sound : FreshIsSound
+fresh-sound = λ m covers fresh. fresh_by m.checked.kind (object m) m.base m.log covers fresh.base fresh.log
+
+-- a sound log stays so by a further operation
+applied_by : RunsAlong → (kind : Kind) (o : Object) (base : ℕ) (log : List LogEntry) (t k : ℕ) → IsSoundBy kind o base log → IsLegal o.table (view_by kind o base log t) (k ∷ []) →
+    Each (λ e. IsOfAnotherOpen t e → o.conflicts k e.op ≡ false) log → IsSoundBy kind o base (log ++ (record { by = t; op = k; done = false }) ∷ [])
+applied_by along Undo o base log t k sound legal free = undo-applied along o base log t k sound legal free
+applied_by along Intentions o base log t k sound legal free = intentions-applied along o base log t k sound legal free
+
+-- the law of further operations
+pub applied-sound : RunsAlong → SoundAfterApply
+applied-sound along = λ m t k covers sound may. applied_by along m.checked.kind (object m) m.base m.log t k sound may.legal may.free
+
+-- and by a commit
+committed_by : RunsAlong → ListsForward → (kind : Kind) (o : Object) → Covers kind o.table o.set o.conflicts → (base : ℕ) (log : List LogEntry) (t new_base : ℕ) (new_log : List LogEntry) →
+    IsSoundBy kind o base log → IsCommitBy kind o base log t new_base new_log → IsSoundBy kind o new_base new_log
+committed_by along forward Undo o covers base log t new_base new_log sound commit = undo-committed along o covers base log t new_base new_log sound commit
+committed_by along forward Intentions o covers base log t new_base new_log sound commit = intentions-committed along forward o covers base log t new_base new_log sound commit
+
+-- the law of commits
+pub committed-sound : RunsAlong → ListsForward → SoundAfterCommit
+committed-sound along forward = λ old new t covers sound h.
+    subst (λ (c : Checked). IsSoundBy c.kind (object_of c) new.base new.log) (sym h.checked)
+    (committed_by along forward old.checked.kind (object old) covers old.base old.log t new.base new.log sound h.commit)
+
+-- and by a strike
+struck_sound_by : RunsAlong → PartsSort LogEntry → StruckPart LogEntry → SortsLook LogEntry → KeepsFirst LogEntry → (kind : Kind) (o : Object) → Covers kind o.table o.set o.conflicts →
+    (base : ℕ) (log : List LogEntry) (t n new_base : ℕ) (new_log : List LogEntry) → IsSoundBy kind o base log → IsStrikeBy kind o base log t n new_base new_log → IsSoundBy kind o new_base new_log
+struck_sound_by along parts strike sorts keeps Undo o covers base log t n new_base new_log sound h = undo-struck along parts strike sorts o covers base log t n new_base new_log sound h
+struck_sound_by along parts strike sorts keeps Intentions o covers base log t n new_base new_log sound h = intentions-struck along keeps o base log t n new_base new_log sound h
+
+-- the law of strikes and aborts
+pub struck-sound : RunsAlong → PartsSort LogEntry → StruckPart LogEntry → SortsLook LogEntry → KeepsFirst LogEntry → SoundAfterStrike
+struck-sound along parts strike sorts keeps = λ old new t n covers sound h.
+    subst (λ (c : Checked). IsSoundBy c.kind (object_of c) new.base new.log) (sym h.checked)
+    (struck_sound_by along parts strike sorts keeps old.checked.kind (object old) covers old.base old.log t n new.base new.log sound h.strike)

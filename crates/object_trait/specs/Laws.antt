@@ -1,0 +1,80 @@
+-- Statements of laws: exchanges of neighbours, and meanings that stay sound.
+use Rattle.std.specs.Prelude.{◌≡◌, ℕ, ◌-◌, Bool, true, false, not, List, ◌++◌, map, filter, take, drop, length, Some}
+use Rattle.type_table.specs.Table.{Table}
+use Rattle.type_table.specs.Run.{run, IsLegal, Looks, AreEqui}
+use Rattle.type_table.specs.StateSet.{IsClosed}
+use Rattle.type_table.specs.Commute.{CommutesBackward, CommutesBackwardBothWays}
+use Rattle.type_table.specs.declared.kind.Kind.TheVariants.{Undo}
+use Rattle.table_checker.specs.Checked.{Checked, IsChecked, IsStrong}
+use Rattle.object_trait.specs.Object.{IsCovered, IsCoveredStrongly, object_of}
+use Rattle.object_trait.specs.Orders.{Pairs, Sorts, Parts}
+use Rattle.object_trait.specs.Strike.{keep_first}
+use Rattle.object_trait.specs.Meaning.{Meaning, object, is_open_of, open_of}
+use Rattle.object_trait.specs.Sound.{IsSound}
+use Rattle.object_trait.specs.Steps.{IsFresh, MayApply, applied, IsCommit, Keeps}
+use Rattle.object_trait.specs.declared.log_entry.LogEntry.{LogEntry}
+
+-- ---- exchanges of neighbours
+
+-- in two parts of which one may move behind the other, it can be moved to the end, neighbour by neighbour
+abbrev pub PartsSort : Type 0 → Type 0
+PartsSort E = (free : E → E → Bool) (V A B : List E) → Parts free V A B → Sorts free V (A ++ B)
+
+-- what `keep_first` keeps: the first n of mine, and all others, in their order
+abbrev pub KeepsFirst : Type 0 → Type 0
+KeepsFirst E =
+    (mine : E → Bool) (n : ℕ) (V : List E)
+    → (filter mine (keep_first mine n V) ≡ take n (filter mine V)) × (filter (λ e. not (mine e)) (keep_first mine n V) ≡ filter (λ e. not (mine e)) V)
+
+-- where each of mine may move behind each later one that isn't mine, those that `keep_first` strikes can be moved to the end
+abbrev pub StruckPart : Type 0 → Type 0
+StruckPart E =
+    (free : E → E → Bool) (mine : E → Bool) (n : ℕ) (V : List E) → Pairs (λ a b. mine a ≡ true → mine b ≡ false → free a b ≡ true) V
+    → Parts free V (keep_first mine n V) (drop n (filter mine V))
+
+-- where neighbours that are exchanged commute backward (b, the later one, is requested and moves before a), what a list sorts
+-- into is legal where the list is, and the list's end looks like the other's
+abbrev pub SortsLook : Type 0 → Type 0
+SortsLook E =
+    (T : Table) (set : ℕ → Bool) (op : E → ℕ) (free : E → E → Bool) (s : ℕ) (V W : List E) → IsClosed T set → set s ≡ true
+    → ((a b : E) → free a b ≡ true → CommutesBackward T set (op b) (op a))
+    → Sorts free V W → IsLegal T (Some s) (map op V)
+    → IsLegal T (Some s) (map op W) × Looks T (run T (Some s) (map op V)) (run T (Some s) (map op W))
+
+-- and so in the two-way form, where the ends are equieffective
+abbrev pub SortsEqui : Type 0 → Type 0
+SortsEqui E =
+    (T : Table) (set : ℕ → Bool) (op : E → ℕ) (free : E → E → Bool) (s : ℕ) (V W : List E) → IsClosed T set → set s ≡ true
+    → ((a b : E) → free a b ≡ true → CommutesBackwardBothWays T set (op b) (op a))
+    → Sorts free V W → IsLegal T (Some s) (map op V)
+    → IsLegal T (Some s) (map op W) × AreEqui T (run T (Some s) (map op V)) (run T (Some s) (map op W))
+
+-- ---- objects
+
+-- a yes of the checker gives a covered object, and a strong yes one that is covered strongly
+abbrev pub CheckedIsCovered : Type 0
+CheckedIsCovered = (c : Checked) → IsChecked c → IsCovered (object_of c) × (IsStrong c → IsCoveredStrongly (object_of c))
+
+-- ---- meanings
+
+-- strike and abort: the log of update in place without the last m open entries of a transaction is legal from base
+abbrev pub StruckLogIsLegal : Type 0
+StruckLogIsLegal =
+    (m : Meaning) (t n : ℕ) → IsCovered (object m) → m.checked.kind ≡ Undo → IsSound m
+    → IsLegal (object m).table (Some m.base) (map (λ (e : LogEntry). e.op) (keep_first (is_open_of t) (length (open_of t m.log) - n) m.log))
+
+-- a new object's meaning is sound
+abbrev pub FreshIsSound : Type 0
+FreshIsSound = (m : Meaning) → IsCovered (object m) → IsFresh m → IsSound m
+
+-- a meaning stays sound by a further operation
+abbrev pub SoundAfterApply : Type 0
+SoundAfterApply = (m : Meaning) (t k : ℕ) → IsCovered (object m) → IsSound m → MayApply m t k → IsSound (applied m t k)
+
+-- by a commit
+abbrev pub SoundAfterCommit : Type 0
+SoundAfterCommit = (old new : Meaning) (t : ℕ) → IsCovered (object old) → IsSound old → IsCommit old t new → IsSound new
+
+-- and by a strike or an abort, of which only the first n open entries of t are left
+abbrev pub SoundAfterStrike : Type 0
+SoundAfterStrike = (old new : Meaning) (t n : ℕ) → IsCovered (object old) → IsSound old → Keeps old t n new → IsSound new

@@ -1,0 +1,103 @@
+-- What the calls of an object do to its meaning.
+use Rattle.std.specs.Prelude.{◌≡◌, ℕ, ◌-◌, ◌<◌, ◌||◌, List, [], ◌∷◌, ◌++◌, map, filter, length, true, false, not, ◌==◌, Some, if◌then◌else◌}
+use Rattle.std.specs.List.{list_any}
+use Rattle.type_table.specs.Run.{IsLegal, AreEqui}
+use Rattle.type_table.specs.declared.kind.Kind.{Kind}
+use Rattle.type_table.specs.declared.kind.Kind.TheVariants.{Undo, Intentions}
+use Rattle.object_trait.specs.Object.{Object}
+use Rattle.object_trait.specs.Orders.{Each}
+use Rattle.object_trait.specs.Strike.{keep_first}
+use Rattle.object_trait.specs.Meaning.{Meaning, object, is_open_of, open_of, run_log, view_of}
+use Rattle.object_trait.specs.declared.log_entry.LogEntry.{LogEntry}
+
+-- ---- what is read
+
+-- operation k is legal in the state that t sees
+abbrev pub IsLegalFor : Meaning → ℕ → ℕ → Type 0
+IsLegalFor m t k = IsLegal m.checked.file.table (view_of m t) (k ∷ [])
+
+-- the open transactions, each once
+abbrev pub open_transactions : List LogEntry → List ℕ
+open_transactions [] = []
+open_transactions (e ∷ log) =
+    let rest = open_transactions log in
+    if e.done || list_any (λ t. t == e.by) rest then rest else e.by ∷ rest
+
+-- as it was made
+pub record IsFresh (m : Meaning) : Type 0 where
+  pub base : m.base ≡ m.checked.file.table.initial
+  pub log : m.log ≡ []
+
+-- ---- a further operation
+
+-- an entry of another open transaction
+abbrev pub IsOfAnotherOpen : ℕ → LogEntry → Type 0
+IsOfAnotherOpen t e = (e.done ≡ false) × ((e.by == t) ≡ false)
+
+-- the caller's condition: k is legal for t and conflicts with no entry of another open transaction, and the log has room
+pub record MayApply (m : Meaning) (t k : ℕ) : Type 0 where
+  pub operation : k < length m.checked.file.table.ops
+  pub legal : IsLegalFor m t k
+  pub free : Each (λ e. IsOfAnotherOpen t e → (object m).conflicts k e.op ≡ false) m.log
+  pub room : length m.log < 4294967295
+
+-- the meaning with one more entry, which is open
+abbrev pub applied : Meaning → ℕ → ℕ → Meaning
+applied m t k = record m { log = m.log ++ (record { by = t; op = k; done = false }) ∷ [] }
+
+-- ---- the end of a transaction, and its rollback
+
+-- a leading stretch of done entries moved from the log into base
+pub record IsSettled (o : Object) (base : ℕ) (log : List LogEntry) (new_base : ℕ) (new_log : List LogEntry) : Type 0 where
+  pub moved : List LogEntry
+  pub front : log ≡ moved ++ new_log
+  pub done : Each (λ e. e.done ≡ true) moved
+  pub reached : run_log o base moved ≡ Some new_base
+
+-- t's entries are done
+abbrev pub marked : ℕ → LogEntry → LogEntry
+marked t e = record e { done = e.done || e.by == t }
+
+-- a commit of t. Update in place: t's entries become done, in their places
+abbrev pub IsUndoCommit : Object → ℕ → List LogEntry → ℕ → ℕ → List LogEntry → Type 0
+IsUndoCommit o base log t = IsSettled o base (map (marked t) log)
+
+-- deferred update: t's entries leave the log, and base is equieffective to the state after them
+pub record IsIntentionsCommit (o : Object) (base : ℕ) (log : List LogEntry) (t new_base : ℕ) (new_log : List LogEntry) : Type 0 where
+  pub rest : new_log ≡ filter (λ e. not (is_open_of t e)) log
+  pub inside : o.set new_base ≡ true
+  pub reached : AreEqui o.table (Some new_base) (run_log o base (open_of t log))
+
+abbrev pub IsCommitBy : Kind → Object → ℕ → List LogEntry → ℕ → ℕ → List LogEntry → Type 0
+IsCommitBy Undo = IsUndoCommit
+IsCommitBy Intentions = IsIntentionsCommit
+
+pub record IsCommit (old : Meaning) (t : ℕ) (new : Meaning) : Type 0 where
+  pub checked : new.checked ≡ old.checked
+  pub commit : IsCommitBy old.checked.kind (object old) old.base old.log t new.base new.log
+
+-- only the first n open entries of t stay. Update in place
+abbrev pub IsUndoStrike : Object → ℕ → List LogEntry → ℕ → ℕ → ℕ → List LogEntry → Type 0
+IsUndoStrike o base log t n = IsSettled o base (keep_first (is_open_of t) n log)
+
+-- deferred update
+pub record IsIntentionsStrike (o : Object) (base : ℕ) (log : List LogEntry) (t n new_base : ℕ) (new_log : List LogEntry) : Type 0 where
+  pub same_base : new_base ≡ base
+  pub rest : new_log ≡ keep_first (is_open_of t) n log
+
+abbrev pub IsStrikeBy : Kind → Object → ℕ → List LogEntry → ℕ → ℕ → ℕ → List LogEntry → Type 0
+IsStrikeBy Undo = IsUndoStrike
+IsStrikeBy Intentions = IsIntentionsStrike
+
+-- what is left where only the first n open entries of t stay
+pub record Keeps (old : Meaning) (t n : ℕ) (new : Meaning) : Type 0 where
+  pub checked : new.checked ≡ old.checked
+  pub strike : IsStrikeBy old.checked.kind (object old) old.base old.log t n new.base new.log
+
+-- the last m open entries of t are struck
+abbrev pub IsStrike : Meaning → ℕ → ℕ → Meaning → Type 0
+IsStrike old t m new = Keeps old t (length (open_of t old.log) - m) new
+
+-- all of them are
+abbrev pub IsAbort : Meaning → ℕ → Meaning → Type 0
+IsAbort old t new = Keeps old t 0 new

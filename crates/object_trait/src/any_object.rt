@@ -1,0 +1,71 @@
+//! Objects of different kinds under one type.
+
+ghost use Rattle.std.specs.Prelude.{◌≡◌};
+
+use crate::recovery::Recovery;
+use std::alloc::AllocError;
+use table_checker::CheckedType;
+
+/// An object of any kind of recovery, boxed by the caller. Its meaning is that of the object in the
+/// box.
+#[derive(Drop)]
+pub struct AnyObject {
+    pub object: Box<dyn Recovery>,
+}
+
+impl AnyObject {
+    /// The object in this box.
+    pub fn new(object: Box<dyn Recovery>) -> AnyObject
+        ensures { result.object ≡ object }
+    {
+        AnyObject { object }
+    }
+
+    /// The box.
+    pub fn into_inner(self) -> Box<dyn Recovery>
+        ensures { result ≡ self.object }
+    {
+        let AnyObject { object } = self;
+        object
+    }
+}
+
+impl Recovery for AnyObject {
+    ghost meaning = { λ b. (Recovery-box b.object).meaning b.object.value };
+
+    fn checked(&self) -> &CheckedType {
+        self.object.checked()
+    }
+
+    fn state(&self) -> u16 {
+        self.object.state()
+    }
+
+    fn legal(&self, t: u32, k: u8) -> bool {
+        self.object.legal(t, k)
+    }
+
+    fn apply(&mut self, t: u32, k: u8) -> Result<(), AllocError> {
+        self.object.apply(t, k)
+    }
+
+    fn commit(&mut self, t: u32) {
+        self.object.commit(t)
+    }
+
+    fn abort(&mut self, t: u32) {
+        self.object.abort(t)
+    }
+
+    fn strike(&mut self, t: u32, m: u32) {
+        self.object.strike(t, m)
+    }
+
+    fn open_count(&self) -> u32 {
+        self.object.open_count()
+    }
+
+    fn is_fresh(&self) -> bool {
+        self.object.is_fresh()
+    }
+}

@@ -1,0 +1,90 @@
+//! Laws of exchanges of neighbours and of meanings: each is a function that does nothing, whose
+//! contract is the law. It calls the laws on which it stands.
+
+ghost use Rattle.object_trait.specs.Laws.{PartsSort, KeepsFirst, StruckPart, SortsLook, SortsEqui, CheckedIsCovered, StruckLogIsLegal, FreshIsSound, SoundAfterApply, SoundAfterCommit, SoundAfterStrike};
+
+use crate::log_entry::LogEntry;
+use table_checker::{lists_forward, strong_yes_covers, yes_covers};
+use type_table::{equi_after, looks_after, runs_along};
+
+/// In a list of two parts, of which the elements of one may each move behind those of the other that
+/// stand behind it, the first part can be moved to the end, neighbour by neighbour.
+pub fn parts_sort<E>()
+    ensures { PartsSort E }
+{}
+
+/// What is left after a strike: the first n of mine, and all others, in their order.
+pub fn keeps_first<E>()
+    ensures { KeepsFirst E }
+{}
+
+/// Where each of mine may move behind each later one that isn't mine, those that a strike takes out
+/// can be moved to the end.
+pub fn struck_part<E>()
+    ensures { StruckPart E }
+{}
+
+/// Where neighbours that are exchanged right commute backward, what a legal list sorts into is legal,
+/// and the list's end looks like the other's.
+pub fn sorts_look<E>()
+    ensures { SortsLook E }
+{
+    looks_after();
+}
+
+/// The same in the two-way form: the ends are equieffective.
+pub fn sorts_equi<E>()
+    ensures { SortsEqui E }
+{
+    equi_after();
+}
+
+/// A yes of the checker gives a covered object, and a strong yes one that is covered strongly.
+pub fn checked_is_covered()
+    ensures { CheckedIsCovered }
+{
+    yes_covers();
+    strong_yes_covers();
+}
+
+/// Strike and abort: the log of update in place without the last m open entries of a transaction is
+/// legal from base, since these entries can be moved to its end.
+pub fn struck_log_is_legal()
+    ensures { StruckLogIsLegal }
+{
+    parts_sort::<LogEntry>();
+    struck_part::<LogEntry>();
+    sorts_look::<LogEntry>();
+    runs_along();
+}
+
+/// A new object's meaning is sound.
+pub fn fresh_is_sound()
+    ensures { FreshIsSound }
+{}
+
+/// A meaning stays sound by a further operation that the caller may execute.
+pub fn sound_after_apply()
+    ensures { SoundAfterApply }
+{
+    runs_along();
+}
+
+/// A meaning stays sound by a commit.
+pub fn sound_after_commit()
+    ensures { SoundAfterCommit }
+{
+    runs_along();
+    lists_forward();
+}
+
+/// A meaning stays sound by a strike and by an abort.
+pub fn sound_after_strike()
+    ensures { SoundAfterStrike }
+{
+    keeps_first::<LogEntry>();
+    parts_sort::<LogEntry>();
+    struck_part::<LogEntry>();
+    sorts_look::<LogEntry>();
+    runs_along();
+}

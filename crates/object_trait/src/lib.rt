@@ -1,0 +1,19 @@
+//! What an object of any kind of recovery means, what its calls do, and the events of a history.
+#![tactic(auto)]
+
+mod any_object;
+mod event;
+mod laws;
+mod log_entry;
+mod recovery;
+#[cfg(test)]
+mod tests;
+
+pub use any_object::AnyObject;
+pub use event::{Event, EventKind};
+pub use laws::{
+    checked_is_covered, fresh_is_sound, keeps_first, parts_sort, sorts_equi, sorts_look,
+    sound_after_apply, sound_after_commit, sound_after_strike, struck_log_is_legal, struck_part,
+};
+pub use log_entry::LogEntry;
+pub use recovery::Recovery;

@@ -1,0 +1,65 @@
+//! What an object owes, whatever its kind of recovery and whatever it keeps.
+
+ghost use Rattle.std.specs.Prelude.{◌≡◌, ◌↔◌, ◌<◌, ◌≤◌, true, Some, length, OnOk, OnErr};
+ghost use Rattle.object_trait.specs.Meaning.{Meaning, state_of, open_of};
+ghost use Rattle.object_trait.specs.Sound.{IsSound};
+ghost use Rattle.object_trait.specs.Steps.{IsLegalFor, open_transactions, IsFresh, MayApply, applied, IsCommit, IsStrike, IsAbort};
+
+use std::alloc::AllocError;
+use table_checker::CheckedType;
+
+/// An object that many transactions share, with its way of recovering from aborts.
+///
+/// Its meaning is a checked type, which no call changes, a state `base`, and a log of what was done
+/// since, oldest first. A transaction is open at the object where it has an entry that isn't done.
+pub trait Recovery: Send + Drop {
+    /// What the object means now.
+    ghost meaning: { Self → Meaning };
+
+    /// The type for whose kind of recovery the checker said yes.
+    fn checked(&self) -> &CheckedType
+        ensures { result.now ≡ (meaning self.now).checked };
+
+    /// The object's state: with update in place that after the whole log, with deferred update that
+    /// of the committed transactions alone.
+    fn state(&self) -> u16
+        ensures { state_of (meaning self.now) ≡ Some result };
+
+    /// Whether operation k of the object's table is legal in the state that transaction t sees.
+    fn legal(&self, t: u32, k: u8) -> bool
+        requires { k < length (meaning self.now).checked.file.table.ops }
+        ensures { (result ≡ true) ↔ IsLegalFor (meaning self.now) t k };
+
+    /// Executes operation k for transaction t: one more entry, which is open. The caller has seen
+    /// that k is legal for t and conflicts with no entry of another open transaction.
+    ///
+    /// # Errors
+    ///
+    /// Memory was refused, and the meaning is as it was.
+    fn apply(&mut self, t: u32, k: u8) -> Result<(), AllocError>
+        requires { MayApply (meaning self.old) t k }
+        ensures applied { OnOk result (meaning self.new ≡ applied (meaning self.old) t k) }
+        ensures unchanged { OnErr result (meaning self.new ≡ meaning self.old) };
+
+    /// Commits transaction t. With update in place its entries become done; with deferred update
+    /// they leave the log, and the state becomes one that is equieffective to that after them.
+    fn commit(&mut self, t: u32)
+        ensures { IsCommit (meaning self.old) t (meaning self.new) };
+
+    /// Aborts transaction t: its open entries leave the log.
+    fn abort(&mut self, t: u32)
+        ensures { IsAbort (meaning self.old) t (meaning self.new) };
+
+    /// Strikes the last m open entries of transaction t, which has at least m.
+    fn strike(&mut self, t: u32, m: u32)
+        requires { m ≤ length (open_of t (meaning self.old).log) }
+        ensures { IsStrike (meaning self.old) t m (meaning self.new) };
+
+    /// The number of transactions that are open at the object.
+    fn open_count(&self) -> u32
+        ensures { result ≡ length (open_transactions (meaning self.now).log) };
+
+    /// Whether the state is the type's initial one and the log is empty.
+    fn is_fresh(&self) -> bool
+        ensures { (result ≡ true) ↔ IsFresh (meaning self.now) };
+}
