@@ -1,0 +1,105 @@
+-- The headline: the serial order is legal, and kept states agree with it.
+use Rattle.std.proofs.Common.{◌≡◌, ℕ, List, [], ◌++◌, Some, slice_get, true, ◌==◌, ⊎_elim, sym, ap, ◌∙◌, subst}
+use Rattle.std.proofs.lemmas.Bool.{not_from_true, true_from_ne_false, true≢false}
+use Rattle.std.proofs.lemmas.List.{append-nil}
+use Rattle.type_table.specs.Commute.{CommutesBackwardBothWays, CommutesStrongly}
+use Rattle.type_table.specs.Run.{run, Looks, AreEqui}
+use Rattle.type_table.specs.Laws.{RunsAlong}
+use Rattle.type_table.specs.declared.kind.Kind.{Kind}
+use Rattle.type_table.specs.declared.kind.Kind.TheVariants.{Undo, Intentions}
+use Rattle.table_checker.specs.Lists.{ListsForward}
+use Rattle.object_trait.specs.Object.{Object, IsCoveredStrongly}
+use Rattle.object_trait.specs.Laws.{PartsSort, StruckPart, SortsLook, SortsEqui}
+use Rattle.object_trait.specs.Meaning.{Meaning, object, state_by, run_log}
+use Rattle.object_trait.specs.declared.event.Event.{Event}
+use Rattle.object_trait.specs.declared.log_entry.LogEntry.{LogEntry}
+use Rattle.serial_order.specs.Operations.{ops}
+use Rattle.serial_order.specs.History.{commits, seen, standing}
+use Rattle.serial_order.specs.Machine.{IsRun, AreCovered}
+use Rattle.serial_order.specs.Serial.{standing_at, serial_at, pending_at, IsSerial}
+use Rattle.serial_order.specs.Stand.{StandsBy, StandsFor, IsIdle, KeptAgreesBy, KeptAgrees}
+use Rattle.serial_order.specs.Laws.{may_pass, Headline}
+use Rattle.serial_order.specs.declared.entry.Entry.{Entry}
+use Rattle.serial_order.proofs.Pairs.{each-both, each-filter}
+use Rattle.serial_order.proofs.Lists.{filter-none, ops-append}
+use Rattle.serial_order.proofs.Legal.{legal-front}
+use Rattle.serial_order.proofs.Undo.{covers_undo, passes_parts, passes-commute}
+use Rattle.serial_order.proofs.StandUndo.{undo_stands-run}
+use Rattle.serial_order.proofs.Facts.{IsLegalAt}
+use Rattle.serial_order.proofs.Runs.{transactions_in_run, pending_is_open}
+use Rattle.serial_order.proofs.CommitOrder.{undo_in_run}
+use Rattle.serial_order.proofs.Views.{by_kind, deferred_in_run}
+
+-- ---- commuting
+
+-- neighbours of which the first may pass the second commute backward in both ways, where the yes is strong
+passes_both_ways : (o : Object) → IsCoveredStrongly o → o.kind ≡ Undo → (a b : Entry) → may_pass o a b ≡ true → CommutesBackwardBothWays o.table o.set b.op a.op
+passes_both_ways o covered undo a b free =
+    subst (λ (kind : Kind). CommutesStrongly kind o.table o.set b.op a.op) undo (covered.commute b.op a.op (passes_parts o a b free).1)
+
+-- ---- idle objects
+
+-- at an idle object nothing is pending
+idle_none_pending : (objects : List Object) (H : List Event) (x : ℕ) → IsRun objects H → IsIdle x H → pending_at x H ≡ []
+idle_none_pending objects H x run idle = filter-none _ (standing_at x H)
+    (each-both
+    (λ e began closed. not_from_true _ (true_from_ne_false _ (λ pending. true≢false (sym (pending_is_open (seen H) e.by (began.0) (began.1) pending) ∙ closed))))
+    (standing_at x H) (each-filter _ (λ e. e.at == x) (standing H) (transactions_in_run objects H run).stand) idle)
+
+-- ---- the serial order
+
+module _ (along : RunsAlong) (parts : PartsSort Entry) (struck : StruckPart Entry) (look : SortsLook Entry) (equi : SortsEqui Entry) (forward : ListsForward)
+    (objects : List Object) (H : List Event) (covered : AreCovered objects) (going : IsRun objects H) where
+  -- update in place: commit order is legal, and the view's end looks like its end
+  in_commit_order : (x : ℕ) (o : Object) → slice_get objects x ≡ Some o → o.kind ≡ Undo
+      → IsLegalAt o (ops (serial_at x H ++ pending_at x H)) × Looks o.table (run o.table (Some o.table.initial) (ops (standing_at x H))) (run o.table (Some o.table.initial) (ops (serial_at x H ++ pending_at x H)))
+  in_commit_order x o there undo =
+      let facts = undo_in_run along parts struck look objects H x o covered going there undo in
+      look o.table o.set (λ e. e.op) (may_pass o) o.table.initial (standing_at x H) (serial_at x H ++ pending_at x H)
+      ((covered x o there).closed) ((covered x o there).begins_inside) (passes-commute o (covers_undo o (covered x o there) undo)) facts.sorts facts.legal
+
+  -- and equieffective to it where the yes is strong
+  in_commit_order_strongly : (x : ℕ) (o : Object) → slice_get objects x ≡ Some o → o.kind ≡ Undo → IsCoveredStrongly o
+      → AreEqui o.table (run o.table (Some o.table.initial) (ops (standing_at x H))) (run o.table (Some o.table.initial) (ops (serial_at x H ++ pending_at x H)))
+  in_commit_order_strongly x o there undo strong =
+      let facts = undo_in_run along parts struck look objects H x o covered going there undo in
+      (equi o.table o.set (λ e. e.op) (may_pass o) o.table.initial (standing_at x H) (serial_at x H ++ pending_at x H)
+      strong.closed strong.begins_inside (passes_both_ways o strong undo) facts.sorts facts.legal).1
+
+  -- the serial order is legal
+  serial_is_legal : IsSerial objects H
+  serial_is_legal x o there = ⊎_elim
+      (λ (undo : o.kind ≡ Undo). legal-front along o.table (Some o.table.initial) (ops (serial_at x H)) (ops (pending_at x H))
+      (rw (ops-append (serial_at x H) (pending_at x H)) at ((in_commit_order x o there undo).0)))
+      (λ (deferred : o.kind ≡ Intentions). (deferred_in_run along forward objects H x o covered going there deferred).serial_legal)
+      (by_kind o.kind)
+
+  -- ---- kept states
+
+  -- update in place
+  kept_undo : (x : ℕ) (o : Object) (base : ℕ) (log : List LogEntry) → slice_get objects x ≡ Some o → o.kind ≡ Undo
+      → StandsBy Undo o base log x (commits H) (standing_at x H) → KeptAgreesBy Undo o (run_log o base log) x H
+  kept_undo x o base log there undo stands idle =
+      let same = sym (undo_stands-run o base log x (commits H) (standing_at x H) stands along) in
+      let none = idle_none_pending objects H x going idle in
+      let end = ap (λ W. serial_at x H ++ W) none ∙ append-nil (serial_at x H) in (
+        rw (same, ← end) ((in_commit_order x o there undo).1),
+        λ strong. rw (same, ← end) (in_commit_order_strongly x o there undo strong),
+      )
+
+  -- both kinds
+  kept_agrees : (x : ℕ) (m : Meaning) → slice_get objects x ≡ Some (object m) → StandsFor m x H → KeptAgrees m x H
+  kept_agrees x m there stands =
+      let P : Kind → Type 0 = λ kind. StandsBy kind (object m) m.base m.log x (commits H) (standing_at x H)
+      → KeptAgreesBy kind (object m) (state_by kind (object m) m.base m.log) x H in
+      ⊎_elim
+      (λ (undo : m.checked.kind ≡ Undo). subst P (sym undo) (kept_undo x (object m) m.base m.log there undo) stands)
+      (λ (deferred : m.checked.kind ≡ Intentions). subst P (sym deferred) (λ held. held.reached) stands)
+      (by_kind m.checked.kind)
+
+-- the headline
+pub headline : RunsAlong → PartsSort Entry → StruckPart Entry → SortsLook Entry → SortsEqui Entry → ListsForward → Headline
+headline along parts struck look equi forward objects H covered going = record {
+  serially_legal = serial_is_legal along parts struck look equi forward objects H covered going;
+  kept = kept_agrees along parts struck look equi forward objects H covered going;
+}

@@ -1,0 +1,61 @@
+-- Runs from a state: what is legal in front and behind, and what stays so of the states that they reach.
+use Rattle.std.proofs.Common.{◌≡◌, ℕ, Bool, true, List, [], ◌∷◌, ◌++◌, Option, Some, None, IsSome, refl, ap, ◌∙◌}
+use Rattle.std.proofs.lemmas.Bool.{false≢true}
+use Rattle.type_table.specs.Table.{Table, next}
+use Rattle.type_table.specs.Run.{run, IsLegal, Looks, AreEqui}
+use Rattle.type_table.specs.StateSet.{IsClosed}
+use Rattle.type_table.specs.Laws.{RunsAlong}
+use Rattle.serial_order.specs.Operations.{ops}
+use Rattle.serial_order.specs.declared.entry.Entry.{Entry}
+use Rattle.serial_order.proofs.Lists.{ops-append}
+
+-- ---- states
+
+-- what is there is some state
+pub some_state : (from : Option ℕ) → IsSome from → (s : ℕ) × (from ≡ Some s)
+some_state None there = absurd (false≢true there)
+some_state (Some s) there = (s, refl)
+
+-- a run from a state of a closed set ends in the set
+pub run-inside : (T : Table) (set : ℕ → Bool) → IsClosed T set → (from : Option ℕ) (w : List ℕ) →
+    ((s : ℕ) → from ≡ Some s → set s ≡ true) → (s : ℕ) → run T from w ≡ Some s → set s ≡ true
+run-inside T set closed from [] inside s reached = inside s reached
+run-inside T set closed None (k ∷ w) inside s reached = run-inside T set closed None w inside s reached
+run-inside T set closed (Some a) (k ∷ w) inside s reached = run-inside T set closed (next T a k) w (λ b step. closed a k b (inside a refl) step) s reached
+
+-- a state of the set is whatever state it is
+pub starts_inside : (set : ℕ → Bool) (a : ℕ) → set a ≡ true → (s : ℕ) → Some a ≡ Some s → set s ≡ true
+starts_inside set a member s same = cc
+
+-- ---- what is legal
+
+-- where a list is legal, there is a state
+legal-somewhere : (T : Table) (from : Option ℕ) (w : List ℕ) → IsLegal T from w → IsSome from
+legal-somewhere T None [] legal = legal
+legal-somewhere T None (k ∷ w) legal = legal-somewhere T None w legal
+legal-somewhere T (Some s) w legal = refl
+
+-- the front of a legal list is legal
+pub legal-front : RunsAlong → (T : Table) (from : Option ℕ) (v w : List ℕ) → IsLegal T from (v ++ w) → IsLegal T from v
+legal-front along T from v w legal = legal-somewhere T (run T from v) w (rw (along T from v w) at legal)
+
+-- what is legal behind a list is legal from the state after it
+pub legal-behind : RunsAlong → (T : Table) (from : Option ℕ) (v w : List ℕ) (s : ℕ) → run T from v ≡ Some s → IsLegal T from (v ++ w) → IsLegal T (Some s) w
+legal-behind along T from v w s reached legal = rw (along T from v w, reached) at legal
+
+-- and the converse
+pub legal-after : RunsAlong → (T : Table) (from : Option ℕ) (v w : List ℕ) (s : ℕ) → run T from v ≡ Some s → IsLegal T (Some s) w → IsLegal T from (v ++ w)
+legal-after along T from v w s reached legal = rw (along T from v w, reached) legal
+
+-- ---- two lists
+
+-- a run along two lists of operations that stand
+pub run-append : RunsAlong → (T : Table) (from : Option ℕ) (V W : List Entry) → run T from (ops (V ++ W)) ≡ run T (run T from (ops V)) (ops W)
+run-append along T from V W = ap (run T from) (ops-append V W) ∙ along T from (ops V) (ops W)
+
+-- equieffective states are so after the same operations
+pub run-equi : RunsAlong → (T : Table) (a b : Option ℕ) (w : List ℕ) → AreEqui T a b → AreEqui T (run T a w) (run T b w)
+run-equi along T a b w equi = (one_way a b equi.0, one_way b a equi.1)
+  where
+    one_way : (c d : Option ℕ) → Looks T c d → Looks T (run T c w) (run T d w)
+    one_way c d looks = λ ks legal. rw (along T d w ks) at (looks (w ++ ks) (rw (along T c w ks) legal))

@@ -1,0 +1,118 @@
+-- What comes of a list of commands is a run.
+use Rattle.std.proofs.Common.{◌≡◌, ℕ, suc, ◌<◌, ◌≤◌, Bool, true, false, not, ◌||◌, ◌==◌, List, [], ◌∷◌, length, get_or, Option, Some, None, IfSome, is_some, refl, ◌∙◌, inl, inr, arith}
+use Rattle.std.specs.Prelude.{slice_get, nat_lt, if◌then◌else◌}
+use Rattle.std.specs.Str.{bytes_eq}
+use Rattle.std.proofs.lemmas.Bool.{cases_Bool, false≢true, true≢false, not-false, or_parts, and_right, eqb-false, ltb-false}
+use Rattle.std.proofs.lemmas.List.{get_or-map}
+use Rattle.std.proofs.lemmas.List.Quantifiers.{position-Some}
+use Rattle.std.proofs.lemmas.Slice.Eq.{bytes_eq-Decides}
+use Rattle.type_table.specs.Table.{Table, first_op, call_of}
+use Rattle.type_table.specs.declared.op.Op.{Op}
+use Rattle.object_trait.specs.Object.{Object}
+use Rattle.object_trait.specs.declared.event.Event.{Event}
+use Rattle.object_trait.specs.declared.event.EventKind.{EventKind}
+use Rattle.serial_order.specs.Operations.{of}
+use Rattle.serial_order.specs.History.{seen, is_open}
+use Rattle.serial_order.specs.Machine.{IsFirstOfCall, May, IsRun}
+use Rattle.serial_order.specs.Replay.{call_at, refusal, call_event, event_of, appended, after_command, replay_from}
+use Rattle.serial_order.specs.Laws.{RunGoesOn, ReplayRuns}
+use Rattle.serial_order.specs.declared.command.Command.{Command}
+use Rattle.serial_order.specs.declared.command.Command.TheVariants.{Begin, Call, Commit, Abort, Rollback}
+use Rattle.serial_order.specs.declared.refusal.Refusal.TheVariants.{NotOpen, NoObject, NoCall, BadRollback}
+use Rattle.serial_order.proofs.Answers.{answer_may_follow}
+
+-- ---- the first operation of a call
+
+-- the name of the call of an operation of the table
+call_of-within : (T : Table) (k : ℕ) (d : Op) → k < length T.ops → call_of T k ≡ (get_or T.ops k d).call
+call_of-within T k d below = get_or-map (λ (o : Op). o.call) T.ops k d [] below
+
+-- the operation that a name finds is an operation, and the least of its call
+first_op-least : (o : Object) (name : List ℕ) (c : ℕ) → first_op o.table name ≡ Some c → IsFirstOfCall o c
+first_op-least o name c found =
+    let d : Op = record { call = []; reply = [] } in
+    let place = position-Some (λ (q : Op). bytes_eq q.call name) o.table.ops c d found in
+    let name_of_c = call_of-within o.table c d place.0 ∙ (bytes_eq-Decides (get_or o.table.ops c d).call name).0 place.1 in (
+      place.0,
+      λ k before. and_right (nat_lt k (length o.table.ops)) (bytes_eq (call_of o.table k) (call_of o.table c))
+          (rw (name_of_c, call_of-within o.table k d (omega (arith, before, place.0))) (place.2 k before)),
+    )
+
+-- ---- commands that aren't refused
+
+-- where a reason isn't given, it doesn't hold, and none behind it is given
+passed : {E : Type 0} (reason : Bool) (e : E) (rest : Option E) → is_some (if reason then Some e else rest) ≡ false → (reason ≡ false) × (is_some rest ≡ false)
+passed true e rest fine = absurd (true≢false fine)
+passed false e rest fine = (refl, fine)
+
+-- a command whose transaction is open
+passed_open : {E : Type 0} (is_open_now : Bool) (e : E) (rest : Option E) → is_some (if not is_open_now then Some e else rest) ≡ false → (is_open_now ≡ true) × (is_some rest ≡ false)
+passed_open is_open_now e rest fine = let h = passed (not is_open_now) e rest fine in (not-false is_open_now h.0, h.1)
+
+-- a call of an open transaction at an object that is there, by a name that one of its operations has
+call_follows : (objects : List Object) (H : List Event) (t x : ℕ) (name : List ℕ) → is_open (seen H) t ≡ true →
+    (there : Option Object) → slice_get objects x ≡ there → is_some there ≡ true →
+    (first : Option ℕ) → call_at there name ≡ first → is_some first ≡ true →
+    IfSome (call_event there (seen H) x t first) (May objects (seen H))
+call_follows objects H t x name open_now None at_x some first finds named = absurd (false≢true some)
+call_follows objects H t x name open_now (Some o) at_x some None finds named = absurd (false≢true named)
+call_follows objects H t x name open_now (Some o) at_x some (Some c) finds named =
+    answer_may_follow objects H x o 0 t c at_x open_now (first_op-least o name c finds)
+
+-- a rollback of some operations, and of no more than there are
+rollback_range : (n most : ℕ) → (n == 0 || nat_lt most n) ≡ false → (0 < n) × (n ≤ most)
+rollback_range n most fine =
+    let h = or_parts (n == 0) (nat_lt most n) fine in
+    (omega (arith, eqb-false n 0 h.0), ltb-false most n h.1)
+
+-- what comes of a command that isn't refused may follow
+event_follows : (objects : List Object) (most : ℕ) (H : List Event) (command : Command) → is_some (refusal objects most H command) ≡ false →
+    IfSome (event_of objects (seen H) command) (May objects (seen H))
+event_follows objects most H Begin fine = refl
+event_follows objects most H (Call t x name) fine =
+    let a = passed_open (is_open (seen H) t) NotOpen _ fine in
+    let b = passed_open (is_some (slice_get objects x)) NoObject _ a.1 in
+    let c = passed_open (is_some (call_at (slice_get objects x) name)) NoCall _ b.1 in
+    call_follows objects H t x name a.0 (slice_get objects x) refl b.0 (call_at (slice_get objects x) name) refl c.0
+event_follows objects most H (Commit t) fine = (passed_open (is_open (seen H) t) NotOpen _ fine).0
+event_follows objects most H (Abort t) fine = (passed_open (is_open (seen H) t) NotOpen _ fine).0
+event_follows objects most H (Rollback t n) fine =
+    let a = passed_open (is_open (seen H) t) NotOpen _ fine in
+    let b = passed (n == 0 || nat_lt (length (of t (seen H).stands)) n) BadRollback _ a.1 in
+    let range = rollback_range n (length (of t (seen H).stands)) b.0 in
+    (a.0, range.0, range.1)
+
+-- ---- the history after commands
+
+-- a run goes on by an event that may follow, and by none
+appended_runs : RunGoesOn → (objects : List Object) (H : List Event) (w : ℕ) (happened : Option EventKind) → IsRun objects H →
+    IfSome happened (May objects (seen H)) → IsRun objects (appended H w happened)
+appended_runs goes_on objects H w None runs may = runs
+appended_runs goes_on objects H w (Some k) runs may = goes_on objects H (record { worker = w; kind = k }) runs may
+
+-- and by a command, refused or not
+command_runs : RunGoesOn → (objects : List Object) (most : ℕ) (H : List Event) (w : ℕ) (command : Command) → IsRun objects H →
+    IsRun objects (after_command objects most H w command)
+command_runs goes_on objects most H w command runs =
+    elim (cases_Bool (is_some (refusal objects most H command))) [
+      | inl refused ↦ rw refused runs
+      | inr fine ↦ rw fine (appended_runs goes_on objects H w (event_of objects (seen H) command) runs (event_follows objects most H command fine))
+    ]
+
+-- one of two runs is a run
+either_runs : (objects : List Object) (test : Bool) (H K : List Event) → IsRun objects H → IsRun objects K → IsRun objects (if test then H else K)
+either_runs objects true H K first second = first
+either_runs objects false H K first second = second
+
+-- so the history after commands from a place on
+commands_run : RunGoesOn → (objects : List Object) (most : ℕ) (wanting : ℕ → Bool) (place : ℕ) (H : List Event) (commands : List (ℕ × Command)) →
+    IsRun objects H → IsRun objects (replay_from objects most wanting place H commands)
+commands_run goes_on objects most wanting place H [] runs = runs
+commands_run goes_on objects most wanting place H (c ∷ commands) runs =
+    let after = after_command objects most H (c.0) (c.1) in
+    commands_run goes_on objects most wanting (suc place) (if wanting place then H else after) commands
+    (either_runs objects (wanting place) H after runs (command_runs goes_on objects most H (c.0) (c.1) runs))
+
+-- the history after any commands is a run
+pub replay_runs : RunGoesOn → ReplayRuns
+replay_runs goes_on = λ objects most wanting H commands runs. commands_run goes_on objects most wanting 0 H commands runs

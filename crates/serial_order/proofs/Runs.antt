@@ -1,0 +1,149 @@
+-- Runs of the machine: what is so of the empty history and stays so by each event that may follow is so of each run.
+use Rattle.std.proofs.Common.{◌≡◌, ℕ, true, false, not, ◌<◌, List, [], ◌∷◌, ◌++◌, nat_lt, refl, ◌∙◌, append-nil, append_assoc, arith, lt-ltb}
+use Rattle.std.proofs.lemmas.Bool.{false≢true, and_parts, not-true, ltb-true}
+use Rattle.object_trait.specs.Object.{Object}
+use Rattle.object_trait.specs.Orders.{Each}
+use Rattle.object_trait.specs.declared.event.Event.{Event}
+use Rattle.object_trait.specs.declared.event.EventKind.{EventKind}
+use Rattle.object_trait.specs.declared.event.EventKind.TheVariants as kind
+use Rattle.object_trait.specs.declared.event.EventKind.TheVariants.{Begin, Op, Busy, Commit, Abort, Rollback}
+use Rattle.serial_order.specs.Operations.{is_among, is_by}
+use Rattle.serial_order.specs.History.{seen, Seen, is_open}
+use Rattle.serial_order.specs.Machine.{May, MayFollow, RunsOn, IsRun}
+use Rattle.serial_order.proofs.Strikes.{keep_first-none}
+use Rattle.serial_order.proofs.Pairs.{each-weaker, each-append, each-passes, each-keep_first}
+use Rattle.serial_order.proofs.Events.{seen_after, seen-snoc}
+use Rattle.serial_order.proofs.Lists.{eqb-sym, is_among-apart, is_among-none_more, is_among-one_more}
+
+-- ---- from event to event
+
+-- what goes on from a history goes on by an event that may follow
+pub runs_on-snoc : (objects : List Object) (before H : List Event) (e : Event) → RunsOn objects before H → MayFollow objects (before ++ H) e → RunsOn objects before (H ++ e ∷ [])
+runs_on-snoc objects before [] e run may = (rw (append-nil before) at may, tt)
+runs_on-snoc objects before (f ∷ H) e run may = (run.0, runs_on-snoc objects (before ++ f ∷ []) H e run.1 (rw (append_assoc before (f ∷ []) H) may))
+
+-- what stays so by each event that may follow is so after each run that goes on from a run
+runs_on : (objects : List Object) (P : List Event → Type 0) → ((H : List Event) (e : Event) → IsRun objects H → MayFollow objects H e → P H → P (H ++ e ∷ []))
+    → (before H : List Event) → IsRun objects before → P before → RunsOn objects before H → P (before ++ H)
+runs_on objects P step before [] run known on = rw (append-nil before) known
+runs_on objects P step before (e ∷ H) run known on =
+    rw (append_assoc before (e ∷ []) H) at (runs_on objects P step (before ++ e ∷ []) H (runs_on-snoc objects [] before e run on.0) (step before e run on.0 known) on.1)
+
+-- what is so of the empty history, and stays so by an event that may follow a run, is so of each run
+pub in_run : (objects : List Object) (P : List Event → Type 0) → P []
+    → ((H : List Event) (e : Event) → IsRun objects H → MayFollow objects H e → P H → P (H ++ e ∷ []))
+    → (H : List Event) → IsRun objects H → P H
+in_run objects P start step H run = runs_on objects P step [] H tt start run
+
+-- ---- open transactions
+
+-- what is known of an open transaction
+pub record IsOpenIn (s : Seen) (t : ℕ) : Type 0 where
+  pub began : t < s.begun
+  pub uncommitted : is_among s.committed t ≡ false
+  pub kept : is_among s.aborted t ≡ false
+
+-- an open transaction began, and neither committed nor aborted
+pub of_open : (s : Seen) (t : ℕ) → is_open s t ≡ true → IsOpenIn s t
+of_open s t open_now =
+    let parts = and_parts (nat_lt t s.begun) _ open_now in
+    let ended = and_parts (not (is_among s.committed t)) (not (is_among s.aborted t)) parts.1 in
+    record {
+      began = ltb-true t s.begun parts.0;
+      uncommitted = not-true _ ended.0;
+      kept = not-true _ ended.1;
+    }
+
+-- an operation that stands, and whose transaction didn't commit, is of an open one
+pub pending_is_open : (s : Seen) (t : ℕ) → t < s.begun → is_among s.aborted t ≡ false → is_among s.committed t ≡ false → is_open s t ≡ true
+pending_is_open s t began kept pending = rw (lt-ltb t s.begun began, pending, kept) refl
+
+-- an open transaction hasn't committed
+pub open_is_uncommitted : (s : Seen) (t : ℕ) → is_open s t ≡ true → is_among s.committed t ≡ false
+open_is_uncommitted s t open_now = (of_open s t open_now).uncommitted
+
+-- ---- transactions in a run
+
+-- what is known of transactions in a run
+pub record AreInRun (s : Seen) : Type 0 where
+  -- a transaction that ended began
+  pub committed_began : (t : ℕ) → is_among s.committed t ≡ true → t < s.begun
+  pub aborted_began : (t : ℕ) → is_among s.aborted t ≡ true → t < s.begun
+  -- none both committed and aborted
+  pub apart : (t : ℕ) → is_among s.committed t ≡ true → is_among s.aborted t ≡ false
+  -- what stands is of transactions that began and didn't abort
+  pub stand : Each (λ e. (e.by < s.begun) × (is_among s.aborted e.by ≡ false)) s.stands
+
+-- a begin keeps it
+after_begin : (s : Seen) (t : ℕ) → AreInRun s → AreInRun (seen_after s (Begin t))
+after_begin s t h = rw (append-nil s.committed, append-nil s.aborted) record {
+  committed_began = λ u is. let below = h.committed_began u is in omega arith;
+  aborted_began = λ u is. let below = h.aborted_began u is in omega arith;
+  apart = h.apart;
+  stand = each-weaker (λ e known. let below = known.0 in (omega arith, known.1)) s.stands h.stand;
+}
+
+-- an operation of an open transaction
+after_op : (s : Seen) (t x k : ℕ) → is_open s t ≡ true → AreInRun s → AreInRun (seen_after s (Op t x k))
+after_op s t x k open_now h = rw (append-nil s.committed, append-nil s.aborted) record {
+  committed_began = h.committed_began;
+  aborted_began = h.aborted_began;
+  apart = h.apart;
+  stand = each-append _ s.stands _ h.stand (((of_open s t open_now).began, (of_open s t open_now).kept), tt);
+}
+
+-- an event that changes nothing
+after_nothing : (s : Seen) → AreInRun s → AreInRun (record s { committed = s.committed ++ []; aborted = s.aborted ++ [] })
+after_nothing s h = rw (append-nil s.committed, append-nil s.aborted) h
+
+-- the commit of an open transaction
+after_commit : (s : Seen) (t : ℕ) → is_open s t ≡ true → AreInRun s → AreInRun (seen_after s (Commit t))
+after_commit s t open_now h = rw (append-nil s.aborted) record {
+  committed_began = λ u. is_among-one_more s.committed t u (λ v. v < s.begun) (of_open s t open_now).began (h.committed_began u);
+  aborted_began = h.aborted_began;
+  apart = λ u. is_among-one_more s.committed t u (λ v. is_among s.aborted v ≡ false) (of_open s t open_now).kept (h.apart u);
+  stand = h.stand;
+}
+
+-- the abort of an open transaction
+after_abort : (s : Seen) (t : ℕ) → is_open s t ≡ true → AreInRun s → AreInRun (seen_after s (Abort t))
+after_abort s t open_now h = rw (append-nil s.committed) record {
+  committed_began = h.committed_began;
+  aborted_began = λ u. is_among-one_more s.aborted t u (λ v. v < s.begun) (of_open s t open_now).began (h.aborted_began u);
+  apart = λ u is. is_among-none_more s.aborted t u (h.apart u is) (eqb-sym t u ∙ is_among-apart s.committed t u (of_open s t open_now).uncommitted is);
+  stand = rw (keep_first-none (is_by t) s.stands)
+      (each-passes _ (λ e. not (is_by t e)) s.stands
+      (each-weaker (λ e known others. (known.0, is_among-none_more s.aborted t e.by known.1 (eqb-sym t e.by ∙ not-true _ others))) s.stands h.stand));
+}
+
+-- the rollback of an open transaction
+after_rollback : (s : Seen) (t n : ℕ) → AreInRun s → AreInRun (seen_after s (Rollback t n))
+after_rollback s t n h = rw (append-nil s.committed, append-nil s.aborted) record {
+  committed_began = h.committed_began;
+  aborted_began = h.aborted_began;
+  apart = h.apart;
+  stand = each-keep_first _ (is_by t) _ s.stands h.stand;
+}
+
+-- each event that may follow keeps it
+after_event : (objects : List Object) (s : Seen) (happened : EventKind) → May objects s happened → AreInRun s → AreInRun (seen_after s happened)
+after_event objects s (Begin t) may h = after_begin s t h
+after_event objects s (Op t x k) may h = after_op s t x k may.0 h
+after_event objects s (Busy t x c u) may h = after_nothing s h
+after_event objects s (kind.None t x c) may h = after_nothing s h
+after_event objects s (Commit t) may h = after_commit s t may h
+after_event objects s (Abort t) may h = after_abort s t may h
+after_event objects s (Rollback t n) may h = after_rollback s t n h
+
+-- it is so of the empty history
+at_start : AreInRun (seen [])
+at_start = record {
+  committed_began = λ t is. absurd (false≢true is);
+  aborted_began = λ t is. absurd (false≢true is);
+  apart = λ t is. refl;
+  stand = tt;
+}
+
+-- and so of each run
+pub transactions_in_run : (objects : List Object) (H : List Event) → IsRun objects H → AreInRun (seen H)
+transactions_in_run objects = in_run objects (λ H. AreInRun (seen H)) at_start (λ H e run may known. rw (seen-snoc H e) (after_event objects (seen H) e.kind may known))

@@ -1,0 +1,95 @@
+-- Small histories, worked by hand.
+use Rattle.std.specs.Prelude.{ℕ, Bool, true, false, List, [], ◌∷◌, map, take, Some, None, nat_lt, codes}
+use Rattle.type_table.specs.Table.{Table}
+use Rattle.type_table.specs.ConflictTable.{conflicts}
+use Rattle.type_table.specs.Examples.{ok_op}
+use Rattle.type_table.specs.declared.kind.Kind.TheVariants.{Undo, Intentions}
+use Rattle.table_checker.specs.Examples.{counter_file, one_way_file}
+use Rattle.object_trait.specs.Object.{Object, object_of}
+use Rattle.object_trait.specs.declared.event.Event.{Event}
+use Rattle.object_trait.specs.declared.event.EventKind.{EventKind}
+use Rattle.object_trait.specs.declared.event.EventKind.TheVariants as kind
+use Rattle.object_trait.specs.declared.event.EventKind.TheVariants.{Begin, Op, Commit, Rollback}
+use Rattle.serial_order.specs.History.{Seen, seen}
+use Rattle.serial_order.specs.declared.command.Command.{Command}
+use Rattle.serial_order.specs.declared.command.Command.TheVariants as command
+use Rattle.serial_order.specs.declared.entry.Entry.{Entry}
+
+-- ---- how examples are written
+
+-- these events, all by worker 0
+abbrev pub events : List EventKind → List Event
+events kinds = map (λ k. record { worker = 0; kind = k }) kinds
+
+-- an operation of a transaction at an object
+abbrev pub entry : ℕ → ℕ → ℕ → Entry
+entry t x k = record { by = t; at = x; op = k }
+
+-- what the first n of some events say
+abbrev pub seen_first : ℕ → List Event → Seen
+seen_first n H = seen (take n H)
+
+-- ---- objects
+
+-- the one-way type, update in place: q, requested, conflicts with p, held, and r with q
+abbrev pub undo_one_way : Object
+undo_one_way = object_of (record { kind = Undo; file = one_way_file })
+
+-- the counter, update in place: counting up and counting down conflict
+abbrev pub undo_counter : Object
+undo_counter = object_of (record { kind = Undo; file = counter_file })
+
+-- the counter, deferred update: each operation conflicts with itself
+abbrev pub deferred_counter : Object
+deferred_counter = object_of (record { kind = Intentions; file = counter_file })
+
+-- up to two items, a or b, in no order. A state is two counts: (0,0), (0,1), (0,2), (1,0), (1,1) and (2,0). The operations put a, put
+-- b, take a and take b, and the last two are one call
+abbrev pub semiqueue : Table
+semiqueue = record {
+  name = codes "semiqueue";
+  states = 6;
+  initial = 0;
+  ops = ok_op (codes "enq:a") ∷ ok_op (codes "enq:b") ∷ (record { call = codes "deq"; reply = codes "a" }) ∷ (record { call = codes "deq"; reply = codes "b" }) ∷ [];
+  steps = Some 3 ∷ Some 1 ∷ None ∷ None ∷ Some 4 ∷ Some 2 ∷ None ∷ Some 0 ∷ None ∷ None ∷ None ∷ Some 1
+      ∷ Some 5 ∷ Some 4 ∷ Some 0 ∷ None ∷ None ∷ None ∷ Some 1 ∷ Some 3 ∷ None ∷ None ∷ Some 3 ∷ None ∷ [];
+}
+
+-- what its operations need where they are to commute backward
+abbrev pub semiqueue_pairs : List (List Bool)
+semiqueue_pairs =
+    (false ∷ false ∷ true ∷ true ∷ []) ∷ (false ∷ false ∷ true ∷ true ∷ [])
+    ∷ (true ∷ false ∷ false ∷ false ∷ []) ∷ (false ∷ true ∷ false ∷ false ∷ []) ∷ []
+
+-- the semiqueue, update in place
+abbrev pub undo_semiqueue : Object
+undo_semiqueue = record { kind = Undo; table = semiqueue; set = λ s. nat_lt s 6; conflicts = conflicts semiqueue_pairs }
+
+-- ---- histories
+
+-- q by transaction 0 and p by transaction 1, which commits first
+abbrev pub one_way_history : List Event
+one_way_history = events (Begin 0 ∷ Begin 1 ∷ Op 0 0 1 ∷ Op 1 0 0 ∷ Commit 1 ∷ Commit 0 ∷ [])
+
+-- a and b are put by a committed transaction, and taken by two that are open together
+abbrev pub semiqueue_history : List Event
+semiqueue_history =
+    events (Begin 0 ∷ Op 0 0 0 ∷ Op 0 0 1 ∷ Commit 0 ∷ Begin 1 ∷ Begin 2 ∷ Op 1 0 2 ∷ Op 2 0 3 ∷ Commit 2 ∷ Commit 1 ∷ [])
+
+-- two count up, one of them takes it back, and the other can count down
+abbrev pub lock_history : List Event
+lock_history = events (Begin 0 ∷ Begin 1 ∷ Op 0 0 0 ∷ Op 1 0 0 ∷ Rollback 0 1 ∷ Op 1 0 1 ∷ Commit 1 ∷ Commit 0 ∷ [])
+
+-- one counts up, and another can count down once the first committed
+abbrev pub deferred_history : List Event
+deferred_history = events (Begin 0 ∷ Begin 1 ∷ Op 1 0 0 ∷ kind.None 0 0 1 ∷ Commit 1 ∷ Op 0 0 1 ∷ Commit 0 ∷ [])
+
+-- one counts up at an object, at another and at the first again, and takes the last two back
+abbrev pub two_objects_history : List Event
+two_objects_history = events (Begin 0 ∷ Op 0 0 0 ∷ Op 0 1 0 ∷ Op 0 0 0 ∷ Rollback 0 2 ∷ Commit 0 ∷ [])
+
+-- ---- commands
+
+-- one counts up, and takes it back, and commits, all by worker 0
+abbrev pub up_and_back : List (ℕ × Command)
+up_and_back = (0, command.Begin) ∷ (0, command.Call 0 0 (codes "inc:1")) ∷ (0, command.Rollback 0 1) ∷ (0, command.Commit 0) ∷ []

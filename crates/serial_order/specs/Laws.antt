@@ -1,0 +1,136 @@
+-- Statements of laws: of histories, of the machine, and of objects that stand for a history.
+use Rattle.std.specs.Prelude.{◌≡◌, ◌↔◌, ℕ, ◌<◌, List, [], ◌∷◌, ◌++◌, length, filter, map, Bool, true, false, not, ◌&&◌, ◌==◌, Some, slice_get}
+use Rattle.type_table.specs.Run.{IsLegal}
+use Rattle.type_table.specs.declared.kind.Kind.TheVariants.{Undo}
+use Rattle.table_checker.specs.Checked.{Checked, IsChecked}
+use Rattle.object_trait.specs.Object.{Object, object_of}
+use Rattle.object_trait.specs.Orders.{Sorts}
+use Rattle.object_trait.specs.Strike.{keep_first}
+use Rattle.object_trait.specs.Meaning.{Meaning, object}
+use Rattle.object_trait.specs.Steps.{IsFresh, IsLegalFor, MayApply}
+use Rattle.object_trait.specs.declared.event.Event.{Event}
+use Rattle.object_trait.specs.declared.event.EventKind.TheVariants.{Op, Commit}
+use Rattle.serial_order.specs.Operations.{is_among, is_by, ops}
+use Rattle.serial_order.specs.History.{aborts, standing, seen, is_open, IsHistory}
+use Rattle.serial_order.specs.View.{view, is_legal_for}
+use Rattle.serial_order.specs.Machine.{IsFirstOfCall, MayFollow, IsRun, AreCovered}
+use Rattle.serial_order.specs.Serial.{standing_at, serial_at, pending_at, IsSerial}
+use Rattle.serial_order.specs.Stand.{StandsFor, Changes, KeptAgrees}
+use Rattle.serial_order.specs.Answer.{event_of_call}
+use Rattle.serial_order.specs.Readings.{unstruck}
+use Rattle.serial_order.specs.Replay.{replay}
+use Rattle.serial_order.specs.declared.command.Command.{Command}
+use Rattle.serial_order.specs.declared.entry.Entry.{Entry}
+
+-- ---- histories and runs
+
+-- each run of the machine is a history
+abbrev pub RunIsHistory : Type 0
+RunIsHistory = (objects : List Object) (H : List Event) → IsRun objects H → IsHistory (map (λ o. o.table) objects) H
+
+-- a run goes on by any event that may follow
+abbrev pub RunGoesOn : Type 0
+RunGoesOn = (objects : List Object) (H : List Event) (e : Event) → IsRun objects H → MayFollow objects H e → IsRun objects (H ++ e ∷ [])
+
+-- in a run, what stands is what no rollback struck, of the transactions that did not abort
+abbrev pub StandsAsRead : Type 0
+StandsAsRead =
+    (objects : List Object) (H : List Event) → IsRun objects H → standing H ≡ filter (λ e. not (is_among (aborts H) e.by)) (unstruck H)
+
+-- ---- answers
+
+-- the answer of a call is one that the machine allows
+abbrev pub AnswerMayFollow : Type 0
+AnswerMayFollow =
+    (objects : List Object) (H : List Event) (x : ℕ) (o : Object) (w t c : ℕ)
+    → slice_get objects x ≡ Some o → is_open (seen H) t ≡ true → IsFirstOfCall o c
+    → MayFollow objects H (record { worker = w; kind = event_of_call o (seen H) x t c })
+
+-- the history after any commands is a run
+abbrev pub ReplayRuns : Type 0
+ReplayRuns =
+    (objects : List Object) (most : ℕ) (wanting : ℕ → Bool) (H : List Event) (commands : List (ℕ × Command))
+    → IsRun objects H → IsRun objects (replay objects most wanting H commands)
+
+-- ---- update in place
+
+-- a, which stands before b, may move behind it
+abbrev pub may_pass : Object → Entry → Entry → Bool
+may_pass o a b = not (b.by == a.by) && not (o.conflicts b.op a.op)
+
+-- commit order: what stands sorts, neighbour by neighbour, into commit order with the open transactions last
+abbrev pub SortsIntoCommitOrder : Type 0
+SortsIntoCommitOrder =
+    (objects : List Object) (H : List Event) (x : ℕ) (o : Object) → AreCovered objects → IsRun objects H
+    → slice_get objects x ≡ Some o → o.kind ≡ Undo → Sorts (may_pass o) (standing_at x H) (serial_at x H ++ pending_at x H)
+
+-- strike and abort: the view without the last operations of an open transaction is legal, however many of them stay
+abbrev pub StruckViewIsLegal : Type 0
+StruckViewIsLegal =
+    (objects : List Object) (H : List Event) (x : ℕ) (o : Object) (t n : ℕ) → AreCovered objects → IsRun objects H
+    → slice_get objects x ≡ Some o → o.kind ≡ Undo → is_open (seen H) t ≡ true
+    → IsLegal o.table (Some o.table.initial) (ops (keep_first (is_by t) n (standing_at x H)))
+
+-- ---- both kinds
+
+-- in a run, what each open transaction sees is legal
+abbrev pub ViewsAreLegal : Type 0
+ViewsAreLegal =
+    (objects : List Object) (H : List Event) (x : ℕ) (o : Object) (t : ℕ) → AreCovered objects → IsRun objects H
+    → slice_get objects x ≡ Some o → is_open (seen H) t ≡ true → IsLegal o.table (Some o.table.initial) (ops (view o.kind (seen H) x t))
+
+-- a commit keeps the view of every other open transaction legal
+abbrev pub CommitKeepsViews : Type 0
+CommitKeepsViews =
+    (objects : List Object) (H : List Event) (x : ℕ) (o : Object) (w t u : ℕ) → AreCovered objects → IsRun objects H
+    → slice_get objects x ≡ Some o → is_open (seen H) t ≡ true → is_open (seen H) u ≡ true → (u == t) ≡ false
+    → IsLegal o.table (Some o.table.initial) (ops (view o.kind (seen (H ++ (record { worker = w; kind = Commit t }) ∷ [])) x u))
+
+-- ---- objects that stand for a history
+
+-- a new object stands for the empty history
+abbrev pub FreshStands : Type 0
+FreshStands = (m : Meaning) (x : ℕ) → IsFresh m → StandsFor m x []
+
+-- an object goes on standing for the history by each kind of event, where the event does to it what it should
+abbrev pub StandsOn : Type 0
+StandsOn =
+    (objects : List Object) (H : List Event) (e : Event) (x : ℕ) (old new : Meaning)
+    → IsRun objects H → MayFollow objects H e → slice_get objects x ≡ Some (object old)
+    → StandsFor old x H → Changes x (seen H) e.kind old new → StandsFor new x (H ++ e ∷ [])
+
+-- what an object allows is what the view allows
+abbrev pub AllowsAlike : Type 0
+AllowsAlike =
+    (m : Meaning) (x : ℕ) (H : List Event) (t k : ℕ) → is_open (seen H) t ≡ true → StandsFor m x H
+    → IsLegalFor m t k ↔ (is_legal_for (object m) (seen H) x t k ≡ true)
+
+-- an operation that the machine allows may be executed, where the log has room
+abbrev pub MachineMayApply : Type 0
+MachineMayApply =
+    (objects : List Object) (H : List Event) (w t x k : ℕ) (m : Meaning)
+    → IsRun objects H → MayFollow objects H (record { worker = w; kind = Op t x k }) → slice_get objects x ≡ Some (object m)
+    → StandsFor m x H → length m.log < 4294967295 → MayApply m t k
+
+-- ---- the headline
+
+-- the replies are those of the serial order, and kept states agree with it
+pub record IsSerialAndKept (objects : List Object) (H : List Event) : Type 0 where
+  pub serially_legal : IsSerial objects H
+  pub kept : (x : ℕ) (m : Meaning) → slice_get objects x ≡ Some (object m) → StandsFor m x H → KeptAgrees m x H
+
+-- for every list of objects covered for their kinds and every run of the machine, the committed transactions, run one after
+-- another in commit order, give the same replies at every object, with one commit order for all; and where an object stands for
+-- the history, its kept state agrees
+abbrev pub Headline : Type 0
+Headline = (objects : List Object) (H : List Event) → AreCovered objects → IsRun objects H → IsSerialAndKept objects H
+
+-- each of these types was accepted by the checker for its kind
+abbrev pub AreChecked : List Checked → Type 0
+AreChecked types = (x : ℕ) (c : Checked) → slice_get types x ≡ Some c → IsChecked c
+
+-- so for objects of types for which the checker said yes
+abbrev pub CheckedHeadline : Type 0
+CheckedHeadline =
+    (types : List Checked) (H : List Event) → AreChecked types → IsRun (map object_of types) H
+    → IsSerialAndKept (map object_of types) H

@@ -1,0 +1,11 @@
+pub mod Operations
+pub mod History
+pub mod View
+pub mod Machine
+pub mod Serial
+pub mod Stand
+pub mod Readings
+pub mod Answer
+pub mod Replay
+pub mod Laws
+pub mod Examples

@@ -1,0 +1,10 @@
+/// An operation that a transaction executed at an object.
+#[derive(Clone, Copy, Debug, PartialEq, Eq)]
+pub struct Entry {
+    /// The transaction.
+    pub by: u32,
+    /// The object, by its place.
+    pub at: u32,
+    /// The operation, by its number in the object's table.
+    pub op: u8,
+}

@@ -1,0 +1,144 @@
+//! Laws of histories, of the machine and of objects that stand for a history, up to the headline:
+//! each is a function that does nothing, whose contract is the law. It calls the laws on which it
+//! stands.
+
+ghost use Rattle.serial_order.specs.Laws.{RunIsHistory, RunGoesOn, StandsAsRead, AnswerMayFollow, ReplayRuns, SortsIntoCommitOrder, StruckViewIsLegal, ViewsAreLegal, CommitKeepsViews, FreshStands, StandsOn, AllowsAlike, MachineMayApply, Headline, CheckedHeadline};
+
+use crate::entry::Entry;
+use object_trait::{checked_is_covered, parts_sort, sorts_equi, sorts_look, struck_part};
+use table_checker::lists_forward;
+use type_table::runs_along;
+
+/// Each run of the machine is a history.
+#[tactic(auto, using(crate::proofs::Histories::run_is_history))]
+pub fn run_is_history()
+    ensures { RunIsHistory }
+{}
+
+/// A run goes on by any event that may follow.
+#[tactic(auto, using(crate::proofs::Histories::run_goes_on))]
+pub fn run_goes_on()
+    ensures { RunGoesOn }
+{}
+
+/// In a run, what stands is what no rollback struck, of the transactions that didn't abort.
+#[tactic(auto, using(crate::proofs::Readings::stands_as_read))]
+pub fn stands_as_read()
+    ensures { StandsAsRead }
+{}
+
+/// The answer of a call, as defined, is one that the machine allows, also where it is `Busy` or
+/// `None`.
+pub fn answer_may_follow()
+    ensures { AnswerMayFollow }
+{}
+
+/// The history after any list of commands is a run, wherever memory is wanted.
+#[tactic(auto, using(crate::proofs::Replays::replay_runs))]
+pub fn replay_runs()
+    ensures { ReplayRuns }
+{
+    run_goes_on();
+}
+
+/// Commit order: at an object of update in place what stands sorts, neighbour by neighbour, into
+/// commit order with the open transactions last.
+#[tactic(auto, using(crate::proofs::CommitOrder::sorts_into_commit_order))]
+pub fn sorts_into_commit_order()
+    ensures { SortsIntoCommitOrder }
+{
+    runs_along();
+    parts_sort::<Entry>();
+    struck_part::<Entry>();
+    sorts_look::<Entry>();
+}
+
+/// Strike and abort: at an object of update in place the view without the last operations of an open
+/// transaction is legal. An abort is the case of all of them.
+#[tactic(auto, using(crate::proofs::CommitOrder::struck_view_is_legal))]
+pub fn struck_view_is_legal()
+    ensures { StruckViewIsLegal }
+{
+    runs_along();
+    parts_sort::<Entry>();
+    struck_part::<Entry>();
+    sorts_look::<Entry>();
+}
+
+/// In every run, what each open transaction sees is legal.
+#[tactic(auto, using(crate::proofs::Views::views_are_legal))]
+pub fn views_are_legal()
+    ensures { ViewsAreLegal }
+{
+    runs_along();
+    parts_sort::<Entry>();
+    struck_part::<Entry>();
+    sorts_look::<Entry>();
+    lists_forward();
+}
+
+/// A commit keeps the view of every other open transaction legal.
+#[tactic(auto, using(crate::proofs::Views::commit_keeps_views))]
+pub fn commit_keeps_views()
+    ensures { CommitKeepsViews }
+{
+    views_are_legal();
+}
+
+/// A new object stands for the empty history.
+#[tactic(auto, using(crate::proofs::Standing::fresh_stands))]
+pub fn fresh_stands()
+    ensures { FreshStands }
+{}
+
+/// An object goes on standing for the history by each of the seven kinds of events.
+#[tactic(auto, using(crate::proofs::Standing::stands_on))]
+pub fn stands_on()
+    ensures { StandsOn }
+{
+    runs_along();
+}
+
+/// What an object that stands for a history allows is what the view allows.
+#[tactic(auto, using(crate::proofs::Allows::allows_alike))]
+pub fn allows_alike()
+    ensures { AllowsAlike }
+{
+    runs_along();
+}
+
+/// An operation that the machine allows may be executed at an object that stands for the history.
+pub fn machine_may_apply()
+    ensures { MachineMayApply }
+{
+    runs_along();
+}
+
+/// The headline over definitions, for every list of objects that are covered for their kinds and
+/// every run of the machine. A yes of the checker gives a covered object: `checked_headline` says it
+/// with the checker's word. An interleaving that the locks admit is a run of the machine.
+#[tactic(auto, using(crate::proofs::Kept::headline))]
+pub fn headline()
+    ensures { Headline }
+{
+    runs_along();
+    parts_sort::<Entry>();
+    struck_part::<Entry>();
+    sorts_look::<Entry>();
+    sorts_equi::<Entry>();
+    lists_forward();
+}
+
+/// The headline.
+///
+/// **Where the checker said yes for every object's type and recovery kind, then, for every
+/// interleaving of calls that the locks admit, the committed transactions, run one after another in
+/// commit order, give the same replies at every object; and whatever a kept state with no open
+/// transaction allows, the serial state allows, and the reverse where the yes is strong.**
+#[tactic(auto, using(crate::proofs::Checked::checked_headline))]
+pub fn checked_headline()
+    ensures { CheckedHeadline }
+{
+    checked_is_covered();
+    headline();
+}
