@@ -1,5 +1,5 @@
 -- What `check KIND FILE` answers.
-use Rattle.std.specs.Prelude.{◌≡◌, ◌↔◌, ℕ, Bool, true, false, List, [], ◌∷◌, ◌++◌, Option, codes, Ok, Err}
+use Rattle.std.specs.Prelude.{◌≡◌, ◌↔◌, ◌⊎◌, ℕ, Bool, true, false, List, [], ◌∷◌, ◌++◌, Option, IfSome, Result, codes, Ok, Err}
 use Rattle.std.specs.Fmt.{decimal}
 use Rattle.std.specs.Io.KnownBytes.{Appends}
 use Rattle.line_text.specs.Outcome.{outcome_of}
@@ -64,6 +64,16 @@ pub record SaysOf (says : TypeFile → Type 0) (text : List ℕ) : Type 0 where
 -- the text has a fault
 abbrev pub IsFaulty : List ℕ → Type 0
 IsFaulty text = (f : TextFault) × (outcome_of type_rules text ≡ Err f)
+
+-- a text was read: its file, or status 2 where it has a fault, or status 3
+abbrev pub ReadsText : List ℕ → Result TypeFile ℕ → Type 0
+ReadsText text (Ok file) = Describes text file
+ReadsText text (Err status) = ((status ≡ 2) × IsFaulty text) ⊎ (status ≡ 3)
+
+-- the same, where the source tells the text
+abbrev pub ReadsFile : Option (List ℕ) → Result TypeFile ℕ → Type 0
+ReadsFile held (Ok file) = IfSome held (λ text. Describes text file)
+ReadsFile held (Err status) = ((status ≡ 2) × IfSome held IsFaulty) ⊎ (status ≡ 3)
 
 -- what the status of a check for a kind, and the bytes that the output took in it, say of the text
 pub record Tells (kind : Kind) (status : ℕ) (old new : Option (List ℕ)) (text : List ℕ) : Type 0 where

@@ -6,6 +6,7 @@ ghost use Rattle.std.specs.Prelude.{◌≡◌, None};
 #[cfg(test)]
 mod memory_source;
 mod prepare;
+mod request;
 mod source;
 mod status;
 mod words;

@@ -1,8 +1,11 @@
-//! What `check` writes of the counter's text with faults, and its status.
+//! What the tasks write, and their statuses; here of the counter's text with faults.
 
 ghost use Rattle.std.specs.Prelude.{None};
 
+mod examples;
+mod make;
 mod set_of_ten;
+mod tables;
 mod types;
 mod verdicts;
 
@@ -80,6 +83,50 @@ fn changed_text(alloc: Global, whole: &str, example: &Example) -> Result<Vec<u8>
     Ok(text)
 }
 
+/// What a task is to write, and its status.
+#[derive(Clone, Copy)]
+struct Wanted<'a> {
+    out: &'a [u8],
+    err: &'a str,
+    status: u8,
+}
+
+const fn writes(out: &str) -> Wanted<'_> {
+    Wanted {
+        out: out.as_bytes(),
+        err: "",
+        status: 0,
+    }
+}
+
+const fn refuses(err: &str) -> Wanted<'_> {
+    Wanted {
+        out: b"",
+        err,
+        status: 2,
+    }
+}
+
+/// That a task over this text, at the path `ctr2.type`, comes to this.
+fn performs<R: Abort + AllocGlobal + Threads + Sync>(
+    rt: &R,
+    task: Task<'_>,
+    text: &[u8],
+    wanted: &Wanted<'_>,
+) {
+    let files = [("ctr2.type", text)];
+    let mut source = MemorySource {
+        alloc: rt.alloc(),
+        files: files.as_slice(),
+    };
+    let mut output = Sink::new(Vec::new(rt.alloc()));
+    let mut errors = Sink::new(Vec::new(rt.alloc()));
+    let next = prepare(rt, task, &mut source, &mut output, &mut errors);
+    assert_eq!(rt; errors.into_inner().as_slice(), wanted.err.as_bytes());
+    assert!(rt; output.into_inner().as_slice() == wanted.out);
+    assert_eq!(rt; next, Next::Done(wanted.status));
+}
+
 /// That a check of this text, at the path `ctr2.type`, answers so.
 fn answers<R: Abort + AllocGlobal + Threads + Sync>(
     rt: &R,
@@ -90,18 +137,12 @@ fn answers<R: Abort + AllocGlobal + Threads + Sync>(
     err: &str,
     status: u8,
 ) {
-    let files = [("ctr2.type", text)];
-    let mut source = MemorySource {
-        alloc: rt.alloc(),
-        files: files.as_slice(),
+    let wanted = Wanted {
+        out: out.as_bytes(),
+        err,
+        status,
     };
-    let mut output = Sink::new(Vec::new(rt.alloc()));
-    let mut errors = Sink::new(Vec::new(rt.alloc()));
-    let task = Task::Check { kind, path };
-    let next = prepare(rt, task, &mut source, &mut output, &mut errors);
-    assert_eq!(rt; output.into_inner().as_slice(), out.as_bytes());
-    assert_eq!(rt; errors.into_inner().as_slice(), err.as_bytes());
-    assert_eq!(rt; next, Next::Done(status));
+    performs(rt, Task::Check { kind, path }, text, &wanted);
 }
 
 #[test]
@@ -263,9 +304,10 @@ fn answers_a_path_that_names_nothing(rt: HostRuntime) {
     );
 }
 
-/// An output that takes nothing and answers an error.
+/// An output that takes so many bytes, and then answers an error.
 #[derive(Drop)]
 struct Full {
+    room: usize,
     fault: Option<OutFault>,
 }
 
@@ -274,9 +316,18 @@ impl Out for Full {
 
     ghost fault = { λ output. output.fault };
 
-    fn take(&mut self, _piece: &[u8]) -> Result<usize, Failed> {
-        self.fault = Some(OutFault::Device);
-        Err(Failed)
+    fn take(&mut self, piece: &[u8]) -> Result<usize, Failed> {
+        if self.room == 0 || piece.is_empty() {
+            self.fault = Some(OutFault::Device);
+            return Err(Failed);
+        }
+        let count = if self.room < piece.len() {
+            self.room
+        } else {
+            piece.len()
+        };
+        self.room -= count;
+        Ok(count)
     }
 
     fn fault(&self) -> Option<OutFault> {
@@ -284,20 +335,37 @@ impl Out for Full {
     }
 }
 
-#[test]
-fn fails_where_the_output_does(rt: HostRuntime) {
+/// That a task over the counter's text has status 3 where the output takes so many bytes.
+fn fails<R: Abort + AllocGlobal + Threads + Sync>(rt: &R, task: Task<'_>, room: usize) {
     let files = [("ctr2.type", COUNTER.as_bytes())];
     let mut source = MemorySource {
         alloc: rt.alloc(),
         files: files.as_slice(),
     };
-    let mut output = Full { fault: None };
+    let mut output = Full { room, fault: None };
     let mut errors = Sink::new(Vec::new(rt.alloc()));
-    let task = Task::Check {
-        kind: Kind::Intentions,
-        path: "ctr2.type",
-    };
-    let next = prepare(&rt, task, &mut source, &mut output, &mut errors);
+    let next = prepare(rt, task, &mut source, &mut output, &mut errors);
     assert_eq!(rt; next, Next::Done(3));
     assert_eq!(rt; errors.into_inner().as_slice(), b"".as_slice());
+}
+
+#[test]
+fn fails_where_the_output_does(rt: HostRuntime) -> Result<(), Fail> {
+    for room in [0, 1] {
+        let task = Task::Check {
+            kind: Kind::Intentions,
+            path: "ctr2.type",
+        };
+        fails(&rt, task, room);
+    }
+    for room in [0, 1, 187] {
+        fails(&rt, Task::Tables { path: "ctr2.type" }, room);
+        let task = Task::Make {
+            family: "counter",
+            size: "2",
+            items: vec![in rt.alloc(); "1"]?,
+        };
+        fails(&rt, task, room);
+    }
+    Ok(())
 }

@@ -10,9 +10,51 @@ fn reads_a_check(rt: HostRuntime) {
                 assert_eq!(rt; kind, wanted);
                 assert_eq!(rt; path, "ctr2.type");
             }
-            Err(_) => assert!(rt; false),
+            _ => assert!(rt; false),
         }
     }
+}
+
+/// Whether the task is the `make` of these words.
+fn is_make(task: &Task<'_>, words: &[&str]) -> bool {
+    match (task, words) {
+        (
+            Task::Make {
+                family,
+                size,
+                items,
+            },
+            [_, first, second, rest @ ..],
+        ) => family == first && size == second && items.as_slice() == rest,
+        _ => false,
+    }
+}
+
+#[test]
+fn reads_a_make(rt: HostRuntime) {
+    let lists: [&[&str]; 3] = [
+        &["make", "account", "2"],
+        &["make", "account", "2", "1"],
+        &["make", "set", "0", "2", "1", "a-b"],
+    ];
+    for words in lists {
+        let task = read_words(rt.alloc(), words);
+        assert!(rt; matches!(&task, Ok(task) if is_make(task, words)));
+    }
+}
+
+#[test]
+fn reads_tables(rt: HostRuntime) {
+    let task = read_words(rt.alloc(), &["tables", "ctr2.type"]);
+    let good = matches!(&task, Ok(Task::Tables { path: "ctr2.type" }));
+    assert!(rt; good);
+}
+
+#[test]
+fn takes_items_with_hyphens_after_two(rt: HostRuntime) {
+    let task = read_words(rt.alloc(), &["make", "set", "0", "a", "--", "-b", "--"]);
+    let wanted = ["make", "set", "0", "a", "-b", "--"];
+    assert!(rt; matches!(&task, Ok(task) if is_make(task, &wanted)));
 }
 
 #[test]
@@ -24,7 +66,7 @@ fn takes_hyphens_after_two(rt: HostRuntime) {
 
 #[test]
 fn refuses_other_words(rt: HostRuntime) -> Result<(), Fail> {
-    let lists: [&[&str]; 10] = [
+    let lists: [&[&str]; 19] = [
         &[],
         &["prove"],
         &["check"],
@@ -35,6 +77,15 @@ fn refuses_other_words(rt: HostRuntime) -> Result<(), Fail> {
         &["check", "intentions", "-x"],
         &["--", "check", "intentions", "a"],
         &["check", "--force", "intentions", "a"],
+        &["make"],
+        &["make", "account"],
+        &["make", "account", "-2", "1"],
+        &["make", "account", "2", "-1"],
+        &["make", "account", "2", "1", "--all"],
+        &["--", "make", "account", "2", "1"],
+        &["tables"],
+        &["tables", "a", "b"],
+        &["tables", "-x"],
     ];
     for words in lists {
         match read_words(rt.alloc(), words) {
@@ -47,10 +98,17 @@ fn refuses_other_words(rt: HostRuntime) -> Result<(), Fail> {
 
 #[test]
 fn helps(rt: HostRuntime) -> Result<(), Fail> {
-    let lists: [&[&str]; 4] = [&["--help"], &["-h"], &["help"], &["check", "--help"]];
-    for words in lists {
+    let lists: [(&[&str], &str); 6] = [
+        (&["--help"], "tables"),
+        (&["-h"], "make"),
+        (&["help"], "check"),
+        (&["check", "--help"], "KIND"),
+        (&["make", "--help"], "[ITEM]..."),
+        (&["tables", "-h"], "FILE"),
+    ];
+    for (words, part) in lists {
         match read_words(rt.alloc(), words) {
-            Err(WordFault::Usage { text }) => assert!(rt; text.contains("check")),
+            Err(WordFault::Usage { text }) => assert!(rt; text.contains(part)),
             _ => return Err(Fail::from("no help")),
         }
     }

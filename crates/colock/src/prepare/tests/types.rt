@@ -45,6 +45,23 @@ reach 0
 end
 ";
 
+/// The same table and set with all pairs of states that look; no conflict is needed.
+pub const MADE_IDLE: &str = "type idle
+states 3
+initial 0
+op p ok
+op q ok
+step 0 0 0
+step 0 1 0
+step 1 0 2
+step 1 1 1
+reach 0
+equi 1 0
+equi 2 0
+equi 2 1
+end
+";
+
 /// State 3 allows nothing and state 4 allows `r`: one end looks like the other, and not the reverse.
 pub const ONE_WAY: &str = "type oneway
 states 5

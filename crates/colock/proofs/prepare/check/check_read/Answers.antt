@@ -1,6 +1,6 @@
 use Rattle.std.proofs.Common.{◌≡◌, ◌↔◌, true, subst}
 use Rattle.table_checker.specs.Checked.{Checked, IsStrong}
-use Rattle.colock.proofs.prepare.check_read.Goals as goal
+use Rattle.colock.proofs.prepare.check.check_read.Goals as goal
 
 pub returns-in-Ok-clause-yes : goal.returns-in-Ok-clause-yes
 returns-in-Ok-clause-yes g c = λ e.

@@ -3,7 +3,7 @@ use Rattle.std.proofs.Common.{subst, ◌∙◌}
 use Rattle.std.specs.Io.KnownBytes.{Appends}
 use Rattle.colock.specs.Verdict.{no_line}
 use Rattle.colock.proofs.VerdictLemmas.{at_success}
-use Rattle.colock.proofs.prepare.say_no.Goals as goal
+use Rattle.colock.proofs.prepare.check.say_no.Goals as goal
 
 pub returns-in-Ok-put-clause-writes : goal.returns-in-Ok-put-clause-writes
 returns-in-Ok-put-clause-writes g c = λ _.
