@@ -2,7 +2,6 @@
 
 ghost use Rattle.std.specs.Prelude.{◌≡◌, ◌↔◌, ◌<◌, ◌≤◌, true, Some, length, OnOk, OnErr};
 ghost use Rattle.object_trait.specs.Meaning.{Meaning, state_of, open_of};
-ghost use Rattle.object_trait.specs.Sound.{IsSound};
 ghost use Rattle.object_trait.specs.Steps.{IsLegalFor, open_transactions, IsFresh, MayApply, applied, IsCommit, IsStrike, IsAbort};
 
 use std::alloc::AllocError;
