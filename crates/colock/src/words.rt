@@ -4,7 +4,7 @@ ghost use Rattle.clap.specs.Words.{app_of, kind_of};
 ghost use Rattle.clap.specs.Walk.{texts};
 ghost use Rattle.clap.specs.declared.builder.command.Command.TheViews.{out-Command as fields_of};
 ghost use Rattle.clap.specs.declared.parser.matches.ArgMatches.{ArgMatches};
-ghost use Rattle.colock.specs.Program.{AskSomething, Asks, HasRows, Parses, ReadsKinds, check_app, entry_of, make_app, program, tables_app};
+ghost use Rattle.colock.specs.Program.{AskSomething, Asks, HasRows, Parses, ReadsKinds, check_app, make_app, program, tables_app};
 ghost use Rattle.type_table.specs.Kind.{kind_word};
 ghost use Rattle.type_table.specs.declared.kind.Kind.{Kind};
 ghost use Rattle.colock.specs.Words.{AreNoTask, AreWordsOf, Asked, OnUsage, Text, asked_of};
