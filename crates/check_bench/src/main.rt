@@ -2,11 +2,7 @@
 //! accepted, and the least nanoseconds of reading it, of `check` and of `check_parallel`.
 #![tactic(auto)]
 
-ghost use Rattle.std.specs.Prelude.{◌≡◌, Some, IfSome};
-ghost use Rattle.type_table.specs.Kind.{kind_word};
-ghost use Rattle.type_table.specs.declared.kind.Kind.{Kind};
-
-use std::alloc::AllocError;
+use std::alloc::{AllocError, Global};
 use std::process::ExitCode;
 use std::rt::{Clock, Env, Files};
 use std::thread::Threads;
@@ -44,83 +40,114 @@ fn measure<R: Env + Files + Clock + Print + AllocGlobal + Threads + Sync>(
     rt: &R,
 ) -> Result<(), BenchError> {
     let words: Vec<String> = env::args(rt)?.skip(1).collect(rt.alloc())?;
-    let [kind, path, rounds] = words.as_slice() else {
-        return Err(BenchError::Usage);
-    };
-    let kind = kind_named(kind.as_str()).ok_or(BenchError::Usage)?;
+    match words.as_slice() {
+        [kind, path, rounds] => measure_file(rt, kind.as_str(), path.as_str(), rounds.as_str()),
+        _ => Err(BenchError::Usage),
+    }
+}
+
+/// Measures the file at a path.
+fn measure_file<R: Files + Clock + Print + AllocGlobal + Threads + Sync>(
+    rt: &R,
+    kind: &str,
+    path: &str,
+    rounds: &str,
+) -> Result<(), BenchError> {
+    let kind = Kind::of_word(kind.as_bytes()).ok_or(BenchError::Usage)?;
     let rounds = rounds.parse::<u32>().map_err(|_| BenchError::Usage)?;
-    let text = fs::read(rt, path.as_str())?;
-    let file = read_type(rt.alloc(), &text)?;
-    let accepted = check(file.copy(rt.alloc())?, kind).is_ok();
-    println!(rt; "accepted {accepted}")?;
-    println!(rt; "read {}", read_time(rt, &text, rounds)?)?;
-    println!(rt; "check {}", check_time(rt, &file, kind, rounds)?)?;
-    println!(rt;
-        "check_parallel {}",
-        parallel_time(rt, &file, kind, rounds)?
-    )?;
+    let text = fs::read(rt, path)?;
+    let times = times_of(rt, kind, &text, rounds)?;
+    print_times(rt, times)
+}
+
+/// Whether a file is accepted, and the least nanoseconds of each part.
+#[derive(Clone, Copy)]
+struct Times {
+    accepted: bool,
+    read: u128,
+    check: u128,
+    check_parallel: u128,
+}
+
+/// The times of a text.
+fn times_of<R: Clock + AllocGlobal + Threads + Sync>(
+    rt: &R,
+    kind: Kind,
+    text: &[u8],
+    rounds: u32,
+) -> Result<Times, BenchError> {
+    let file = read_type(rt.alloc(), text)?;
+    times_of_file(rt, kind, text, &file, rounds)
+}
+
+/// The times of a text and its file.
+fn times_of_file<R: Clock + AllocGlobal + Threads + Sync>(
+    rt: &R,
+    kind: Kind,
+    text: &[u8],
+    file: &TypeFile,
+    rounds: u32,
+) -> Result<Times, BenchError> {
+    let mut times = Times {
+        accepted: is_accepted(rt.alloc(), file, kind)?,
+        read: u128::MAX,
+        check: u128::MAX,
+        check_parallel: u128::MAX,
+    };
+    for _ in 0..rounds {
+        times.read = times.read.min(read_time(rt, text)?);
+        times.check = times.check.min(check_time(rt, file, kind)?);
+        times.check_parallel = times.check_parallel.min(parallel_time(rt, file, kind)?);
+    }
+    Ok(times)
+}
+
+/// Whether a file is accepted for a kind.
+fn is_accepted(alloc: Global, file: &TypeFile, kind: Kind) -> Result<bool, BenchError> {
+    Ok(check(file.copy(alloc)?, kind).is_ok())
+}
+
+fn print_times<R: Print>(rt: &R, times: Times) -> Result<(), BenchError> {
+    println!(rt; "accepted {}", times.accepted)?;
+    println!(rt; "read {}", times.read)?;
+    println!(rt; "check {}", times.check)?;
+    println!(rt; "check_parallel {}", times.check_parallel)?;
     Ok(())
 }
 
-/// The kind of a word.
-fn kind_named(word: &str) -> Option<Kind>
-    ensures named { (kind : Kind) → kind_word kind ≡ word.now → result ≡ Some kind }
-    ensures other { IfSome result (λ kind. kind_word kind ≡ word.now) }
-{
-    match word {
-        "undo" => Some(Kind::Undo),
-        "intentions" => Some(Kind::Intentions),
-        _ => None,
-    }
+/// The nanoseconds of a reading.
+fn read_time<R: Clock + AllocGlobal>(rt: &R, text: &[u8]) -> Result<u128, BenchError> {
+    let start = Instant::now(rt)?;
+    let file = read_type(rt.alloc(), text);
+    let time = start.elapsed(rt)?;
+    drop(file?);
+    Ok(time.as_nanos())
 }
 
-/// The least time of a reading.
-fn read_time<R: Clock + AllocGlobal>(rt: &R, text: &[u8], rounds: u32) -> Result<u128, BenchError> {
-    let mut least = u128::MAX;
-    for _ in 0..rounds {
-        let start = Instant::now(rt)?;
-        let file = read_type(rt.alloc(), text)?;
-        let time = start.elapsed(rt)?;
-        drop(file);
-        least = least.min(time.as_nanos());
-    }
-    Ok(least)
-}
-
-/// The least time of a check on one thread.
+/// The nanoseconds of a check on one thread.
 fn check_time<R: Clock + AllocGlobal>(
     rt: &R,
     file: &TypeFile,
     kind: Kind,
-    rounds: u32,
 ) -> Result<u128, BenchError> {
-    let mut least = u128::MAX;
-    for _ in 0..rounds {
-        let copy = file.copy(rt.alloc())?;
-        let start = Instant::now(rt)?;
-        let verdict = check(copy, kind);
-        let time = start.elapsed(rt)?;
-        drop(verdict);
-        least = least.min(time.as_nanos());
-    }
-    Ok(least)
+    let copy = file.copy(rt.alloc())?;
+    let start = Instant::now(rt)?;
+    let verdict = check(copy, kind);
+    let time = start.elapsed(rt)?;
+    drop(verdict);
+    Ok(time.as_nanos())
 }
 
-/// The least time of a check by all processors.
+/// The nanoseconds of a check by all processors.
 fn parallel_time<R: Clock + AllocGlobal + Threads + Sync>(
     rt: &R,
     file: &TypeFile,
     kind: Kind,
-    rounds: u32,
 ) -> Result<u128, BenchError> {
-    let mut least = u128::MAX;
-    for _ in 0..rounds {
-        let copy = file.copy(rt.alloc())?;
-        let start = Instant::now(rt)?;
-        let verdict = check_parallel(rt, copy, kind);
-        let time = start.elapsed(rt)?;
-        drop(verdict);
-        least = least.min(time.as_nanos());
-    }
-    Ok(least)
+    let copy = file.copy(rt.alloc())?;
+    let start = Instant::now(rt)?;
+    let verdict = check_parallel(rt, copy, kind);
+    let time = start.elapsed(rt)?;
+    drop(verdict);
+    Ok(time.as_nanos())
 }

@@ -4,23 +4,17 @@
 ghost use Rattle.std.specs.Prelude.{◌≡◌, None};
 
 #[cfg(test)]
-mod memory_source;
-mod prepare;
-mod request;
-mod source;
-mod status;
-mod words;
+mod tests;
 
-use prepare::{Next, out_of_memory, prepare};
-use source::FileSource;
-use status::BAD_INPUT;
+use command_files::{BAD_INPUT, FileSource, out_of_memory};
+use command_words::{WordFault, read_words};
+use commands::{Next, prepare};
+use outputs::{Out, Sink, put};
 use std::env;
 use std::io::ErrorKind;
 use std::process::ExitCode;
 use std::rt::{Env, Files};
 use std::thread::Threads;
-use type_text::{Out, Sink, put};
-use words::{WordFault, read_words};
 
 fn main(rt: HostRuntime) -> ExitCode {
     let mut err = Sink::new(rt.stderr());
@@ -46,7 +40,7 @@ fn no_words<R: AllocGlobal>(rt: &R, kind: ErrorKind) -> WordFault {
     if kind == ErrorKind::OutOfMemory {
         return WordFault::NoMemory;
     }
-    match String::from_str(rt.alloc(), "error: a word is no text\n") {
+    match String::from_str(rt.alloc(), "error: an argument is not valid UTF-8\n") {
         Ok(text) => WordFault::Usage { text },
         Err(_) => WordFault::NoMemory,
     }

@@ -7,10 +7,10 @@ mod cert_fault;
 mod laws;
 mod relation;
 mod simulation;
-#[cfg(test)]
-mod tests;
 
 pub use cert_fault::CertFault;
 pub use laws::{ends_look, same_pairs, simulation_looks};
 pub use relation::Relation;
 pub use simulation::check_simulation;
+
+pub mod worked;

@@ -8,4 +8,4 @@ pub mod Accepting
 pub mod Order
 pub mod Spelled
 pub mod Decimals
-pub mod Worked
+pub mod WorkedTexts

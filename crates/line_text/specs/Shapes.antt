@@ -5,8 +5,8 @@ use Rattle.line_text.specs.Text.{number_of}
 use Rattle.line_text.specs.declared.fault.FaultKind.{FaultKind}
 use Rattle.line_text.specs.declared.fault.FaultKind.TheVariants.{UnknownWord, BadNumber}
 use Rattle.type_table.specs.Name.{is_name}
+use Rattle.type_table.specs.Kind.{kind_of}
 use Rattle.type_table.specs.declared.kind.Kind.{Kind}
-use Rattle.type_table.specs.declared.kind.Kind.TheVariants.{Undo, Intentions}
 
 infixl 10 ◌>>=◌
 -- a step behind one that may fail, as `?` makes it
@@ -37,10 +37,7 @@ name_at words place = if is_name (word words place) then Ok (word words place) e
 
 -- the recovery kind at a place
 unfoldable pub kind_at : List (List ℕ) → ℕ → Result Kind FaultKind
-kind_at words place =
-    if bytes_eq (word words place) (codes "undo") then Ok Undo
-    else (if bytes_eq (word words place) (codes "intentions") then Ok Intentions
-    else Err UnknownWord)
+kind_at words place = or_kind UnknownWord (kind_of (word words place))
 
 -- whether the first word is this keyword
 unfoldable pub is_key : List (List ℕ) → List ℕ → Bool

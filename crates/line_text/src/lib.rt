@@ -23,5 +23,4 @@ pub use read::read_items;
 pub use section::Section;
 pub use shapes::{exactly, is_key, kind_at, name_at, number_at};
 
-#[cfg(test)]
-mod tests;
+pub mod worked;

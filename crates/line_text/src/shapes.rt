@@ -52,14 +52,7 @@ pub fn name_at(words: &[&[u8]], place: usize) -> Result<Name, FaultKind>
 pub fn kind_at(words: &[&[u8]], place: usize) -> Result<Kind, FaultKind>
     ensures { result ≡ kind_at (map (λ w. w.now) words.now) place }
 {
-    let word = word(words, place);
-    if word == b"undo".as_slice() {
-        Ok(Kind::Undo)
-    } else if word == b"intentions".as_slice() {
-        Ok(Kind::Intentions)
-    } else {
-        Err(FaultKind::UnknownWord)
-    }
+    Kind::of_word(word(words, place)).ok_or(FaultKind::UnknownWord)
 }
 
 /// The word at a place, which is empty where the line has fewer.

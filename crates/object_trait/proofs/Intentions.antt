@@ -1,6 +1,6 @@
 -- Deferred update: what its calls keep.
 use Rattle.std.proofs.Common.{◌≡◌, ℕ, Bool, true, false, not, cond, eqb, List, [], ◌∷◌, ◌++◌, take, drop, Contains, Some, refl, ap, inl, inr}
-use Rattle.std.specs.List.{filter}
+use Rattle.std.specs.List.{filter, AllByRecursion}
 use Rattle.std.proofs.lemmas.Bool.{not-true, eqb-true, cases_Bool, and_parts, and_left}
 use Rattle.std.proofs.lemmas.List.{append-nil, take-append-drop}
 use Rattle.std.proofs.lemmas.List.Elements.{filter-append}
@@ -9,9 +9,9 @@ use Rattle.type_table.specs.Run.{IsLegal, AreEqui}
 use Rattle.type_table.specs.Commute.{CommuteForward, Covers}
 use Rattle.type_table.specs.Laws.{RunsAlong}
 use Rattle.type_table.specs.declared.kind.Kind.TheVariants.{Intentions}
-use Rattle.table_checker.specs.Lists.{ListsForward}
+use Rattle.type_table.specs.Lists.{ListsForward}
 use Rattle.object_trait.specs.Object.{Object}
-use Rattle.object_trait.specs.Orders.{Each, Pairs}
+use Rattle.object_trait.specs.Orders.{Pairs}
 use Rattle.object_trait.specs.Meaning.{ops_of, is_open_of, open_of, run_log}
 use Rattle.object_trait.specs.Sound.{IsLocked, IsSoundIntentions}
 use Rattle.object_trait.specs.Steps.{IsOfAnotherOpen, IsIntentionsCommit, IsIntentionsStrike}
@@ -63,7 +63,7 @@ with_last along o base u log entry is legal =
 
 -- deferred update stays sound by a further operation
 pub intentions-applied : RunsAlong → (o : Object) (base : ℕ) (log : List LogEntry) (t k : ℕ) → IsSoundIntentions o base log → IsLegal o.table (run_log o base (open_of t log)) (k ∷ []) →
-    Each (λ e. IsOfAnotherOpen t e → o.conflicts k e.op ≡ false) log → IsSoundIntentions o base (log ++ (record { by = t; op = k; done = false }) ∷ [])
+    AllByRecursion (λ e. IsOfAnotherOpen t e → o.conflicts k e.op ≡ false) log → IsSoundIntentions o base (log ++ (record { by = t; op = k; done = false }) ∷ [])
 intentions-applied along o base log t k sound legal free =
     let entry : LogEntry = record { by = t; op = k; done = false } in
     record {

@@ -1,33 +1,33 @@
 -- Facts of each element of a list, and of each element and each later one.
 use Rattle.std.proofs.Common.{◌≡◌, ℕ, zero, suc, ◌<◌, Bool, true, false, List, [], ◌∷◌, ◌++◌, map, length, get_or, Contains, inl, inr, arith}
-use Rattle.std.specs.List.{filter}
+use Rattle.std.specs.List.{filter, AllByRecursion}
 use Rattle.std.proofs.lemmas.Bool.{cases_Bool}
-use Rattle.object_trait.specs.Orders.{Each, Pairs}
+use Rattle.object_trait.specs.Orders.{Pairs}
 
 -- ---- each element
 
 -- two facts of each element give a third
-pub each-both : {E : Type 0} {P Q S : E → Type 0} → ((x : E) → P x → Q x → S x) → (V : List E) → Each P V → Each Q V → Each S V
+pub each-both : {E : Type 0} {P Q S : E → Type 0} → ((x : E) → P x → Q x → S x) → (V : List E) → AllByRecursion P V → AllByRecursion Q V → AllByRecursion S V
 each-both f [] p q = tt
 each-both f (x ∷ V) p q = (f x p.0 q.0, each-both f V p.1 q.1)
 
 -- a fact of each element gives another
-pub each-weaker : {E : Type 0} {P Q : E → Type 0} → ((x : E) → P x → Q x) → (V : List E) → Each P V → Each Q V
+pub each-weaker : {E : Type 0} {P Q : E → Type 0} → ((x : E) → P x → Q x) → (V : List E) → AllByRecursion P V → AllByRecursion Q V
 each-weaker f [] p = tt
 each-weaker f (x ∷ V) p = (f x p.0, each-weaker f V p.1)
 
 -- of each element of a list, and of one more
-pub each-push : {E : Type 0} (P : E → Type 0) (V : List E) (e : E) → Each P V → P e → Each P (V ++ (e ∷ []))
+pub each-push : {E : Type 0} (P : E → Type 0) (V : List E) (e : E) → AllByRecursion P V → P e → AllByRecursion P (V ++ (e ∷ []))
 each-push P [] e p here = (here, tt)
 each-push P (x ∷ V) e p here = (p.0, each-push P V e p.1 here)
 
 -- of each element to which a function leads
-each-map : {A B : Type 0} (P : B → Type 0) (f : A → B) (V : List A) → Each (λ a. P (f a)) V → Each P (map f V)
+each-map : {A B : Type 0} (P : B → Type 0) (f : A → B) (V : List A) → AllByRecursion (λ a. P (f a)) V → AllByRecursion P (map f V)
 each-map P f [] p = tt
 each-map P f (x ∷ V) p = (p.0, each-map P f V p.1)
 
 -- what holds of each element that passes a test holds of each that a filter keeps
-pub each-passes : {E : Type 0} (P : E → Type 0) (test : E → Bool) (V : List E) → Each (λ x. test x ≡ true → P x) V → Each P (filter test V)
+pub each-passes : {E : Type 0} (P : E → Type 0) (test : E → Bool) (V : List E) → AllByRecursion (λ x. test x ≡ true → P x) V → AllByRecursion P (filter test V)
 each-passes P test [] p = tt
 each-passes P test (x ∷ V) p =
     elim (cases_Bool (test x)) [
@@ -36,14 +36,14 @@ each-passes P test (x ∷ V) p =
     ]
 
 -- of each element that a filter keeps
-pub each-filter : {E : Type 0} (P : E → Type 0) (test : E → Bool) (V : List E) → Each P V → Each P (filter test V)
+pub each-filter : {E : Type 0} (P : E → Type 0) (test : E → Bool) (V : List E) → AllByRecursion P V → AllByRecursion P (filter test V)
 each-filter P test V p = each-passes P test V (each-weaker (λ x h _. h) V p)
 
 -- of an element of the list
-each-at : (P : ℕ → Type 0) (V : List ℕ) (x : ℕ) → Each P V → Contains V x → P x
+each-at : (P : ℕ → Type 0) (V : List ℕ) (x : ℕ) → AllByRecursion P V → Contains V x → P x
 each-at P V x p inside = at V inside.0 p inside.1 inside.2
   where
-    at : (W : List ℕ) (k : ℕ) → Each P W → k < length W → get_or W k x ≡ x → P x
+    at : (W : List ℕ) (k : ℕ) → AllByRecursion P W → k < length W → get_or W k x ≡ x → P x
     at [] k each below e = absurd (omega arith)
     at (y ∷ W) zero each below e = rw e at each.0
     at (y ∷ W) (suc k) each below e = at W k each.1 (omega arith) e
@@ -51,12 +51,12 @@ each-at P V x p inside = at V inside.0 p inside.1 inside.2
 -- ---- each element of one list with each of another
 
 -- of the elements to which a function leads
-pub each_two-map : {A B : Type 0} (R : B → B → Type 0) (f : A → B) (V W : List A) → Each (λ a. Each (λ b. R (f a) (f b)) W) V → Each (λ x. Each (R x) (map f W)) (map f V)
-each_two-map R f V W p = each-map (λ x. Each (R x) (map f W)) f V (each-weaker (λ a. each-map (R (f a)) f W) V p)
+pub each_two-map : {A B : Type 0} (R : B → B → Type 0) (f : A → B) (V W : List A) → AllByRecursion (λ a. AllByRecursion (λ b. R (f a) (f b)) W) V → AllByRecursion (λ x. AllByRecursion (R x) (map f W)) (map f V)
+each_two-map R f V W p = each-map (λ x. AllByRecursion (R x) (map f W)) f V (each-weaker (λ a. each-map (R (f a)) f W) V p)
 
 -- of an element of the one and an element of the other
-pub each_two-at : (R : ℕ → ℕ → Type 0) (V W : List ℕ) → Each (λ x. Each (R x) W) V → (x y : ℕ) → Contains V x → Contains W y → R x y
-each_two-at R V W p x y x_in y_in = each-at (R x) W y (each-at (λ z. Each (R z) W) V x p x_in) y_in
+pub each_two-at : (R : ℕ → ℕ → Type 0) (V W : List ℕ) → AllByRecursion (λ x. AllByRecursion (R x) W) V → (x y : ℕ) → Contains V x → Contains W y → R x y
+each_two-at R V W p x y x_in y_in = each-at (R x) W y (each-at (λ z. AllByRecursion (R z) W) V x p x_in) y_in
 
 -- ---- each element and each later one
 
@@ -71,7 +71,7 @@ pairs-both f [] p q = tt
 pairs-both f (x ∷ V) p q = (each-both (f x) V p.0 q.0, pairs-both f V p.1 q.1)
 
 -- of a list, and of each of its elements with one that stands behind them
-pub pairs-push : {E : Type 0} (R : E → E → Type 0) (V : List E) (e : E) → Pairs R V → Each (λ a. R a e) V → Pairs R (V ++ (e ∷ []))
+pub pairs-push : {E : Type 0} (R : E → E → Type 0) (V : List E) (e : E) → Pairs R V → AllByRecursion (λ a. R a e) V → Pairs R (V ++ (e ∷ []))
 pairs-push R [] e p last = (tt, tt)
 pairs-push R (x ∷ V) e p last = (each-push (R x) V e p.0 last.0, pairs-push R V e p.1 last.1)
 
@@ -103,7 +103,7 @@ pub record IsBetween {E : Type 0} (mine theirs : E → Bool) (R : E → E → Ty
 
 -- where no element is both, it holds of each of mine with each of theirs
 pub each_between : {E : Type 0} (R : E → E → Type 0) (mine theirs : E → Bool) → ((x : E) → mine x ≡ true → theirs x ≡ false) → (V : List E) → Pairs (IsBetween mine theirs R) V →
-    Each (λ a. Each (R a) (filter theirs V)) (filter mine V)
+    AllByRecursion (λ a. AllByRecursion (R a) (filter theirs V)) (filter mine V)
 each_between R mine theirs apart [] p = tt
 each_between R mine theirs apart (x ∷ V) p =
     let rest = each_between R mine theirs apart V p.1 in

@@ -1,14 +1,14 @@
 -- Meanings stay sound by each call, whatever their kind of recovery.
 use Rattle.std.proofs.Common.{◌≡◌, ℕ, false, List, [], ◌∷◌, ◌++◌, Some, refl, sym, subst}
+use Rattle.std.specs.List.{AllByRecursion}
 use Rattle.type_table.specs.Run.{IsLegal}
 use Rattle.type_table.specs.Commute.{Covers}
 use Rattle.type_table.specs.Laws.{RunsAlong}
 use Rattle.type_table.specs.declared.kind.Kind.{Kind}
 use Rattle.type_table.specs.declared.kind.Kind.TheVariants.{Undo, Intentions}
 use Rattle.table_checker.specs.Checked.{Checked}
-use Rattle.table_checker.specs.Lists.{ListsForward}
+use Rattle.type_table.specs.Lists.{ListsForward}
 use Rattle.object_trait.specs.Object.{Object, object_of}
-use Rattle.object_trait.specs.Orders.{Each}
 use Rattle.object_trait.specs.Strike.{keep_first}
 use Rattle.object_trait.specs.Meaning.{object, ops_of, is_open_of, view_by}
 use Rattle.object_trait.specs.Sound.{IsSoundBy}
@@ -39,7 +39,7 @@ fresh-sound = λ m covers fresh. fresh_by m.checked.kind (object m) m.base m.log
 
 -- a sound log stays so by a further operation
 applied_by : RunsAlong → (kind : Kind) (o : Object) (base : ℕ) (log : List LogEntry) (t k : ℕ) → IsSoundBy kind o base log → IsLegal o.table (view_by kind o base log t) (k ∷ []) →
-    Each (λ e. IsOfAnotherOpen t e → o.conflicts k e.op ≡ false) log → IsSoundBy kind o base (log ++ (record { by = t; op = k; done = false }) ∷ [])
+    AllByRecursion (λ e. IsOfAnotherOpen t e → o.conflicts k e.op ≡ false) log → IsSoundBy kind o base (log ++ (record { by = t; op = k; done = false }) ∷ [])
 applied_by along Undo o base log t k sound legal free = undo-applied along o base log t k sound legal free
 applied_by along Intentions o base log t k sound legal free = intentions-applied along o base log t k sound legal free
 

@@ -1,17 +1,18 @@
 -- Exchanges of neighbours: what two parts sort into, and where lists of operations lead that are sorted into each other.
 use Rattle.std.proofs.Common.{◌≡◌, ℕ, Bool, true, List, [], ◌∷◌, ◌++◌, map, Option, Some}
+use Rattle.std.specs.List.{AllByRecursion}
 use Rattle.type_table.specs.Table.{Table, next}
 use Rattle.type_table.specs.Run.{run, IsLegal, Looks, AreEqui}
 use Rattle.type_table.specs.StateSet.{IsClosed}
-use Rattle.type_table.specs.Laws.{LooksAfter, EquiAfter}
-use Rattle.object_trait.specs.Orders.{Each, Sorts, same, swap, under, chain, Parts, none, stay, goes}
+use Rattle.type_table.specs.Laws.{IsExtended, LooksExtends, EquiExtends}
+use Rattle.object_trait.specs.Orders.{Sorts, same, swap, under, chain, Parts, none, stay, goes}
 use Rattle.object_trait.specs.Laws.{PartsSort, SortsLook, SortsEqui}
 use Rattle.object_trait.proofs.Runs.{from_state, is_there, legal_there, legal_here, related_here}
 
 -- ---- two parts
 
 -- an element moves behind a list whose elements it may pass
-sorts_behind : {E : Type 0} {free : E → E → Bool} (b : E) (A B : List E) → Each (λ a. free b a ≡ true) A → Sorts free (b ∷ (A ++ B)) (A ++ (b ∷ B))
+sorts_behind : {E : Type 0} {free : E → E → Bool} (b : E) (A B : List E) → AllByRecursion (λ a. free b a ≡ true) A → Sorts free (b ∷ (A ++ B)) (A ++ (b ∷ B))
 sorts_behind b [] B each = same
 sorts_behind b (a ∷ A) B each = chain (swap each.0) (under (sorts_behind b A B each.1))
 
@@ -24,30 +25,6 @@ parts_behind (b ∷ V) A (_ ∷ B) (goes each p) = chain (under (parts_behind V 
 -- the law of two parts
 pub parts-sort : {E : Type 0} → PartsSort E
 parts-sort = λ free V A B p. parts_behind V A B p
-
--- ---- relations of states
-
--- what is known of looks-like and of equieffective: it composes, and what is so of two states is so after the same operations
-pub record IsExtended (T : Table) (R : Option ℕ → Option ℕ → Type 0) : Type 0 where
-  pub itself : (a : Option ℕ) → R a a
-  pub through : (a b d : Option ℕ) → R a b → R b d → R a d
-  pub after : (a b : Option ℕ) (w : List ℕ) → R a b → IsLegal T a w → IsLegal T b w × R (run T a w) (run T b w)
-
--- looks-like is so
-looks-extended : LooksAfter → (T : Table) → IsExtended T (Looks T)
-looks-extended after T = record {
-  itself = λ a ks h. h;
-  through = λ a b d h k ks legal. k ks (h ks legal);
-  after = after T;
-}
-
--- and equieffective
-equi-extended : EquiAfter → (T : Table) → IsExtended T (AreEqui T)
-equi-extended after T = record {
-  itself = λ a. (λ ks h. h, λ ks h. h);
-  through = λ a b d h k. (λ ks legal. k.0 ks (h.0 ks legal), λ ks legal. h.1 ks (k.1 ks legal));
-  after = after T;
-}
 
 -- ---- sorted lists of operations
 
@@ -77,9 +54,9 @@ module _ {E : Type 0} (T : Table) (set : ℕ → Bool) (R : Option ℕ → Optio
       (second.0, ext.through (run T (Some s) (map op U)) (run T (Some s) (map op V)) (run T (Some s) (map op W)) first.1 second.1)
 
 -- what sorts looks
-pub sorts-look : {E : Type 0} → LooksAfter → SortsLook E
-sorts-look after = λ T set op free s V W closed member pairs sorts. sorted T set (Looks T) (looks-extended after T) closed op pairs V W sorts s member
+pub sorts-look : {E : Type 0} → LooksExtends → SortsLook E
+sorts-look extends = λ T set op free s V W closed member pairs sorts. sorted T set (Looks T) (extends T) closed op pairs V W sorts s member
 
 -- and is equieffective, in the two-way form
-pub sorts-equi : {E : Type 0} → EquiAfter → SortsEqui E
-sorts-equi after = λ T set op free s V W closed member pairs sorts. sorted T set (AreEqui T) (equi-extended after T) closed op pairs V W sorts s member
+pub sorts-equi : {E : Type 0} → EquiExtends → SortsEqui E
+sorts-equi extends = λ T set op free s V W closed member pairs sorts. sorted T set (AreEqui T) (extends T) closed op pairs V W sorts s member

@@ -1,8 +1,8 @@
 -- What a strike keeps of a list, and what it takes out.
 use Rattle.std.proofs.Common.{◌≡◌, ℕ, zero, suc, Bool, true, false, not, cond, List, [], ◌∷◌, take, drop, refl, ap, inl, inr}
-use Rattle.std.specs.List.{filter}
+use Rattle.std.specs.List.{filter, AllByRecursion}
 use Rattle.std.proofs.lemmas.Bool.{cases_Bool}
-use Rattle.object_trait.specs.Orders.{Each, Pairs, Parts, none, stay, goes}
+use Rattle.object_trait.specs.Orders.{Pairs, Parts, none, stay, goes}
 use Rattle.object_trait.specs.Strike.{keep_first}
 use Rattle.object_trait.specs.Laws.{KeepsFirst, StruckPart}
 use Rattle.object_trait.proofs.Lists.{each-weaker}
@@ -61,7 +61,7 @@ keeps-first = λ mine n V. (
 )
 
 -- what holds of each element holds of each that is kept
-kept_each : {E : Type 0} {mine : E → Bool} (P : E → Type 0) (n : ℕ) (V K S : List E) → Struck mine n V K S → Each P V → Each P K
+kept_each : {E : Type 0} {mine : E → Bool} (P : E → Type 0) (n : ℕ) (V K S : List E) → Struck mine n V K S → AllByRecursion P V → AllByRecursion P K
 kept_each P _ _ _ _ ended p = tt
 kept_each P n (e ∷ V) (_ ∷ K) S (other isnt s) p = (p.0, kept_each P n V K S s p.1)
 kept_each P _ (e ∷ V) (_ ∷ K) S (kept {n = n} is s) p = (p.0, kept_each P n V K S s p.1)
@@ -75,7 +75,7 @@ kept_pairs R _ (e ∷ V) (_ ∷ K) S (kept {n = n} is s) p = (kept_each (R e) n 
 kept_pairs R _ (e ∷ V) K (_ ∷ S) (struck is s) p = kept_pairs R zero V K S s p.1
 
 -- so what holds of each element holds of each after `keep_first`
-pub each-keep_first : {E : Type 0} (P : E → Type 0) (mine : E → Bool) (n : ℕ) (V : List E) → Each P V → Each P (keep_first mine n V)
+pub each-keep_first : {E : Type 0} (P : E → Type 0) (mine : E → Bool) (n : ℕ) (V : List E) → AllByRecursion P V → AllByRecursion P (keep_first mine n V)
 each-keep_first P mine n V = kept_each P n V (keep_first mine n V) (drop n (filter mine V)) (strike mine n V)
 
 -- and what holds of pairs
@@ -85,7 +85,7 @@ pairs-keep_first R mine n V = kept_pairs R n V (keep_first mine n V) (drop n (fi
 -- ---- what is struck
 
 -- where none of mine is kept, what holds of each that isn't mine holds of each that is kept
-others_each : {E : Type 0} {mine : E → Bool} (P : E → Type 0) (V K S : List E) → Struck mine zero V K S → Each (λ b. mine b ≡ false → P b) V → Each P K
+others_each : {E : Type 0} {mine : E → Bool} (P : E → Type 0) (V K S : List E) → Struck mine zero V K S → AllByRecursion (λ b. mine b ≡ false → P b) V → AllByRecursion P K
 others_each P _ _ _ ended p = tt
 others_each P (e ∷ V) (_ ∷ K) S (other isnt s) p = (p.0 isnt, others_each P V K S s p.1)
 others_each P (e ∷ V) K (_ ∷ S) (struck is s) p = others_each P V K S s p.1

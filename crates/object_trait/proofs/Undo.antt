@@ -1,13 +1,12 @@
 -- Update in place: what its calls keep.
 use Rattle.std.proofs.Common.{◌≡◌, ℕ, Bool, true, false, not, eqb, List, [], ◌∷◌, ◌++◌, map, drop, Some, refl, sym, ap, inl, inr}
-use Rattle.std.specs.List.{filter}
+use Rattle.std.specs.List.{filter, AllByRecursion}
 use Rattle.std.proofs.lemmas.Bool.{both_ways, not-true, eqb-true, eq-eqb, cases_Bool, and_parts, and_from, or_parts, or_from, not_from_false}
 use Rattle.type_table.specs.Run.{IsLegal}
 use Rattle.type_table.specs.Commute.{CommutesBackward, Covers}
 use Rattle.type_table.specs.Laws.{RunsAlong}
 use Rattle.type_table.specs.declared.kind.Kind.TheVariants.{Undo}
 use Rattle.object_trait.specs.Object.{Object}
-use Rattle.object_trait.specs.Orders.{Each}
 use Rattle.object_trait.specs.Strike.{keep_first}
 use Rattle.object_trait.specs.Meaning.{ops_of, is_open_of, run_log}
 use Rattle.object_trait.specs.Sound.{IsLocked, IsInOrder, IsSoundUndo}
@@ -29,13 +28,13 @@ differ_turned a t other =
     ]
 
 -- what the caller saw free of conflicts is locked by the new entry
-pub locked-applied : (o : Object) (t k : ℕ) (log : List LogEntry) → Each (λ e. IsOfAnotherOpen t e → o.conflicts k e.op ≡ false) log →
-    Each (λ a. IsLocked o a (record { by = t; op = k; done = false })) log
+pub locked-applied : (o : Object) (t k : ℕ) (log : List LogEntry) → AllByRecursion (λ e. IsOfAnotherOpen t e → o.conflicts k e.op ≡ false) log →
+    AllByRecursion (λ a. IsLocked o a (record { by = t; op = k; done = false })) log
 locked-applied o t k log free = each-weaker (λ a apart held other. apart (held, differ_turned a.by t other)) log free
 
 -- update in place stays sound by a further operation
 pub undo-applied : RunsAlong → (o : Object) (base : ℕ) (log : List LogEntry) (t k : ℕ) → IsSoundUndo o base log → IsLegal o.table (run_log o base log) (k ∷ []) →
-    Each (λ e. IsOfAnotherOpen t e → o.conflicts k e.op ≡ false) log → IsSoundUndo o base (log ++ (record { by = t; op = k; done = false }) ∷ [])
+    AllByRecursion (λ e. IsOfAnotherOpen t e → o.conflicts k e.op ≡ false) log → IsSoundUndo o base (log ++ (record { by = t; op = k; done = false }) ∷ [])
 undo-applied along o base log t k sound legal free =
     let entry : LogEntry = record { by = t; op = k; done = false } in
     record {

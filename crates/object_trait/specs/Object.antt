@@ -5,7 +5,8 @@ use Rattle.type_table.specs.StateSet.{has}
 use Rattle.type_table.specs.ConflictTable.{conflicts}
 use Rattle.type_table.specs.Commute.{Covers, CoversStrongly}
 use Rattle.type_table.specs.declared.kind.Kind.{Kind}
-use Rattle.table_checker.specs.Checked.{Checked, conflicts_of}
+use Rattle.table_checker.specs.Checked.{Checked}
+use Rattle.type_text.specs.TypeFile.{conflicts_of}
 
 -- its kind of recovery, its type, the states at which operations were compared, and which requested operation conflicts with which held one
 pub record Object : Type 0 where

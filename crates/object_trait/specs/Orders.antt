@@ -1,15 +1,11 @@
 -- Lists brought into another order, by exchanges of neighbours.
 use Rattle.std.specs.Prelude.{◌≡◌, Bool, true, List, [], ◌∷◌}
-
--- the fact holds of each element
-abbrev pub Each : {E : Type 0} → (E → Type 0) → List E → Type 0
-Each P [] = Unit {0}
-Each P (x ∷ xs) = P x × Each P xs
+use Rattle.std.specs.List.{AllByRecursion}
 
 -- the fact holds of each element and each later one
 abbrev pub Pairs : {E : Type 0} → (E → E → Type 0) → List E → Type 0
 Pairs R [] = Unit {0}
-Pairs R (x ∷ xs) = Each (R x) xs × Pairs R xs
+Pairs R (x ∷ xs) = AllByRecursion (R x) xs × Pairs R xs
 
 -- W is V after exchanges of neighbours. `free a b` says that a, which stands before b, may move behind it
 pub data Sorts {E : Type 0} (free : E → E → Bool) : List E → List E → Type 0 where
@@ -22,4 +18,4 @@ pub data Sorts {E : Type 0} (free : E → E → Bool) : List E → List E → Ty
 pub data Parts {E : Type 0} (free : E → E → Bool) : List E → List E → List E → Type 0 where
   none : Parts free [] [] []
   stay : {a : E} {V A B : List E} → Parts free V A B → Parts free (a ∷ V) (a ∷ A) B
-  goes : {b : E} {V A B : List E} → Each (λ a. free b a ≡ true) A → Parts free V A B → Parts free (b ∷ V) A (b ∷ B)
+  goes : {b : E} {V A B : List E} → AllByRecursion (λ a. free b a ≡ true) A → Parts free V A B → Parts free (b ∷ V) A (b ∷ B)

@@ -1,10 +1,11 @@
 -- When what an object means can be trusted: what each call of it needs and keeps.
 use Rattle.std.specs.Prelude.{◌≡◌, ℕ, List, true, false, ◌==◌, Some}
+use Rattle.std.specs.List.{AllByRecursion}
 use Rattle.type_table.specs.Run.{IsLegal}
 use Rattle.type_table.specs.declared.kind.Kind.{Kind}
 use Rattle.type_table.specs.declared.kind.Kind.TheVariants.{Undo, Intentions}
 use Rattle.object_trait.specs.Object.{Object}
-use Rattle.object_trait.specs.Orders.{Each, Pairs}
+use Rattle.object_trait.specs.Orders.{Pairs}
 use Rattle.object_trait.specs.Meaning.{Meaning, object, ops_of, open_of}
 use Rattle.object_trait.specs.declared.log_entry.LogEntry.{LogEntry}
 
@@ -26,7 +27,7 @@ pub record IsSoundUndo (o : Object) (base : ℕ) (log : List LogEntry) : Type 0 
 -- deferred update: all entries are open, and those of each transaction are legal from base
 pub record IsSoundIntentions (o : Object) (base : ℕ) (log : List LogEntry) : Type 0 where
   pub inside : o.set base ≡ true
-  pub all_open : Each (λ e. e.done ≡ false) log
+  pub all_open : AllByRecursion (λ e. e.done ≡ false) log
   pub legal : (t : ℕ) → IsLegal o.table (Some base) (ops_of (open_of t log))
   pub locked : Pairs (IsLocked o) log
 

@@ -1,11 +1,10 @@
 -- What the calls of an object do to its meaning.
 use Rattle.std.specs.Prelude.{◌≡◌, ℕ, ◌-◌, ◌<◌, ◌||◌, List, [], ◌∷◌, ◌++◌, map, filter, length, true, false, not, ◌==◌, Some, if◌then◌else◌}
-use Rattle.std.specs.List.{list_any}
+use Rattle.std.specs.List.{list_any, AllByRecursion}
 use Rattle.type_table.specs.Run.{IsLegal, AreEqui}
 use Rattle.type_table.specs.declared.kind.Kind.{Kind}
 use Rattle.type_table.specs.declared.kind.Kind.TheVariants.{Undo, Intentions}
 use Rattle.object_trait.specs.Object.{Object}
-use Rattle.object_trait.specs.Orders.{Each}
 use Rattle.object_trait.specs.Strike.{keep_first}
 use Rattle.object_trait.specs.Meaning.{Meaning, object, is_open_of, open_of, run_log, view_of}
 use Rattle.object_trait.specs.declared.log_entry.LogEntry.{LogEntry}
@@ -38,7 +37,7 @@ IsOfAnotherOpen t e = (e.done ≡ false) × ((e.by == t) ≡ false)
 pub record MayApply (m : Meaning) (t k : ℕ) : Type 0 where
   pub operation : k < length m.checked.file.table.ops
   pub legal : IsLegalFor m t k
-  pub free : Each (λ e. IsOfAnotherOpen t e → (object m).conflicts k e.op ≡ false) m.log
+  pub free : AllByRecursion (λ e. IsOfAnotherOpen t e → (object m).conflicts k e.op ≡ false) m.log
   pub room : length m.log < 4294967295
 
 -- the meaning with one more entry, which is open
@@ -51,7 +50,7 @@ applied m t k = record m { log = m.log ++ (record { by = t; op = k; done = false
 pub record IsSettled (o : Object) (base : ℕ) (log : List LogEntry) (new_base : ℕ) (new_log : List LogEntry) : Type 0 where
   pub moved : List LogEntry
   pub front : log ≡ moved ++ new_log
-  pub done : Each (λ e. e.done ≡ true) moved
+  pub done : AllByRecursion (λ e. e.done ≡ true) moved
   pub reached : run_log o base moved ≡ Some new_base
 
 -- t's entries are done

@@ -1,11 +1,11 @@
 //! Laws of exchanges of neighbours and of meanings: each is a function that does nothing, whose
-//! contract is the law. It calls the laws on which it stands.
+//! contract is the law. It calls the laws on which it depends.
 
 ghost use Rattle.object_trait.specs.Laws.{PartsSort, KeepsFirst, StruckPart, SortsLook, SortsEqui, CheckedIsCovered, StruckLogIsLegal, FreshIsSound, SoundAfterApply, SoundAfterCommit, SoundAfterStrike};
 
 use crate::log_entry::LogEntry;
-use table_checker::{lists_forward, strong_yes_covers, yes_covers};
-use type_table::{equi_after, looks_after, runs_along};
+use table_checker::{strong_yes_covers, yes_covers};
+use type_table::{equi_extends, lists_forward, looks_extends, runs_along};
 
 /// In a list of two parts, of which the elements of one may each move behind those of the other that
 /// stand behind it, the first part can be moved to the end, neighbour by neighbour.
@@ -29,14 +29,14 @@ pub fn struck_part<E>()
 pub fn sorts_look<E>()
     ensures { SortsLook E }
 {
-    looks_after();
+    looks_extends();
 }
 
 /// The same in the two-way form: the ends are equieffective.
 pub fn sorts_equi<E>()
     ensures { SortsEqui E }
 {
-    equi_after();
+    equi_extends();
 }
 
 /// A yes of the checker gives a covered object, and a strong yes one that is covered strongly.

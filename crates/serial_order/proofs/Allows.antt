@@ -1,12 +1,12 @@
 -- An object that stands for a history allows what the machine's view allows.
 use Rattle.std.proofs.Common.{◌≡◌, ◌↔◌, ℕ, ◌<◌, Bool, true, false, not, ◌==◌, List, [], ◌∷◌, ◌++◌, map, Some, sym, ◌∙◌}
+use Rattle.std.specs.List.{AllByRecursion}
 use Rattle.std.proofs.lemmas.Bool.{not-true}
 use Rattle.type_table.specs.Run.{IsLegal}
 use Rattle.type_table.specs.Laws.{RunsAlong}
 use Rattle.type_table.specs.declared.kind.Kind.{Kind}
 use Rattle.type_table.specs.declared.kind.Kind.TheVariants.{Undo, Intentions}
 use Rattle.object_trait.specs.Object.{Object}
-use Rattle.object_trait.specs.Orders.{Each}
 use Rattle.object_trait.specs.Meaning.{object, view_by}
 use Rattle.object_trait.specs.Steps.{IsOfAnotherOpen}
 use Rattle.object_trait.specs.declared.log_entry.LogEntry.{LogEntry}
@@ -42,8 +42,8 @@ allows_alike along = λ m x H t k open_now stands.
 -- ---- what the machine allows
 
 -- what holds of each operation that stands holds of each entry that isn't done, and its transaction didn't commit
-undone_each : (P : Entry → Type 0) (recovery : Kind) (o : Object) (base : ℕ) (log : List LogEntry) (x : ℕ) (C : List ℕ) (V : List Entry) → StandsBy recovery o base log x C V → Each P V →
-    Each (λ e. e.done ≡ false → P (plain x e) × (is_among C e.by ≡ false)) log
+undone_each : (P : Entry → Type 0) (recovery : Kind) (o : Object) (base : ℕ) (log : List LogEntry) (x : ℕ) (C : List ℕ) (V : List Entry) → StandsBy recovery o base log x C V → AllByRecursion P V →
+    AllByRecursion (λ e. e.done ≡ false → P (plain x e) × (is_among C e.by ≡ false)) log
 undone_each P Undo o base log x C V stands all =
     let here = each-from_map P (plain x) log (each-rest P stands.past (map (plain x) log) (rw (← stands.whole) at all)) in
     each-both (λ e p flag undone. (p, sym flag ∙ undone)) log here stands.flags
@@ -65,8 +65,8 @@ harmless-free o s t k e h pending_now other = rw (pending_is_open s e.by h.began
 
 -- the entries of other open transactions don't conflict with what the machine allows
 log_free : (recovery : Kind) (o : Object) (base : ℕ) (log : List LogEntry) (x : ℕ) (s : Seen) (t k : ℕ) → AreInRun s →
-    StandsBy recovery o base log x s.committed (at_object x s.stands) → Each (λ e. conflicts_with o s t k e ≡ false) (at_object x s.stands) →
-    Each (λ e. IsOfAnotherOpen t e → o.conflicts k e.op ≡ false) log
+    StandsBy recovery o base log x s.committed (at_object x s.stands) → AllByRecursion (λ e. conflicts_with o s t k e ≡ false) (at_object x s.stands) →
+    AllByRecursion (λ e. IsOfAnotherOpen t e → o.conflicts k e.op ≡ false) log
 log_free recovery o base log x s t k in_run stands free =
     let known = each-filter (λ e. (e.by < s.begun) × (is_among s.aborted e.by ≡ false)) (λ e. e.at == x) s.stands in_run.stand in
     let all = each-both (λ e h p. record { harmless = h; began = p.0; kept = p.1 }) (at_object x s.stands) free known in

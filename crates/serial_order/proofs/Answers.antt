@@ -1,9 +1,9 @@
 -- The answer of a call is one that the machine allows.
 use Rattle.std.proofs.Common.{◌≡◌, ℕ, zero, suc, ◌<◌, Bool, true, false, not, cond, nat_lt, List, [], ◌∷◌, length, Option, Some, None, MatchOption, is_some, refl, inl, inr, arith}
+use Rattle.std.specs.List.{AllByRecursion}
 use Rattle.std.specs.Prelude.{slice_get, Contains}
 use Rattle.std.proofs.lemmas.Bool.{cases_eq, false≢true, true≢false, and_parts, and_from, not-true, not-false, ltb-true}
 use Rattle.object_trait.specs.Object.{Object}
-use Rattle.object_trait.specs.Orders.{Each}
 use Rattle.type_table.specs.Table.{is_same_call}
 use Rattle.serial_order.specs.Operations.{at_object}
 use Rattle.serial_order.specs.History.{Seen, seen, is_open}
@@ -46,15 +46,15 @@ pub record IsFound (test : Entry → Bool) (V : List Entry) (e : Entry) : Type 0
 
 -- what is found first among e and later operations, by whether e passes and what is found among the later ones
 found_with : (test : Entry → Bool) (e : Entry) (V : List Entry) (passes : Bool) (found : Option Entry) → test e ≡ passes →
-    MatchOption found (Each (λ x. test x ≡ false) V) (IsFound test V) →
-    MatchOption (cond passes (Some e) found) (Each (λ x. test x ≡ false) (e ∷ V)) (IsFound test (e ∷ V))
+    MatchOption found (AllByRecursion (λ x. test x ≡ false) V) (IsFound test V) →
+    MatchOption (cond passes (Some e) found) (AllByRecursion (λ x. test x ≡ false) (e ∷ V)) (IsFound test (e ∷ V))
 found_with test e V true found h later = record { contained = (0, omega arith, refl); passes = h }
 found_with test e V false None h later = (h, later)
 found_with test e V false (Some x) h later =
     record { contained = (suc later.contained.0, omega (arith, later.contained.1), later.contained.2); passes = later.passes }
 
 -- `earliest` finds one that passes, where one does
-pub earliest-found : (test : Entry → Bool) (V : List Entry) → MatchOption (earliest test V) (Each (λ e. test e ≡ false) V) (IsFound test V)
+pub earliest-found : (test : Entry → Bool) (V : List Entry) → MatchOption (earliest test V) (AllByRecursion (λ e. test e ≡ false) V) (IsFound test V)
 earliest-found test [] = tt
 earliest-found test (e ∷ V) = found_with test e V (test e) (earliest test V) refl (earliest-found test V)
 
@@ -63,7 +63,7 @@ earliest-found test (e ∷ V) = found_with test e V (test e) (earliest test V) r
 module _ (o : Object) (s : Seen) (x t c : ℕ) where
   -- the operation conflicts with none at x
   abbrev IsUnblocked : ℕ → Type 0
-  IsUnblocked k = Each (λ e. conflicts_with o s t k e ≡ false) (at_object x s.stands)
+  IsUnblocked k = AllByRecursion (λ e. conflicts_with o s t k e ≡ false) (at_object x s.stands)
 
   -- what was found as the blocker of k
   abbrev BlockerIs : ℕ → Option Entry → Type 0

@@ -1,10 +1,10 @@
 -- In a run, at each object, what is so of C and V there stays so by each event.
 use Rattle.std.proofs.Common.{◌≡◌, ℕ, true, false, ◌==◌, List, [], ◌∷◌, ◌++◌, Option, Some, slice_get, refl, sym, subst, ⊎_elim}
+use Rattle.std.specs.List.{AllByRecursion}
 use Rattle.std.proofs.lemmas.Bool.{eqb-true, eq-eqb, cases_Bool}
 use Rattle.std.proofs.lemmas.List.{append-nil}
 use Rattle.std.proofs.lemmas.List.Elements.{filter-append}
 use Rattle.object_trait.specs.Object.{Object}
-use Rattle.object_trait.specs.Orders.{Each}
 use Rattle.object_trait.specs.Strike.{keep_first}
 use Rattle.object_trait.specs.declared.event.Event.{Event}
 use Rattle.object_trait.specs.declared.event.EventKind.{EventKind}
@@ -27,7 +27,7 @@ apart_held : (o : Object) (s : Seen) (t k : ℕ) (held : Entry) → is_open s he
 apart_held o s t k held open_held other free = rw (open_held, eqb-sym held.by t, other) at free
 
 -- an operation that the machine allows is free
-free_at : (o : Object) (s : Seen) (x t k : ℕ) → AreInRun s → is_open s t ≡ true → Each (λ e. conflicts_with o s t k e ≡ false) (at_object x s.stands)
+free_at : (o : Object) (s : Seen) (x t k : ℕ) → AreInRun s → is_open s t ≡ true → AllByRecursion (λ e. conflicts_with o s t k e ≡ false) (at_object x s.stands)
     → IsFree o s.committed (at_object x s.stands) (record { by = t; at = x; op = k })
 free_at o s x t k known open_now each = record {
   uncommitted = open_is_uncommitted s t open_now;

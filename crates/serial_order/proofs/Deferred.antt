@@ -7,7 +7,7 @@ use Rattle.type_table.specs.Run.{run}
 use Rattle.type_table.specs.Commute.{CommuteForward}
 use Rattle.type_table.specs.Laws.{RunsAlong}
 use Rattle.type_table.specs.declared.kind.Kind.TheVariants.{Intentions}
-use Rattle.table_checker.specs.Lists.{ListsForward}
+use Rattle.type_table.specs.Lists.{ListsForward}
 use Rattle.object_trait.specs.Object.{Object, IsCovered}
 use Rattle.object_trait.specs.Orders.{Pairs}
 use Rattle.object_trait.specs.Strike.{keep_first}

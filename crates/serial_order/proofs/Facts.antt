@@ -1,9 +1,10 @@
 -- What is so at one object, where C committed and V stands, and the three moves of C and V: an operation, a strike, a commit.
 use Rattle.std.proofs.Common.{◌≡◌, ℕ, false, ◌==◌, List, [], ◌∷◌, ◌++◌, Some}
+use Rattle.std.specs.List.{AllByRecursion}
 use Rattle.type_table.specs.Run.{IsLegal}
 use Rattle.type_table.specs.declared.kind.Kind.TheVariants.{Undo, Intentions}
 use Rattle.object_trait.specs.Object.{Object, IsCovered}
-use Rattle.object_trait.specs.Orders.{Each, Pairs, Sorts}
+use Rattle.object_trait.specs.Orders.{Pairs, Sorts}
 use Rattle.object_trait.specs.Strike.{keep_first}
 use Rattle.serial_order.specs.Operations.{is_among, is_by, ops, of, serial, pending}
 use Rattle.serial_order.specs.Laws.{may_pass}
@@ -33,7 +34,7 @@ pub record DeferredFacts (o : Object) (C : List ℕ) (V : List Entry) : Type 0 w
 -- the operation is of no committed transaction, and conflicts with none that another transaction holds
 pub record IsFree (o : Object) (C : List ℕ) (V : List Entry) (e : Entry) : Type 0 where
   pub uncommitted : is_among C e.by ≡ false
-  pub free : Each (λ held. is_among C held.by ≡ false → (e.by == held.by) ≡ false → o.conflicts e.op held.op ≡ false) V
+  pub free : AllByRecursion (λ held. is_among C held.by ≡ false → (e.by == held.by) ≡ false → o.conflicts e.op held.op ≡ false) V
 
 -- what was pending after one more commit was pending before it
 pub held_free-commit : (o : Object) (C : List ℕ) (t : ℕ) (a b : Entry) → IsHeldFree o C a b → IsHeldFree o (C ++ t ∷ []) a b

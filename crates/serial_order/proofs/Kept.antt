@@ -7,7 +7,7 @@ use Rattle.type_table.specs.Run.{run, Looks, AreEqui}
 use Rattle.type_table.specs.Laws.{RunsAlong}
 use Rattle.type_table.specs.declared.kind.Kind.{Kind}
 use Rattle.type_table.specs.declared.kind.Kind.TheVariants.{Undo, Intentions}
-use Rattle.table_checker.specs.Lists.{ListsForward}
+use Rattle.type_table.specs.Lists.{ListsForward}
 use Rattle.object_trait.specs.Object.{Object, IsCoveredStrongly}
 use Rattle.object_trait.specs.Laws.{PartsSort, StruckPart, SortsLook, SortsEqui}
 use Rattle.object_trait.specs.Meaning.{Meaning, object, state_by, run_log}

@@ -10,6 +10,7 @@ pub mod Deferred
 pub mod Events
 pub mod Runs
 pub mod Histories
+pub mod Reach
 pub mod Readings
 pub mod AtObjects
 pub mod CommitOrder
@@ -23,4 +24,5 @@ pub mod Kept
 pub mod Checked
 pub mod Answers
 pub mod Replays
+pub mod Counter
 pub mod Examples

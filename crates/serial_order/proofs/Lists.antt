@@ -1,5 +1,6 @@
 -- Operations of several transactions: how those of one, the serial order and the pending ones change.
 use Rattle.std.proofs.Common.{◌≡◌, ℕ, Bool, true, false, cond, not, ◌&&◌, ◌||◌, ◌==◌, List, [], ◌∷◌, ◌++◌, filter, refl, sym, ap, ◌∙◌, inl, inr, append-nil}
+use Rattle.std.specs.List.{AllByRecursion}
 use Rattle.std.specs.Cmp.{both_ways}
 use Rattle.std.proofs.Math.Bool.{or-false, and_comm}
 use Rattle.std.proofs.lemmas.Bool.{cases_Bool, or_parts, or_cases, eqb-true, eq-eqb, false≢true}
@@ -7,7 +8,6 @@ use Rattle.std.proofs.lemmas.List.{map-append}
 use Rattle.std.proofs.lemmas.Grind.{flat_map-append}
 use Rattle.std.proofs.lemmas.List.Elements.{filter-append, filter_agree}
 use Rattle.std.proofs.lemmas.List.Folds.{list_any-append}
-use Rattle.object_trait.specs.Orders.{Each}
 use Rattle.object_trait.specs.Strike.{keep_first}
 use Rattle.serial_order.specs.Operations.{is_among, is_by, ops, of, serial, pending}
 use Rattle.serial_order.specs.declared.entry.Entry.{Entry}
@@ -67,7 +67,7 @@ filter-apart : {E : Type 0} (test : E → Bool) (V : List E) (e : E) → test e 
 filter-apart test V e fails = filter-append test V (e ∷ []) ∙ ap (λ b. filter test V ++ cond b (e ∷ []) []) fails ∙ append-nil (filter test V)
 
 -- none is left where none passes
-pub filter-none : {E : Type 0} (test : E → Bool) (V : List E) → Each (λ e. test e ≡ false) V → filter test V ≡ []
+pub filter-none : {E : Type 0} (test : E → Bool) (V : List E) → AllByRecursion (λ e. test e ≡ false) V → filter test V ≡ []
 filter-none test [] each = refl
 filter-none test (e ∷ V) each = rw (each.0) (filter-none test V each.1)
 

@@ -1,49 +1,242 @@
--- What stands, read as what no rollback struck, of the transactions that didn't abort.
-use Rattle.std.proofs.Common.{◌≡◌, ℕ, ◌-◌, false, List, [], ◌∷◌, ◌++◌, length, refl, sym, ◌∙◌, append-nil}
-use Rattle.std.proofs.lemmas.List.Sums.{fold-append}
-use Rattle.object_trait.specs.Object.{Object}
+-- What stands is what stays by the events behind it.
+use Rattle.std.proofs.Common.{◌≡◌, ℕ, zero, suc, ◌+◌, ◌-◌, Bool, true, false, not, cond, ◌&&◌, ◌||◌, ◌==◌, nat_lt, List, [], ◌∷◌, ◌++◌, filter, fold, length, refl, sym, ap, subst, ◌∙◌, inl, inr, arith, append-nil, append_assoc, length-append, zero-add}
+use Rattle.std.specs.Prelude.{if◌then◌else◌}
+use Rattle.std.proofs.lemmas.Bool.{cases_Bool, cases_lt, or_parts, eqb-true, eq-eqb}
+use Rattle.std.proofs.lemmas.Bool.Decides.{nat_tests}
+use Rattle.std.proofs.lemmas.List.Elements.{filter-append}
+use Rattle.std.proofs.lemmas.List.Folds.{list_any-append}
 use Rattle.object_trait.specs.Strike.{keep_first}
 use Rattle.object_trait.specs.declared.event.Event.{Event}
 use Rattle.object_trait.specs.declared.event.EventKind.{EventKind}
 use Rattle.object_trait.specs.declared.event.EventKind.TheVariants as kind
 use Rattle.object_trait.specs.declared.event.EventKind.TheVariants.{Begin, Op, Busy, Commit, Abort, Rollback}
-use Rattle.serial_order.specs.Operations.{is_among, is_by, of, pending}
-use Rattle.serial_order.specs.History.{Seen, seen, aborts, aborted_by, stand_after, standing}
-use Rattle.serial_order.specs.Machine.{May, MayFollow}
-use Rattle.serial_order.specs.Readings.{unstruck, unstruck_after}
+use Rattle.serial_order.specs.Operations.{is_among, is_by, of}
+use Rattle.serial_order.specs.History.{aborts, aborted_by, stand_after}
+use Rattle.serial_order.specs.Readings.{taken_back, stays, staying_op, staying}
 use Rattle.serial_order.specs.Laws.{StandsAsRead}
 use Rattle.serial_order.specs.declared.entry.Entry.{Entry}
 use Rattle.serial_order.proofs.Strikes.{keep_first-none}
-use Rattle.serial_order.proofs.Events.{aborts-snoc, standing-snoc}
-use Rattle.serial_order.proofs.Lists.{of-pending, pending-more, pending-snoc, pending-strike}
-use Rattle.serial_order.proofs.Runs.{in_run, of_open}
+use Rattle.serial_order.proofs.Events.{aborts-snoc}
+use Rattle.serial_order.proofs.Lists.{eqb-sym, is_among-snoc}
+use Rattle.serial_order.proofs.Reach.{op_count, reach, reach-snoc, rolled_back-reach}
 
--- what no rollback struck is what none struck before, after the event
-unstruck-snoc : (H : List Event) (e : Event) → unstruck (H ++ e ∷ []) ≡ unstruck_after (unstruck H) e.kind
-unstruck-snoc H e = fold-append (λ V (f : Event). unstruck_after V f.kind) [] H (e ∷ [])
+-- ---- what stays, by how far back the rollbacks reach
 
--- a rollback of a transaction that didn't abort strikes the same of all operations and of those of transactions that didn't abort
-rollback_reads : (A : List ℕ) (t n : ℕ) (U : List Entry) → is_among A t ≡ false
-    → keep_first (is_by t) (length (of t (pending A U)) - n) (pending A U) ≡ pending A (keep_first (is_by t) (length (of t U) - n) U)
-rollback_reads A t n U kept = rw (of-pending A t U kept) (sym (pending-strike A t (length (of t U) - n) U kept))
+-- an operation stays where its transaction doesn't abort and no rollback reaches back to it
+stays-reach : (t : ℕ) (K : List Event) → stays t K ≡ (not (is_among (aborts K) t) && not (nat_lt 0 (reach t K 0)))
+stays-reach t K = rw (rolled_back-reach t K) refl
 
--- each event that may follow does the same to both
-event_reads : (objects : List Object) (s : Seen) (U : List Entry) (happened : EventKind) → May objects s happened
-    → stand_after (pending s.aborted U) happened ≡ pending (s.aborted ++ aborted_by happened) (unstruck_after U happened)
-event_reads objects s U (Begin t) may = rw (append-nil s.aborted) refl
-event_reads objects s U (Op t x k) may = rw (append-nil s.aborted) (sym (pending-more s.aborted U _ (of_open s t may.0).kept))
-event_reads objects s U (Busy t x c u) may = rw (append-nil s.aborted) refl
-event_reads objects s U (kind.None t x c) may = rw (append-nil s.aborted) refl
-event_reads objects s U (Commit t) may = rw (append-nil s.aborted) refl
-event_reads objects s U (Abort t) may = keep_first-none (is_by t) (pending s.aborted U) ∙ sym (pending-snoc s.aborted t U)
-event_reads objects s U (Rollback t n) may = rw (append-nil s.aborted) (rollback_reads s.aborted t n U (of_open s t may.0).kept)
+-- and so with one more event
+stays-snoc : (t : ℕ) (K : List Event) (e : Event) →
+    stays t (K ++ e ∷ []) ≡ (not (is_among (aborts K ++ aborted_by e.kind) t) && not (nat_lt 0 (reach t K ((taken_back t e.kind + 0) - op_count t e.kind))))
+stays-snoc t K e = rw (stays-reach t (K ++ e ∷ []), aborts-snoc K e, reach-snoc t K e 0) refl
 
--- so a run that is read so is read so after one more event
-reads_on : (objects : List Object) (H : List Event) (e : Event) → MayFollow objects H e → standing H ≡ pending (aborts H) (unstruck H)
-    → standing (H ++ e ∷ []) ≡ pending (aborts (H ++ e ∷ [])) (unstruck (H ++ e ∷ []))
-reads_on objects H e may known =
-    rw (standing-snoc H e, aborts-snoc H e, unstruck-snoc H e, known) (event_reads objects (seen H) (unstruck H) e.kind may)
+-- an event that neither aborts nor takes back leaves what stays
+stays-same : (t : ℕ) (K : List Event) (e : Event) → aborted_by e.kind ≡ [] → (taken_back t e.kind + 0) - op_count t e.kind ≡ 0 → stays t (K ++ e ∷ []) ≡ stays t K
+stays-same t K e none zeroth = rw (stays-snoc t K e, none, zeroth, append-nil (aborts K), stays-reach t K) refl
 
--- what stands is what no rollback struck, of the transactions that didn't abort
+-- where t doesn't abort, a further rollback of n reaches as much further back as it takes back more operations of t than stay
+module _ (t n : ℕ) where
+  -- of the operations of another transaction none is of t
+  of_other : (u x k : ℕ) (K : List Event) → (u == t) ≡ false → length (of t (staying_op (Op u x k) K)) ≡ 0
+  of_other u x k K other = elim (cases_Bool (stays u K)) [ inl is ↦ simp (is, other) refl | inr isnt ↦ rw isnt refl ]
+
+  -- one of its own counts where it stays
+  of_own : (x k : ℕ) (K : List Event) → is_among (aborts K) t ≡ false → length (of t (staying_op (Op t x k) K)) ≡ cond (not (nat_lt 0 (reach t K 0))) 1 0
+  of_own x k K none = rw (stays-reach t K, none) (by_reach (nat_lt 0 (reach t K 0)))
+    where
+      by_reach : (far : Bool) → length (of t (if not far then (record { by = t; at = x; op = k }) ∷ [] else [])) ≡ cond (not far) 1 0
+      by_reach true = refl
+      by_reach false = rw (eq-eqb t t refl) refl
+
+  -- with the event in front
+  abbrev Further : EventKind → List Event → Type 0
+  Further happened K =
+      (taken_back t happened + reach t K n) - op_count t happened
+      ≡ ((taken_back t happened + reach t K 0) - op_count t happened) + (n - (length (of t (staying_op happened K)) + length (of t (staying K))))
+
+  -- an operation of t
+  own-step : (x k : ℕ) (K : List Event) → is_among (aborts K) t ≡ false → reach t K n ≡ reach t K 0 + (n - length (of t (staying K))) → Further (Op t x k) K
+  own-step x k K none known = rw (of_own x k K none, eq-eqb t t refl) grind (arith, nat_tests, known)
+
+  -- each event
+  reach-step : (happened : EventKind) (K : List Event) → is_among (aborts K) t ≡ false → reach t K n ≡ reach t K 0 + (n - length (of t (staying K))) → Further happened K
+  reach-step (Op u x k) K none known =
+      elim (cases_Bool (u == t)) [
+        | inl same ↦ subst (λ v. Further (Op v x k) K) (sym (eqb-true u t same)) (own-step x k K none known)
+        | inr other ↦ rw (of_other u x k K other, other) grind (arith, known)
+      ]
+  reach-step (Rollback u m) K none known = grind (arith, known)
+  reach-step (Begin u) K none known = grind (arith, known)
+  reach-step (Busy u x c v) K none known = grind (arith, known)
+  reach-step (kind.None u x c) K none known = grind (arith, known)
+  reach-step (Commit u) K none known = grind (arith, known)
+  reach-step (Abort u) K none known = grind (arith, known)
+
+  -- so for all events
+  reach-further : (K : List Event) → is_among (aborts K) t ≡ false → reach t K n ≡ reach t K 0 + (n - length (of t (staying K)))
+  reach-further [] none = grind arith
+  reach-further (e ∷ K) none =
+      let rest = (or_parts (is_among (aborted_by e.kind) t) (is_among (aborts K) t) (sym (list_any-append (λ u. u == t) (aborted_by e.kind) (aborts K)) ∙ none)).1 in
+      rw (filter-append (is_by t) (staying_op e.kind K) (staying K), length-append) (reach-step e.kind K rest (reach-further K rest))
+
+-- ---- what stays with one more event
+
+-- where it leaves what stays, its own operation is one more
+module _ (e : Event) (same : (t : ℕ) (K : List Event) → stays t (K ++ e ∷ []) ≡ stays t K) where
+  op-same : (happened : EventKind) (K : List Event) → staying_op happened (K ++ e ∷ []) ≡ staying_op happened K
+  op-same (Op t x k) K = rw (same t K) refl
+  op-same (Begin t) K = refl
+  op-same (Busy t x c u) K = refl
+  op-same (kind.None t x c) K = refl
+  op-same (Commit t) K = refl
+  op-same (Abort t) K = refl
+  op-same (Rollback t n) K = refl
+
+  staying-same : (H : List Event) → staying (H ++ e ∷ []) ≡ staying H ++ staying_op e.kind []
+  staying-same [] = append-nil (staying_op e.kind [])
+  staying-same (f ∷ H) = rw (op-same f.kind H, staying-same H) (sym (append_assoc (staying_op f.kind H) (staying H) (staying_op e.kind [])))
+
+-- after an abort what is of other transactions
+op-abort : (w t : ℕ) (happened : EventKind) (K : List Event) →
+    staying_op happened (K ++ (record { worker = w; kind = Abort t }) ∷ []) ≡ filter (λ e. not (is_by t e)) (staying_op happened K)
+op-abort w t (Op u x k) K = rw (stays-snoc u K (record { worker = w; kind = Abort t }), is_among-snoc (aborts K) t u, eqb-sym t u, stays-reach u K)
+    (by_tests (is_among (aborts K) u) (nat_lt 0 (reach u K 0)) (u == t) refl)
+  where
+    by_tests : (aborted far same : Bool) → (u == t) ≡ same →
+        (if not (aborted || same) && not far then (record { by = u; at = x; op = k }) ∷ [] else [])
+        ≡ filter (λ e. not (is_by t e)) (if not aborted && not far then (record { by = u; at = x; op = k }) ∷ [] else [])
+    by_tests true far same is = refl
+    by_tests false true true is = refl
+    by_tests false true false is = refl
+    by_tests false false true is = rw is refl
+    by_tests false false false is = rw is refl
+op-abort w t (Begin u) K = refl
+op-abort w t (Busy u x c v) K = refl
+op-abort w t (kind.None u x c) K = refl
+op-abort w t (Commit u) K = refl
+op-abort w t (Abort u) K = refl
+op-abort w t (Rollback u n) K = refl
+
+staying-abort : (w t : ℕ) (H : List Event) → staying (H ++ (record { worker = w; kind = Abort t }) ∷ []) ≡ filter (λ e. not (is_by t e)) (staying H)
+staying-abort w t [] = refl
+staying-abort w t (f ∷ H) =
+    rw (op-abort w t f.kind H, staying-abort w t H) (sym (filter-append (λ e. not (is_by t e)) (staying_op f.kind H) (staying H)))
+
+-- ---- a rollback
+
+-- what the first m of mine are where the first element is mine
+abbrev first_mine : ℕ → ℕ → Entry → List Entry → List Entry
+first_mine t zero e V = keep_first (is_by t) zero V
+first_mine t (suc m) e V = e ∷ keep_first (is_by t) m V
+
+keep_mine : (t m : ℕ) (e : Entry) (V : List Entry) → is_by t e ≡ true → keep_first (is_by t) m (e ∷ V) ≡ first_mine t m e V
+keep_mine t zero e V mine = rw mine refl
+keep_mine t (suc m) e V mine = rw mine refl
+
+-- of one of mine and later ones, all but the last n of mine: it is left where n are behind it
+last_mine : (t n : ℕ) (e : Entry) (V : List Entry) → is_by t e ≡ true →
+    (if not (nat_lt 0 (n - length (of t V))) then e ∷ [] else []) ++ keep_first (is_by t) (length (of t V) - n) V ≡ keep_first (is_by t) (length (of t (e ∷ V)) - n) (e ∷ V)
+last_mine t n e V mine =
+    let count : length (of t (e ∷ V)) ≡ suc (length (of t V)) = rw mine refl in
+    rw (count, keep_mine t (suc (length (of t V)) - n) e V mine) (by_place (length (of t V)))
+  where
+    by_place : (c : ℕ) → (if not (nat_lt 0 (n - c)) then e ∷ [] else []) ++ keep_first (is_by t) (c - n) V ≡ first_mine t (suc c - n) e V
+    by_place c =
+        elim (cases_lt c n) [
+          | inl below ↦
+              let reached : nat_lt 0 (n - c) ≡ true = grind (arith, nat_tests) in
+              let none : c - n ≡ 0 = omega arith in
+              let none_more : suc c - n ≡ 0 = omega arith in
+              rw (reached, none, none_more) refl
+          | inr above ↦
+              let free : nat_lt 0 (n - c) ≡ false = grind (arith, nat_tests) in
+              let more : suc c - n ≡ suc (c - n) = omega arith in
+              rw (free, more) refl
+        ]
+
+-- and of one that isn't mine and later ones
+last_other : (t n : ℕ) (e : Entry) (V : List Entry) → is_by t e ≡ false →
+    e ∷ keep_first (is_by t) (length (of t V) - n) V ≡ keep_first (is_by t) (length (of t (e ∷ V)) - n) (e ∷ V)
+last_other t n e V other = rw other refl
+
+-- after a rollback of n all but the last n of its transaction
+abbrev IsRolledBack : ℕ → ℕ → ℕ → EventKind → List Event → Type 0
+IsRolledBack w t n happened K =
+    staying_op happened (K ++ (record { worker = w; kind = Rollback t n }) ∷ []) ++ keep_first (is_by t) (length (of t (staying K)) - n) (staying K)
+    ≡ keep_first (is_by t) (length (of t (staying_op happened K ++ staying K)) - n) (staying_op happened K ++ staying K)
+
+-- behind an operation of another transaction
+other-rollback : (w t n u x k : ℕ) (K : List Event) → (u == t) ≡ false → IsRolledBack w t n (Op u x k) K
+other-rollback w t n u x k K other =
+    let e : Event = record { worker = w; kind = Rollback t n } in
+    let none : (taken_back u e.kind + 0) - op_count u e.kind ≡ 0 = rw (eqb-sym t u, other) refl in
+    rw (stays-same u K e refl none) (by_stay (stays u K))
+  where
+    entry : Entry
+    entry = record { by = u; at = x; op = k }
+
+    by_stay : (b : Bool) → (if b then entry ∷ [] else []) ++ keep_first (is_by t) (length (of t (staying K)) - n) (staying K)
+        ≡ keep_first (is_by t) (length (of t ((if b then entry ∷ [] else []) ++ staying K)) - n) ((if b then entry ∷ [] else []) ++ staying K)
+    by_stay true = last_other t n (record { by = u; at = x; op = k }) (staying K) other
+    by_stay false = refl
+
+-- behind one of its own
+own-rollback : (w t n x k : ℕ) (K : List Event) → IsRolledBack w t n (Op t x k) K
+own-rollback w t n x k K =
+    let e : Event = record { worker = w; kind = Rollback t n } in
+    let taken : (taken_back t e.kind + 0) - op_count t e.kind ≡ n = rw (eq-eqb t t refl) (omega arith) in
+    elim (cases_Bool (is_among (aborts K) t)) [
+      | inl gone ↦ rw (stays-snoc t K e, append-nil (aborts K), stays-reach t K, gone) refl
+      | inr none ↦ rw (stays-snoc t K e, append-nil (aborts K), stays-reach t K, none, taken, reach-further t n K none) (by_reach (reach t K 0))
+    ]
+  where
+    entry : Entry
+    entry = record { by = t; at = x; op = k }
+
+    by_reach : (r : ℕ) → (if not (nat_lt 0 (r + (n - length (of t (staying K))))) then entry ∷ [] else []) ++ keep_first (is_by t) (length (of t (staying K)) - n) (staying K)
+        ≡ keep_first (is_by t) (length (of t ((if not (nat_lt 0 r) then entry ∷ [] else []) ++ staying K)) - n) ((if not (nat_lt 0 r) then entry ∷ [] else []) ++ staying K)
+    by_reach zero = rw zero-add (last_mine t n entry (staying K) (eq-eqb t t refl))
+    by_reach (suc r) =
+        let far : nat_lt 0 (suc r + (n - length (of t (staying K)))) ≡ true = grind (arith, nat_tests) in
+        let near : nat_lt 0 (suc r) ≡ true = grind (arith, nat_tests) in
+        rw (far, near) refl
+
+-- behind each event
+op-rollback : (w t n : ℕ) (happened : EventKind) (K : List Event) → IsRolledBack w t n happened K
+op-rollback w t n (Op u x k) K =
+    elim (cases_Bool (u == t)) [
+      | inl same ↦ subst (λ v. IsRolledBack w t n (Op v x k) K) (sym (eqb-true u t same)) (own-rollback w t n x k K)
+      | inr other ↦ other-rollback w t n u x k K other
+    ]
+op-rollback w t n (Begin u) K = refl
+op-rollback w t n (Busy u x c v) K = refl
+op-rollback w t n (kind.None u x c) K = refl
+op-rollback w t n (Commit u) K = refl
+op-rollback w t n (Abort u) K = refl
+op-rollback w t n (Rollback u m) K = refl
+
+staying-rollback : (w t n : ℕ) (H : List Event) →
+    staying (H ++ (record { worker = w; kind = Rollback t n }) ∷ []) ≡ keep_first (is_by t) (length (of t (staying H)) - n) (staying H)
+staying-rollback w t n [] = refl
+staying-rollback w t n (f ∷ H) = rw (staying-rollback w t n H) (op-rollback w t n f.kind H)
+
+-- so one more event does to what stays what it does to what stands
+one_more : (H : List Event) (w : ℕ) (happened : EventKind) → staying (H ++ (record { worker = w; kind = happened }) ∷ []) ≡ stand_after (staying H) happened
+one_more H w (Op t x k) = staying-same (record { worker = w; kind = Op t x k }) (λ u K. stays-same u K (record { worker = w; kind = Op t x k }) refl (grind (arith))) H
+one_more H w (Begin t) = staying-same (record { worker = w; kind = Begin t }) (λ u K. stays-same u K _ refl refl) H ∙ append-nil (staying H)
+one_more H w (Busy t x c u) = staying-same (record { worker = w; kind = Busy t x c u }) (λ v K. stays-same v K _ refl refl) H ∙ append-nil (staying H)
+one_more H w (kind.None t x c) = staying-same (record { worker = w; kind = kind.None t x c }) (λ u K. stays-same u K _ refl refl) H ∙ append-nil (staying H)
+one_more H w (Commit t) = staying-same (record { worker = w; kind = Commit t }) (λ u K. stays-same u K _ refl refl) H ∙ append-nil (staying H)
+one_more H w (Abort t) = staying-abort w t H ∙ sym (keep_first-none (is_by t) (staying H))
+one_more H w (Rollback t n) = staying-rollback w t n H
+
+-- and each event from a history on
+from_on : (G H : List Event) → fold (λ V e. stand_after V e.kind) (staying G) H ≡ staying (G ++ H)
+from_on G [] = ap staying (sym (append-nil G))
+from_on G (e ∷ H) =
+    ap (λ V. fold (λ V e. stand_after V e.kind) V H) (sym (one_more G e.worker e.kind)) ∙ from_on (G ++ e ∷ []) H ∙ ap staying (append_assoc G (e ∷ []) H)
+
+-- what stands is what stays by the events behind it
 pub stands_as_read : StandsAsRead
-stands_as_read = λ objects. in_run objects (λ H. standing H ≡ pending (aborts H) (unstruck H)) refl (λ H e run may known. reads_on objects H e may known)
+stands_as_read = λ H. from_on [] H

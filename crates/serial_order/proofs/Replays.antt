@@ -1,5 +1,5 @@
 -- What comes of a list of commands is a run.
-use Rattle.std.proofs.Common.{◌≡◌, ℕ, suc, ◌<◌, ◌≤◌, Bool, true, false, not, ◌||◌, ◌==◌, List, [], ◌∷◌, length, get_or, Option, Some, None, IfSome, is_some, refl, ◌∙◌, inl, inr, arith}
+use Rattle.std.proofs.Common.{◌≡◌, ℕ, suc, ◌+◌, ◌<◌, ◌≤◌, Bool, true, false, not, ◌||◌, ◌==◌, List, [], ◌∷◌, ◌++◌, length, get_or, Option, Some, None, is_some, refl, ◌∙◌, inl, inr, arith, add-zero, zero-add, add-suc, suc-add}
 use Rattle.std.specs.Prelude.{slice_get, nat_lt, if◌then◌else◌}
 use Rattle.std.specs.Str.{bytes_eq}
 use Rattle.std.proofs.lemmas.Bool.{cases_Bool, false≢true, true≢false, not-false, or_parts, and_right, eqb-false, ltb-false}
@@ -11,11 +11,13 @@ use Rattle.type_table.specs.declared.op.Op.{Op}
 use Rattle.object_trait.specs.Object.{Object}
 use Rattle.object_trait.specs.declared.event.Event.{Event}
 use Rattle.object_trait.specs.declared.event.EventKind.{EventKind}
+use Rattle.object_trait.specs.declared.event.EventKind.TheVariants as kind
 use Rattle.serial_order.specs.Operations.{of}
 use Rattle.serial_order.specs.History.{seen, is_open}
 use Rattle.serial_order.specs.Machine.{IsFirstOfCall, May, IsRun}
-use Rattle.serial_order.specs.Replay.{call_at, refusal, call_event, event_of, appended, after_command, replay_from}
-use Rattle.serial_order.specs.Laws.{RunGoesOn, ReplayRuns}
+use Rattle.serial_order.specs.Replay.{call_at, refusal, call_event, event_of, after_command, replay_from, replay}
+use Rattle.serial_order.specs.Laws.{RunGoesOn, ReplayRuns, CommandAppends, RefusedAppendsNothing, ReplaysJoin}
+use Rattle.serial_order.specs.Answer.{event_of_call}
 use Rattle.serial_order.specs.declared.command.Command.{Command}
 use Rattle.serial_order.specs.declared.command.Command.TheVariants.{Begin, Call, Commit, Abort, Rollback}
 use Rattle.serial_order.specs.declared.refusal.Refusal.TheVariants.{NotOpen, NoObject, NoCall, BadRollback}
@@ -49,15 +51,21 @@ passed false e rest fine = (refl, fine)
 passed_open : {E : Type 0} (is_open_now : Bool) (e : E) (rest : Option E) → is_some (if not is_open_now then Some e else rest) ≡ false → (is_open_now ≡ true) × (is_some rest ≡ false)
 passed_open is_open_now e rest fine = let h = passed (not is_open_now) e rest fine in (not-false is_open_now h.0, h.1)
 
--- a call of an open transaction at an object that is there, by a name that one of its operations has
+-- an event comes of a command, and may follow
+pub record Comes (objects : List Object) (H : List Event) (event : Option EventKind) : Type 0 where
+  pub happened : EventKind
+  pub is : event ≡ Some happened
+  pub follows : May objects (seen H) happened
+
+-- of a call of an open transaction at an object that is there, by a name that one of its operations has
 call_follows : (objects : List Object) (H : List Event) (t x : ℕ) (name : List ℕ) → is_open (seen H) t ≡ true →
     (there : Option Object) → slice_get objects x ≡ there → is_some there ≡ true →
     (first : Option ℕ) → call_at there name ≡ first → is_some first ≡ true →
-    IfSome (call_event there (seen H) x t first) (May objects (seen H))
+    Comes objects H (call_event there (seen H) x t first)
 call_follows objects H t x name open_now None at_x some first finds named = absurd (false≢true some)
 call_follows objects H t x name open_now (Some o) at_x some None finds named = absurd (false≢true named)
 call_follows objects H t x name open_now (Some o) at_x some (Some c) finds named =
-    answer_may_follow objects H x o 0 t c at_x open_now (first_op-least o name c finds)
+    record { happened = event_of_call o (seen H) x t c; is = refl; follows = answer_may_follow objects H x o 0 t c at_x open_now (first_op-least o name c finds) }
 
 -- a rollback of some operations, and of no more than there are
 rollback_range : (n most : ℕ) → (n == 0 || nat_lt most n) ≡ false → (0 < n) × (n ≤ most)
@@ -65,38 +73,45 @@ rollback_range n most fine =
     let h = or_parts (n == 0) (nat_lt most n) fine in
     (omega (arith, eqb-false n 0 h.0), ltb-false most n h.1)
 
--- what comes of a command that isn't refused may follow
+-- of a command that isn't refused
 event_follows : (objects : List Object) (most : ℕ) (H : List Event) (command : Command) → is_some (refusal objects most H command) ≡ false →
-    IfSome (event_of objects (seen H) command) (May objects (seen H))
-event_follows objects most H Begin fine = refl
+    Comes objects H (event_of objects (seen H) command)
+event_follows objects most H Begin fine = record { happened = kind.Begin (seen H).begun; is = refl; follows = refl }
 event_follows objects most H (Call t x name) fine =
     let a = passed_open (is_open (seen H) t) NotOpen _ fine in
     let b = passed_open (is_some (slice_get objects x)) NoObject _ a.1 in
     let c = passed_open (is_some (call_at (slice_get objects x) name)) NoCall _ b.1 in
     call_follows objects H t x name a.0 (slice_get objects x) refl b.0 (call_at (slice_get objects x) name) refl c.0
-event_follows objects most H (Commit t) fine = (passed_open (is_open (seen H) t) NotOpen _ fine).0
-event_follows objects most H (Abort t) fine = (passed_open (is_open (seen H) t) NotOpen _ fine).0
+event_follows objects most H (Commit t) fine = record { happened = kind.Commit t; is = refl; follows = (passed_open (is_open (seen H) t) NotOpen _ fine).0 }
+event_follows objects most H (Abort t) fine = record { happened = kind.Abort t; is = refl; follows = (passed_open (is_open (seen H) t) NotOpen _ fine).0 }
 event_follows objects most H (Rollback t n) fine =
     let a = passed_open (is_open (seen H) t) NotOpen _ fine in
     let b = passed (n == 0 || nat_lt (length (of t (seen H).stands)) n) BadRollback _ a.1 in
     let range = rollback_range n (length (of t (seen H).stands)) b.0 in
-    (a.0, range.0, range.1)
+    record { happened = kind.Rollback t n; is = refl; follows = (a.0, range.0, range.1) }
 
 -- ---- the history after commands
 
--- a run goes on by an event that may follow, and by none
-appended_runs : RunGoesOn → (objects : List Object) (H : List Event) (w : ℕ) (happened : Option EventKind) → IsRun objects H →
-    IfSome happened (May objects (seen H)) → IsRun objects (appended H w happened)
-appended_runs goes_on objects H w None runs may = runs
-appended_runs goes_on objects H w (Some k) runs may = goes_on objects H (record { worker = w; kind = k }) runs may
+-- a command that isn't refused appends its event
+pub command_appends : CommandAppends
+command_appends = λ objects most H w command fine.
+    let accepted : is_some (refusal objects most H command) ≡ false = rw fine refl in
+    let comes = event_follows objects most H command accepted in
+    record { happened = comes.happened; is = comes.is; may_follow = comes.follows; appends = rw (accepted, comes.is) refl }
 
--- and by a command, refused or not
+-- and a refused one nothing
+pub refused_appends_nothing : RefusedAppendsNothing
+refused_appends_nothing = λ objects most H w command reason refused. rw refused refl
+
+-- a run goes on by a command, refused or not
 command_runs : RunGoesOn → (objects : List Object) (most : ℕ) (H : List Event) (w : ℕ) (command : Command) → IsRun objects H →
     IsRun objects (after_command objects most H w command)
 command_runs goes_on objects most H w command runs =
     elim (cases_Bool (is_some (refusal objects most H command))) [
       | inl refused ↦ rw refused runs
-      | inr fine ↦ rw fine (appended_runs goes_on objects H w (event_of objects (seen H) command) runs (event_follows objects most H command fine))
+      | inr fine ↦
+          let comes = event_follows objects most H command fine in
+          rw (fine, comes.is) (goes_on objects H (record { worker = w; kind = comes.happened }) runs comes.follows)
     ]
 
 -- one of two runs is a run
@@ -116,3 +131,30 @@ commands_run goes_on objects most wanting place H (c ∷ commands) runs =
 -- the history after any commands is a run
 pub replay_runs : RunGoesOn → ReplayRuns
 replay_runs goes_on = λ objects most wanting H commands runs. commands_run goes_on objects most wanting 0 H commands runs
+
+-- ---- one list of commands after another
+
+-- where memory is wanted at the same places from two places on, the history after commands is the same
+same_wanting : (objects : List Object) (most : ℕ) (wanting other : ℕ → Bool) (place from : ℕ) → ((i : ℕ) → wanting (place + i) ≡ other (from + i)) →
+    (H : List Event) (commands : List (ℕ × Command)) → replay_from objects most wanting place H commands ≡ replay_from objects most other from H commands
+same_wanting objects most wanting other place from same H [] = refl
+same_wanting objects most wanting other place from same H (c ∷ commands) =
+    let here : wanting place ≡ other from = rw (add-zero place, add-zero from) at (same 0) in
+    let later : (i : ℕ) → wanting (suc place + i) ≡ other (suc from + i) = λ i. rw (suc-add place i, suc-add from i, ← (add-suc place i), ← (add-suc from i)) (same (suc i)) in
+    rw here (same_wanting objects most wanting other (suc place) (suc from) later
+    (if other from then H else after_command objects most H (c.0) (c.1)) commands)
+
+-- the history after two lists from a place on
+joined_from : (objects : List Object) (most : ℕ) (wanting : ℕ → Bool) (place : ℕ) (H : List Event) (first second : List (ℕ × Command)) →
+    replay_from objects most wanting place H (first ++ second) ≡ replay_from objects most wanting (place + length first) (replay_from objects most wanting place H first) second
+joined_from objects most wanting place H [] second = rw add-zero refl
+joined_from objects most wanting place H (c ∷ first) second =
+    rw (add-suc place (length first), ← (suc-add place (length first)))
+    (joined_from objects most wanting (suc place) (if wanting place then H else after_command objects most H (c.0) (c.1)) first second)
+
+-- the replay of two lists
+pub replays_join : ReplaysJoin
+replays_join = λ objects most wanting H first second.
+    joined_from objects most wanting 0 H first second
+    ∙ same_wanting objects most wanting (λ i. wanting (length first + i)) (0 + length first) 0 (λ i. rw (zero-add (length first), zero-add i) refl)
+    (replay objects most wanting H first) second

@@ -1,8 +1,8 @@
 -- Runs of the machine: what is so of the empty history and stays so by each event that may follow is so of each run.
 use Rattle.std.proofs.Common.{◌≡◌, ℕ, true, false, not, ◌<◌, List, [], ◌∷◌, ◌++◌, nat_lt, refl, ◌∙◌, append-nil, append_assoc, arith, lt-ltb}
+use Rattle.std.specs.List.{AllByRecursion}
 use Rattle.std.proofs.lemmas.Bool.{false≢true, and_parts, not-true, ltb-true}
 use Rattle.object_trait.specs.Object.{Object}
-use Rattle.object_trait.specs.Orders.{Each}
 use Rattle.object_trait.specs.declared.event.Event.{Event}
 use Rattle.object_trait.specs.declared.event.EventKind.{EventKind}
 use Rattle.object_trait.specs.declared.event.EventKind.TheVariants as kind
@@ -72,7 +72,7 @@ pub record AreInRun (s : Seen) : Type 0 where
   -- none both committed and aborted
   pub apart : (t : ℕ) → is_among s.committed t ≡ true → is_among s.aborted t ≡ false
   -- what stands is of transactions that began and didn't abort
-  pub stand : Each (λ e. (e.by < s.begun) × (is_among s.aborted e.by ≡ false)) s.stands
+  pub stand : AllByRecursion (λ e. (e.by < s.begun) × (is_among s.aborted e.by ≡ false)) s.stands
 
 -- a begin keeps it
 after_begin : (s : Seen) (t : ℕ) → AreInRun s → AreInRun (seen_after s (Begin t))

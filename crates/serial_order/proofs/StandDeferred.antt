@@ -1,10 +1,10 @@
 -- Deferred update: an object goes on standing for what stands, by an operation, a commit and a strike.
 use Rattle.std.proofs.Common.{◌≡◌, ℕ, false, not, List, [], ◌∷◌, ◌++◌, map, filter, length, Some, refl, sym, ap, ◌∙◌}
+use Rattle.std.specs.List.{AllByRecursion}
 use Rattle.std.proofs.lemmas.List.{map-append, length-map}
 use Rattle.type_table.specs.Run.{run, AreEqui}
 use Rattle.type_table.specs.Laws.{RunsAlong}
 use Rattle.object_trait.specs.Object.{Object}
-use Rattle.object_trait.specs.Orders.{Each}
 use Rattle.object_trait.specs.Strike.{keep_first}
 use Rattle.object_trait.specs.Meaning.{is_open_of, open_of, ops_of, run_log}
 use Rattle.object_trait.specs.Steps.{IsIntentionsCommit}
@@ -19,7 +19,7 @@ use Rattle.serial_order.proofs.StandLogs.{ops-plain, filter-plain, strike-plain,
 
 module _ (o : Object) (base : ℕ) (log : List LogEntry) (x : ℕ) (C : List ℕ) (V : List Entry) (stands : StandsIntentions o base log x C V) where
   -- a transaction's operations in the log are its open entries
-  deferred_open : (t : ℕ) → Each (λ e. is_by t (plain x e) ≡ is_open_of t e) log
+  deferred_open : (t : ℕ) → AllByRecursion (λ e. is_by t (plain x e) ≡ is_open_of t e) log
   deferred_open t = open-plain x t log (each-weaker (λ e undone mine. undone) log stands.flags)
 
   -- the operations of a transaction that didn't commit are its open entries

@@ -1,11 +1,11 @@
 -- Update in place: an object goes on standing for what stands, by an operation, a commit and a strike.
 use Rattle.std.proofs.Common.{◌≡◌, ℕ, true, false, List, [], ◌∷◌, ◌++◌, map, length, Some, refl, sym, ap, ◌∙◌}
+use Rattle.std.specs.List.{AllByRecursion}
 use Rattle.std.proofs.lemmas.List.{append_assoc, map-append, length-map}
 use Rattle.std.proofs.lemmas.List.Elements.{filter-append}
 use Rattle.type_table.specs.Run.{run}
 use Rattle.type_table.specs.Laws.{RunsAlong}
 use Rattle.object_trait.specs.Object.{Object}
-use Rattle.object_trait.specs.Orders.{Each}
 use Rattle.object_trait.specs.Strike.{keep_first}
 use Rattle.object_trait.specs.Meaning.{is_open_of, open_of, run_log}
 use Rattle.object_trait.specs.Steps.{IsSettled, marked}
@@ -82,11 +82,11 @@ module _ (o : Object) (base : ℕ) (log : List LogEntry) (x : ℕ) (C : List ℕ
       plain-marked (e ∷ entries) = ap (λ rest. plain x e ∷ rest) (plain-marked entries)
 
   -- the operations of a transaction that didn't commit are its open entries
-  undo_open : (t : ℕ) → is_among C t ≡ false → Each (λ e. is_by t (plain x e) ≡ is_open_of t e) log
+  undo_open : (t : ℕ) → is_among C t ≡ false → AllByRecursion (λ e. is_by t (plain x e) ≡ is_open_of t e) log
   undo_open t apart = open-plain x t log (each-weaker (λ e flag mine. flag ∙ is_one-outside C e.by t apart mine) log stands.flags)
 
   -- what stands before the log is of other transactions
-  undo_others : (t : ℕ) → is_among C t ≡ false → Each (λ e. is_by t e ≡ false) stands.past
+  undo_others : (t : ℕ) → is_among C t ≡ false → AllByRecursion (λ e. is_by t e ≡ false) stands.past
   undo_others t apart = each-weaker (λ e inside. is_among-apart C t e.by apart inside) stands.past stands.ended
 
   -- a strike of a transaction that didn't commit

@@ -1,7 +1,7 @@
 -- Strikes: what a strike leaves of a list, and of the parts of it that filters keep.
 use Rattle.std.proofs.Common.{◌≡◌, ℕ, zero, suc, Bool, true, false, cond, not, List, [], ◌∷◌, ◌++◌, filter, take, length, refl, ap, inl, inr}
+use Rattle.std.specs.List.{AllByRecursion}
 use Rattle.std.proofs.lemmas.Bool.{cases_Bool}
-use Rattle.object_trait.specs.Orders.{Each}
 use Rattle.object_trait.specs.Strike.{keep_first}
 
 -- what is so of whatever is kept of the rest, without the first element and with it, is so of what is kept
@@ -15,7 +15,7 @@ keep_first-next Q mine n x V without with_it = by_test (mine x) n
     by_test true (suc m) = with_it m
 
 -- a strike leaves a front that has none of mine
-pub keep_first-behind : {E : Type 0} (mine : E → Bool) (n : ℕ) (V W : List E) → Each (λ x. mine x ≡ false) V → keep_first mine n (V ++ W) ≡ V ++ keep_first mine n W
+pub keep_first-behind : {E : Type 0} (mine : E → Bool) (n : ℕ) (V W : List E) → AllByRecursion (λ x. mine x ≡ false) V → keep_first mine n (V ++ W) ≡ V ++ keep_first mine n W
 keep_first-behind mine n [] W p = refl
 keep_first-behind mine n (x ∷ V) W p = rw (p.0) (ap (λ rest. x ∷ rest) (keep_first-behind mine n V W p.1))
 

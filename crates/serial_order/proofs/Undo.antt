@@ -1,12 +1,13 @@
 -- Update in place: what stands is legal, locked, and sorts into commit order; and stays so.
 use Rattle.std.proofs.Common.{◌≡◌, ℕ, true, false, not, ◌==◌, List, [], ◌∷◌, ◌++◌, filter, drop, Some, ◌∙◌}
+use Rattle.std.specs.List.{AllByRecursion}
 use Rattle.std.proofs.lemmas.Bool.{not-true, not_from_false, and_parts, and_from, or_parts, eqb-true}
 use Rattle.std.proofs.lemmas.List.{append_assoc}
 use Rattle.type_table.specs.Commute.{Covers, CommutesBackward}
 use Rattle.type_table.specs.Laws.{RunsAlong}
 use Rattle.type_table.specs.declared.kind.Kind.TheVariants.{Undo}
 use Rattle.object_trait.specs.Object.{Object, IsCovered}
-use Rattle.object_trait.specs.Orders.{Each, Pairs, Sorts, chain}
+use Rattle.object_trait.specs.Orders.{Pairs, Sorts, chain}
 use Rattle.object_trait.specs.Strike.{keep_first}
 use Rattle.object_trait.specs.Laws.{PartsSort, StruckPart, SortsLook}
 use Rattle.serial_order.specs.Operations.{is_among, is_by, ops, of, serial, pending}
@@ -79,7 +80,7 @@ struck-legal along parts strike sorts o C V t n covers uncommitted locked legal 
     legal-front along o.table (Some o.table.initial) (ops left) (ops gone) (rw (ops-append left gone) at looks.0)
 
 -- no operation of the serial order is of a transaction that isn't committed
-serial-others : (C : List ℕ) (t : ℕ) (V : List Entry) → is_among C t ≡ false → Each (λ e. is_by t e ≡ false) (serial C V)
+serial-others : (C : List ℕ) (t : ℕ) (V : List Entry) → is_among C t ≡ false → AllByRecursion (λ e. is_by t e ≡ false) (serial C V)
 serial-others [] t V uncommitted = tt
 serial-others (u ∷ C) t V uncommitted =
     let parts = or_parts (u == t) (is_among C t) uncommitted in

@@ -5,7 +5,7 @@ use Rattle.std.proofs.lemmas.List.{append-nil}
 use Rattle.type_table.specs.Laws.{RunsAlong}
 use Rattle.type_table.specs.declared.kind.Kind.{Kind}
 use Rattle.type_table.specs.declared.kind.Kind.TheVariants.{Undo, Intentions}
-use Rattle.table_checker.specs.Lists.{ListsForward}
+use Rattle.type_table.specs.Lists.{ListsForward}
 use Rattle.object_trait.specs.Object.{Object}
 use Rattle.object_trait.specs.Laws.{PartsSort, StruckPart, SortsLook}
 use Rattle.object_trait.specs.declared.event.Event.{Event}

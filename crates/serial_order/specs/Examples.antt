@@ -65,6 +65,25 @@ semiqueue_pairs =
 abbrev pub undo_semiqueue : Object
 undo_semiqueue = record { kind = Undo; table = semiqueue; set = λ s. nat_lt s 6; conflicts = conflicts semiqueue_pairs }
 
+-- an account of 0 or 1: operation 0 pays in, and operations 1 and 2 are one call, whose replies are the balances
+abbrev pub account : Table
+account = record {
+  name = codes "account";
+  states = 2;
+  initial = 0;
+  ops = ok_op (codes "deposit:1") ∷ (record { call = codes "balance"; reply = codes "0" }) ∷ (record { call = codes "balance"; reply = codes "1" }) ∷ [];
+  steps = Some 1 ∷ Some 0 ∷ None ∷ None ∷ None ∷ Some 1 ∷ [];
+}
+
+-- what its operations need where they are to commute backward: to pay in conflicts with a balance of 0, and a balance of 1 with to
+-- pay in
+abbrev pub account_pairs : List (List Bool)
+account_pairs = (false ∷ true ∷ false ∷ []) ∷ (false ∷ false ∷ false ∷ []) ∷ (true ∷ false ∷ false ∷ []) ∷ []
+
+-- the account, update in place
+abbrev pub undo_account : Object
+undo_account = record { kind = Undo; table = account; set = λ s. nat_lt s 2; conflicts = conflicts account_pairs }
+
 -- ---- histories
 
 -- q by transaction 0 and p by transaction 1, which commits first
@@ -87,6 +106,26 @@ deferred_history = events (Begin 0 ∷ Begin 1 ∷ Op 1 0 0 ∷ kind.None 0 0 1 
 -- one counts up at an object, at another and at the first again, and takes the last two back
 abbrev pub two_objects_history : List Event
 two_objects_history = events (Begin 0 ∷ Op 0 0 0 ∷ Op 0 1 0 ∷ Op 0 0 0 ∷ Rollback 0 2 ∷ Commit 0 ∷ [])
+
+-- one counts up, and before it ends another counts down, which the locks don't admit
+abbrev pub unlocked_history : List Event
+unlocked_history = events (Begin 0 ∷ Begin 1 ∷ Op 0 0 0 ∷ Op 1 0 1 ∷ Commit 1 ∷ Commit 0 ∷ [])
+
+-- one asks to count down and is answered `None`, and another counts up and commits before it
+abbrev pub refused_history : List Event
+refused_history = events (Begin 0 ∷ Begin 1 ∷ kind.None 0 0 1 ∷ Op 1 0 0 ∷ Commit 1 ∷ Commit 0 ∷ [])
+
+-- one reads the balance and takes that back, and another pays in and commits before it
+abbrev pub reader_history : List Event
+reader_history = events (Begin 0 ∷ Begin 1 ∷ Op 0 0 1 ∷ Rollback 0 1 ∷ Op 1 0 0 ∷ Commit 1 ∷ Commit 0 ∷ [])
+
+-- two count up, and the first commits
+abbrev pub half_history : List Event
+half_history = events (Begin 0 ∷ Begin 1 ∷ Op 0 0 0 ∷ Op 1 0 0 ∷ Commit 0 ∷ [])
+
+-- one counts up and commits, and then another counts down
+abbrev pub half_deferred_history : List Event
+half_deferred_history = events (Begin 0 ∷ Begin 1 ∷ Op 1 0 0 ∷ Commit 1 ∷ Op 0 0 1 ∷ [])
 
 -- ---- commands
 

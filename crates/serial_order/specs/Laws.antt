@@ -1,5 +1,5 @@
 -- Statements of laws: of histories, of the machine, and of objects that stand for a history.
-use Rattle.std.specs.Prelude.{◌≡◌, ◌↔◌, ℕ, ◌<◌, List, [], ◌∷◌, ◌++◌, length, filter, map, Bool, true, false, not, ◌&&◌, ◌==◌, Some, slice_get}
+use Rattle.std.specs.Prelude.{◌≡◌, ◌↔◌, ℕ, ◌+◌, ◌<◌, List, [], ◌∷◌, ◌++◌, length, map, Bool, true, false, not, ◌&&◌, ◌==◌, Some, None, slice_get}
 use Rattle.type_table.specs.Run.{IsLegal}
 use Rattle.type_table.specs.declared.kind.Kind.TheVariants.{Undo}
 use Rattle.table_checker.specs.Checked.{Checked, IsChecked}
@@ -9,18 +9,20 @@ use Rattle.object_trait.specs.Strike.{keep_first}
 use Rattle.object_trait.specs.Meaning.{Meaning, object}
 use Rattle.object_trait.specs.Steps.{IsFresh, IsLegalFor, MayApply}
 use Rattle.object_trait.specs.declared.event.Event.{Event}
+use Rattle.object_trait.specs.declared.event.EventKind.{EventKind}
 use Rattle.object_trait.specs.declared.event.EventKind.TheVariants.{Op, Commit}
-use Rattle.serial_order.specs.Operations.{is_among, is_by, ops}
-use Rattle.serial_order.specs.History.{aborts, standing, seen, is_open, IsHistory}
+use Rattle.serial_order.specs.Operations.{is_by, ops}
+use Rattle.serial_order.specs.History.{standing, seen, is_open, IsHistory}
 use Rattle.serial_order.specs.View.{view, is_legal_for}
 use Rattle.serial_order.specs.Machine.{IsFirstOfCall, MayFollow, IsRun, AreCovered}
 use Rattle.serial_order.specs.Serial.{standing_at, serial_at, pending_at, IsSerial}
 use Rattle.serial_order.specs.Stand.{StandsFor, Changes, KeptAgrees}
 use Rattle.serial_order.specs.Answer.{event_of_call}
-use Rattle.serial_order.specs.Readings.{unstruck}
-use Rattle.serial_order.specs.Replay.{replay}
+use Rattle.serial_order.specs.Readings.{staying}
+use Rattle.serial_order.specs.Replay.{refusal, event_of, replay}
 use Rattle.serial_order.specs.declared.command.Command.{Command}
 use Rattle.serial_order.specs.declared.entry.Entry.{Entry}
+use Rattle.serial_order.specs.declared.refusal.Refusal.{Refusal}
 
 -- ---- histories and runs
 
@@ -32,10 +34,9 @@ RunIsHistory = (objects : List Object) (H : List Event) → IsRun objects H → 
 abbrev pub RunGoesOn : Type 0
 RunGoesOn = (objects : List Object) (H : List Event) (e : Event) → IsRun objects H → MayFollow objects H e → IsRun objects (H ++ e ∷ [])
 
--- in a run, what stands is what no rollback struck, of the transactions that did not abort
+-- what stands is each operation that stays by the events behind it
 abbrev pub StandsAsRead : Type 0
-StandsAsRead =
-    (objects : List Object) (H : List Event) → IsRun objects H → standing H ≡ filter (λ e. not (is_among (aborts H) e.by)) (unstruck H)
+StandsAsRead = (H : List Event) → standing H ≡ staying H
 
 -- ---- answers
 
@@ -51,6 +52,32 @@ abbrev pub ReplayRuns : Type 0
 ReplayRuns =
     (objects : List Object) (most : ℕ) (wanting : ℕ → Bool) (H : List Event) (commands : List (ℕ × Command))
     → IsRun objects H → IsRun objects (replay objects most wanting H commands)
+
+-- the command appends one event, of this worker: it is the command's, and may follow
+pub record IsAppended (objects : List Object) (most : ℕ) (H : List Event) (w : ℕ) (command : Command) : Type 0 where
+  pub happened : EventKind
+  pub is : event_of objects (seen H) command ≡ Some happened
+  pub may_follow : MayFollow objects H (record { worker = w; kind = happened })
+  pub appends : replay objects most (λ _. false) H ((w, command) ∷ []) ≡ H ++ (record { worker = w; kind = happened }) ∷ []
+
+-- where memory isn't wanted, a command that isn't refused appends its event
+abbrev pub CommandAppends : Type 0
+CommandAppends =
+    (objects : List Object) (most : ℕ) (H : List Event) (w : ℕ) (command : Command)
+    → refusal objects most H command ≡ None → IsAppended objects most H w command
+
+-- and a refused one nothing
+abbrev pub RefusedAppendsNothing : Type 0
+RefusedAppendsNothing =
+    (objects : List Object) (most : ℕ) (H : List Event) (w : ℕ) (command : Command) (reason : Refusal)
+    → refusal objects most H command ≡ Some reason → replay objects most (λ _. false) H ((w, command) ∷ []) ≡ H
+
+-- the replay of two lists is that of the second after that of the first, with places counted on
+abbrev pub ReplaysJoin : Type 0
+ReplaysJoin =
+    (objects : List Object) (most : ℕ) (wanting : ℕ → Bool) (H : List Event) (first second : List (ℕ × Command))
+    → replay objects most wanting H (first ++ second)
+    ≡ replay objects most (λ i. wanting (length first + i)) (replay objects most wanting H first) second
 
 -- ---- update in place
 

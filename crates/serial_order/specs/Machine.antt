@@ -1,7 +1,7 @@
 -- The machine: which event the locks admit after a history, and its runs (Weihl's commutativity-based locking).
 use Rattle.std.specs.Prelude.{◌≡◌, ℕ, ◌<◌, ◌≤◌, List, [], ◌∷◌, ◌++◌, length, true, false, Option, Some, None, slice_get, Contains}
+use Rattle.std.specs.List.{AllByRecursion}
 use Rattle.object_trait.specs.Object.{Object, IsCovered}
-use Rattle.object_trait.specs.Orders.{Each}
 use Rattle.object_trait.specs.declared.event.Event.{Event}
 use Rattle.object_trait.specs.declared.event.EventKind.{EventKind}
 use Rattle.object_trait.specs.declared.event.EventKind.TheVariants as kind
@@ -29,7 +29,7 @@ pub record IsFirstLegal (o : Object) (s : Seen) (x t c k : ℕ) : Type 0 where
 abbrev pub MayDo : Option Object → Seen → ℕ → ℕ → ℕ → Type 0
 MayDo None s x t k = ⊥
 MayDo (Some o) s x t k =
-    (k < length o.table.ops) × (is_legal_for o s x t k ≡ true) × Each (λ e. conflicts_with o s t k e ≡ false) (at_object x s.stands)
+    (k < length o.table.ops) × (is_legal_for o s x t k ≡ true) × AllByRecursion (λ e. conflicts_with o s t k e ≡ false) (at_object x s.stands)
 
 -- `None`: no operation of the call is legal
 abbrev pub MayHaveNone : Option Object → Seen → ℕ → ℕ → ℕ → Type 0

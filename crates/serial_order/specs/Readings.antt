@@ -1,18 +1,45 @@
--- What stands, by other words.
-use Rattle.std.specs.Prelude.{◌-◌, List, [], ◌∷◌, ◌++◌, fold, length}
-use Rattle.object_trait.specs.Strike.{keep_first}
+-- What stands, told of each operation by counts of the events behind it.
+use Rattle.std.specs.Prelude.{ℕ, suc, List, [], ◌∷◌, ◌++◌, take, length, Bool, false, not, ◌&&◌, ◌==◌, nat_lt, if◌then◌else◌}
+use Rattle.std.specs.List.{list_any, count_by, sum_by, range_with_len}
 use Rattle.object_trait.specs.declared.event.Event.{Event}
 use Rattle.object_trait.specs.declared.event.EventKind.{EventKind}
 use Rattle.object_trait.specs.declared.event.EventKind.TheVariants.{Op, Rollback}
-use Rattle.serial_order.specs.Operations.{is_by, of}
+use Rattle.serial_order.specs.Operations.{is_among}
+use Rattle.serial_order.specs.History.{aborts}
 use Rattle.serial_order.specs.declared.entry.Entry.{Entry}
 
--- the operations that no rollback struck, whether their transactions aborted or not, after one more event
-abbrev pub unstruck_after : List Entry → EventKind → List Entry
-unstruck_after V (Op t x k) = V ++ (record { by = t; at = x; op = k }) ∷ []
-unstruck_after V (Rollback t n) = keep_first (is_by t) (length (of t V) - n) V
-unstruck_after V _ = V
+-- the event is an operation of t
+abbrev pub is_op_of : ℕ → EventKind → Bool
+is_op_of t (Op u x k) = u == t
+is_op_of t _ = false
 
--- and after all
-abbrev pub unstruck : List Event → List Entry
-unstruck H = fold (λ V e. unstruck_after V e.kind) [] H
+-- how many operations of t the event takes back, where it is a rollback
+abbrev pub taken_back : ℕ → EventKind → ℕ
+taken_back t (Rollback u n) = if u == t then n else 0
+taken_back t _ = 0
+
+-- how many operations t executed in some events
+abbrev pub executed : ℕ → List Event → ℕ
+executed t K = count_by (λ e. is_op_of t e.kind) K
+
+-- how many it took back in them
+abbrev pub rolled_back : ℕ → List Event → ℕ
+rolled_back t K = sum_by (λ e. taken_back t e.kind) K
+
+-- an operation of t with the events K behind it is struck by a rollback: up to one of these t took back more than it executed since
+abbrev pub is_rolled_back : ℕ → List Event → Bool
+is_rolled_back t K = list_any (λ n. nat_lt (executed t (take n K)) (rolled_back t (take n K))) (range_with_len 0 (suc (length K)))
+
+-- it stands: in K t doesn't abort, and no rollback strikes it
+abbrev pub stays : ℕ → List Event → Bool
+stays t K = not (is_among (aborts K) t) && not (is_rolled_back t K)
+
+-- the operation of the event, where it stands with the events K behind it
+abbrev pub staying_op : EventKind → List Event → List Entry
+staying_op (Op t x k) K = if stays t K then (record { by = t; at = x; op = k }) ∷ [] else []
+staying_op _ K = []
+
+-- each operation that stands by the events behind it, in order
+abbrev pub staying : List Event → List Entry
+staying [] = []
+staying (e ∷ K) = staying_op e.kind K ++ staying K

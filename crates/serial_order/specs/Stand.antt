@@ -1,11 +1,11 @@
 -- What an object stands for: when its state and its log are what a history says of it, and what its kept state then owes the
 -- serial state.
 use Rattle.std.specs.Prelude.{◌≡◌, ℕ, ◌-◌, List, ◌++◌, map, drop, length, true, false, cond, ◌==◌, Option, Some}
+use Rattle.std.specs.List.{AllByRecursion}
 use Rattle.type_table.specs.Run.{run, Looks, AreEqui}
 use Rattle.type_table.specs.declared.kind.Kind.{Kind}
 use Rattle.type_table.specs.declared.kind.Kind.TheVariants.{Undo, Intentions}
 use Rattle.object_trait.specs.Object.{Object, IsCoveredStrongly}
-use Rattle.object_trait.specs.Orders.{Each}
 use Rattle.object_trait.specs.Meaning.{Meaning, object, state_of}
 use Rattle.object_trait.specs.Steps.{applied, IsCommit, IsAbort, IsStrike}
 use Rattle.object_trait.specs.declared.event.Event.{Event}
@@ -27,14 +27,14 @@ pub record StandsUndo (o : Object) (base : ℕ) (log : List LogEntry) (x : ℕ) 
   pub past : List Entry
   pub reached : run o.table (Some o.table.initial) (ops past) ≡ Some base
   pub whole : past ++ map (plain x) log ≡ V
-  pub ended : Each (λ e. is_among committed e.by ≡ true) past
-  pub flags : Each (λ e. e.done ≡ is_among committed e.by) log
+  pub ended : AllByRecursion (λ e. is_among committed e.by ≡ true) past
+  pub flags : AllByRecursion (λ e. e.done ≡ is_among committed e.by) log
 
 -- deferred update: base is equieffective to the serial state, and the log is what stands of open transactions
 pub record StandsIntentions (o : Object) (base : ℕ) (log : List LogEntry) (x : ℕ) (committed : List ℕ) (V : List Entry) : Type 0 where
   pub reached : AreEqui o.table (Some base) (run o.table (Some o.table.initial) (ops (serial committed V)))
   pub whole : map (plain x) log ≡ pending committed V
-  pub flags : Each (λ e. e.done ≡ false) log
+  pub flags : AllByRecursion (λ e. e.done ≡ false) log
 
 abbrev pub StandsBy : Kind → Object → ℕ → List LogEntry → ℕ → List ℕ → List Entry → Type 0
 StandsBy Undo = StandsUndo
@@ -62,7 +62,7 @@ Changes x s _ old new = new ≡ old
 
 -- no open transaction has an operation at x
 abbrev pub IsIdle : ℕ → List Event → Type 0
-IsIdle x H = Each (λ e. is_open (seen H) e.by ≡ false) (standing_at x H)
+IsIdle x H = AllByRecursion (λ e. is_open (seen H) e.by ≡ false) (standing_at x H)
 
 -- update in place: where no open transaction has an operation at x, whatever the kept state allows, the serial state allows, and
 -- the reverse where the yes is strong. Deferred update: the two are equieffective, also while transactions are open

@@ -1,13 +1,12 @@
-//! Laws of histories, of the machine and of objects that stand for a history, up to the headline:
+//! Laws of histories, of the machine and of objects that represent a history, up to the headline:
 //! each is a function that does nothing, whose contract is the law. It calls the laws on which it
-//! stands.
+//! depends.
 
-ghost use Rattle.serial_order.specs.Laws.{RunIsHistory, RunGoesOn, StandsAsRead, AnswerMayFollow, ReplayRuns, SortsIntoCommitOrder, StruckViewIsLegal, ViewsAreLegal, CommitKeepsViews, FreshStands, StandsOn, AllowsAlike, MachineMayApply, Headline, CheckedHeadline};
+ghost use Rattle.serial_order.specs.Laws.{RunIsHistory, RunGoesOn, StandsAsRead, AnswerMayFollow, ReplayRuns, CommandAppends, RefusedAppendsNothing, ReplaysJoin, SortsIntoCommitOrder, StruckViewIsLegal, ViewsAreLegal, CommitKeepsViews, FreshStands, StandsOn, AllowsAlike, MachineMayApply, Headline, CheckedHeadline};
 
 use crate::entry::Entry;
 use object_trait::{checked_is_covered, parts_sort, sorts_equi, sorts_look, struck_part};
-use table_checker::lists_forward;
-use type_table::runs_along;
+use type_table::{lists_forward, runs_along};
 
 /// Each run of the machine is a history.
 #[tactic(auto, using(crate::proofs::Histories::run_is_history))]
@@ -21,7 +20,8 @@ pub fn run_goes_on()
     ensures { RunGoesOn }
 {}
 
-/// In a run, what stands is what no rollback struck, of the transactions that didn't abort.
+/// What stands is each operation behind which its transaction doesn't abort and, up to no event, took
+/// back more than it executed since: told by counts of events, and not by striking from a list.
 #[tactic(auto, using(crate::proofs::Readings::stands_as_read))]
 pub fn stands_as_read()
     ensures { StandsAsRead }
@@ -40,6 +40,21 @@ pub fn replay_runs()
 {
     run_goes_on();
 }
+
+/// Where memory isn't wanted, a command that isn't refused appends its event and nothing else, and that
+/// event may follow. A refused command appends nothing.
+#[tactic(auto, using(crate::proofs::Replays::command_appends, crate::proofs::Replays::refused_appends_nothing))]
+pub fn command_appends()
+    ensures accepted { CommandAppends }
+    ensures refused { RefusedAppendsNothing }
+{}
+
+/// The history after two lists of commands is the one after the second, from the one after the first
+/// on.
+#[tactic(auto, using(crate::proofs::Replays::replays_join))]
+pub fn replays_join()
+    ensures { ReplaysJoin }
+{}
 
 /// Commit order: at an object of update in place what stands sorts, neighbour by neighbour, into
 /// commit order with the open transactions last.
@@ -135,6 +150,9 @@ pub fn headline()
 /// interleaving of calls that the locks admit, the committed transactions, run one after another in
 /// commit order, give the same replies at every object; and whatever a kept state with no open
 /// transaction allows, the serial state allows, and the reverse where the yes is strong.**
+///
+/// The replies are those of the operations in the serial order: an answer `Busy` or `None`, and the
+/// reply of an operation that a rollback or an abort struck, aren't among them.
 #[tactic(auto, using(crate::proofs::Checked::checked_headline))]
 pub fn checked_headline()
     ensures { CheckedHeadline }

@@ -15,7 +15,8 @@ use Rattle.type_table.specs.declared.kind.Kind.TheVariants.{Undo, Intentions}
 use Rattle.type_text.specs.declared.type_file.TypeFile.{TypeFile}
 use Rattle.table_checker.specs.Condition.{ends_relate, end_of, passes, passes_forward, passes_backward, passes_both_ways, AreInside, PassesEverywhere}
 use Rattle.table_checker.specs.Reach.{is_outside, NeverLeaves}
-use Rattle.table_checker.specs.Checked.{conflicts_of, condition_of, strong_condition_of}
+use Rattle.table_checker.specs.Checked.{condition_of, strong_condition_of}
+use Rattle.type_text.specs.TypeFile.{conflicts_of}
 use Rattle.table_checker.specs.Laws.{YesCovers, StrongYesCovers}
 use Rattle.table_checker.specs.declared.condition.Condition.{Condition}
 use Rattle.table_checker.specs.declared.condition.Condition.TheVariants.{Forward, Backward, BackwardBothWays}

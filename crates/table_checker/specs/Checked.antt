@@ -6,6 +6,7 @@ use Rattle.type_table.specs.StateSet.{has}
 use Rattle.type_table.specs.Table.{IsTable}
 use Rattle.type_table.specs.declared.kind.Kind.{Kind}
 use Rattle.type_table.specs.declared.kind.Kind.TheVariants.{Undo, Intentions}
+use Rattle.type_text.specs.TypeFile.{conflicts_of}
 use Rattle.type_text.specs.declared.type_file.TypeFile.{TypeFile}
 use Rattle.table_checker.specs.Condition.{PassesEverywhere}
 use Rattle.table_checker.specs.Reach.{NeverLeaves}
@@ -16,11 +17,6 @@ use Rattle.table_checker.specs.declared.condition.Condition.TheVariants.{Forward
 pub record Checked : Type 0 where
   pub kind : Kind
   pub file : TypeFile
-
--- the conflict table of a kind
-abbrev pub conflicts_of : Kind → TypeFile → List (List Bool)
-conflicts_of Undo file = file.undo
-conflicts_of Intentions file = file.intentions
 
 -- what a kind asks of a pair
 abbrev pub condition_of : Kind → Condition

@@ -4,7 +4,8 @@ use Rattle.type_table.specs.ConflictTable.{conflicts}
 use Rattle.type_table.specs.StateSet.{has}
 use Rattle.type_table.specs.declared.kind.Kind.{Kind}
 use Rattle.type_text.specs.declared.type_file.TypeFile.{TypeFile}
-use Rattle.table_checker.specs.Checked.{Checked, IsChecked, IsStrong, conflicts_of}
+use Rattle.table_checker.specs.Checked.{Checked, IsChecked, IsStrong}
+use Rattle.type_text.specs.TypeFile.{conflicts_of}
 
 -- the file's conflict table for a kind covers its type at the file's set, over all lists of operations
 abbrev pub CoversType : Kind → TypeFile → Type 0

@@ -3,6 +3,6 @@ pub mod Scan
 pub mod Reach
 pub mod Checked
 pub mod Refusal
+pub mod Answer
 pub mod Laws
-pub mod Lists
 pub mod Examples

@@ -5,7 +5,8 @@ use Rattle.equi_cert.specs.Relation.{relates}
 use Rattle.type_table.specs.StateSet.{has}
 use Rattle.type_table.specs.declared.kind.Kind.{Kind}
 use Rattle.type_text.specs.declared.type_file.TypeFile.{TypeFile}
-use Rattle.table_checker.specs.Checked.{conflicts_of, condition_of, IsCertified}
+use Rattle.table_checker.specs.Checked.{condition_of, IsCertified}
+use Rattle.type_text.specs.TypeFile.{conflicts_of}
 use Rattle.table_checker.specs.Condition.{IsFirstFailure}
 use Rattle.table_checker.specs.Reach.{NeverLeaves, IsFirstLeave}
 use Rattle.table_checker.specs.declared.refusal.CheckRefusal.{CheckRefusal}

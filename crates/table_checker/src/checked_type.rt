@@ -1,5 +1,5 @@
 ghost use Rattle.std.specs.Prelude.{◌≡◌, ◌↔◌, true, length};
-ghost use Rattle.table_checker.specs.Checked.{conflicts_of, condition_of};
+ghost use Rattle.table_checker.specs.Checked.{condition_of};
 
 use crate::condition::Condition;
 use crate::scan::passes_everywhere;
@@ -25,7 +25,8 @@ impl Model for CheckedType {
 }
 
 impl CheckedType {
-    ghost use Rattle.table_checker.specs.Checked.{IsChecked, IsStrong, conflicts_of};
+    ghost use Rattle.table_checker.specs.Checked.{IsChecked, IsStrong};
+    ghost use Rattle.type_text.specs.TypeFile.{conflicts_of};
 
     /// What the checker tested, as a value.
     pub(crate) fn new(kind: Kind, file: TypeFile) -> CheckedType
@@ -61,7 +62,7 @@ impl CheckedType {
     pub fn conflicts(&self) -> &ConflictTable
         ensures { result.now ≡ conflicts_of self.now.kind self.now.file }
     {
-        conflicts_of(self.kind, &self.file)
+        self.file.conflicts(self.kind)
     }
 
     /// Whether kept states are equieffective to serial ones. For deferred update they always are;
@@ -86,16 +87,5 @@ pub fn condition_of(kind: Kind) -> Condition
     match kind {
         Kind::Undo => Condition::Backward,
         Kind::Intentions => Condition::Forward,
-    }
-}
-
-/// The conflict table of a kind.
-pub fn conflicts_of(kind: Kind, file: &TypeFile) -> &ConflictTable
-    ensures exact { result.now ≡ conflicts_of kind file.now }
-    ensures fits { length result.now ≡ length file.now.table.ops }
-{
-    match kind {
-        Kind::Undo => &file.undo,
-        Kind::Intentions => &file.intentions,
     }
 }

@@ -1,11 +1,13 @@
-ghost use Rattle.std.specs.Prelude.{◌≡◌, length, MatchResult, MatchOption, OnOk};
+ghost use Rattle.std.specs.Prelude.{◌≡◌, length, MatchOption, OnOk};
 ghost use Rattle.type_table.specs.StateSet.{has};
-ghost use Rattle.table_checker.specs.Condition.{PassesEverywhere};
-ghost use Rattle.table_checker.specs.Checked.{IsCertified, IsChecked, condition_of, conflicts_of};
+ghost use Rattle.type_text.specs.TypeFile.{conflicts_of};
+ghost use Rattle.table_checker.specs.Answer.{IsAnswer};
+ghost use Rattle.table_checker.specs.Condition.{PassesEverywhere, IsFirstFailure};
+ghost use Rattle.table_checker.specs.Checked.{IsCertified, condition_of};
 ghost use Rattle.table_checker.specs.Laws.{CoversType};
-ghost use Rattle.table_checker.specs.Refusal.{IsFirstReason, IsFirstOfCertificate};
+ghost use Rattle.table_checker.specs.Refusal.{IsFirstOfCertificate};
 
-use crate::checked_type::{CheckedType, condition_of, conflicts_of};
+use crate::checked_type::{CheckedType, condition_of};
 use crate::laws::yes_covers;
 use crate::parallel::first_failure_parallel;
 use crate::reach::{Leave, first_leave};
@@ -24,20 +26,15 @@ use type_text::TypeFile;
 ///
 /// The first refusal in the order of `CheckRefusal`. The file comes back.
 pub fn check(file: TypeFile, kind: Kind) -> Result<CheckedType, (TypeFile, CheckRefusal)>
-    ensures exact { MatchResult result
-        (λ c. (c ≡ record { kind = kind; file = file }) × IsChecked (record { kind = kind; file = file }))
-        (λ e. (e.0 ≡ file) × IsFirstReason kind file e.1) }
+    ensures exact { IsAnswer kind file result }
     // What holds at each state of the set holds over all lists of operations.
     ensures covers { OnOk result (CoversType kind file) }
 {
-    yes_covers();
     if let Some(refusal) = certificate_refusal(&file) {
         return Err((file, refusal));
     }
-    match first_failure(condition_of(kind), &file, conflicts_of(kind, &file)) {
-        None => Ok(CheckedType::new(kind, file)),
-        Some(triple) => Err((file, not_commuting(triple))),
-    }
+    let failure = first_failure(condition_of(kind), &file, file.conflicts(kind));
+    answer_of(kind, file, failure)
 }
 
 /// Answers what `check` answers, and looks at pairs and states by all processors.
@@ -50,19 +47,34 @@ pub fn check_parallel(
     file: TypeFile,
     kind: Kind,
 ) -> Result<CheckedType, (TypeFile, CheckRefusal)>
-    ensures exact { MatchResult result
-        (λ c. (c ≡ record { kind = kind; file = file }) × IsChecked (record { kind = kind; file = file }))
-        (λ e. (e.0 ≡ file) × IsFirstReason kind file e.1) }
+    ensures exact { IsAnswer kind file result }
     // What holds at each state of the set holds over all lists of operations.
     ensures covers { OnOk result (CoversType kind file) }
 {
-    yes_covers();
     if let Some(refusal) = certificate_refusal(&file) {
         return Err((file, refusal));
     }
-    match first_failure_parallel(rt, condition_of(kind), &file, conflicts_of(kind, &file)) {
+    let failure = first_failure_parallel(rt, condition_of(kind), &file, file.conflicts(kind));
+    answer_of(kind, file, failure)
+}
+
+/// The answer to a file whose set and relation are certified, by the first triple that fails.
+fn answer_of(
+    kind: Kind,
+    file: TypeFile,
+    failure: Option<Triple>,
+) -> Result<CheckedType, (TypeFile, CheckRefusal)>
+    requires certified { IsCertified file }
+    requires searched { MatchOption failure
+        (PassesEverywhere (condition_of kind) file (conflicts_of kind file))
+        (λ f. IsFirstFailure (condition_of kind) file (conflicts_of kind file) f.p f.q f.s) }
+    ensures exact { IsAnswer kind file result }
+    ensures covers { OnOk result (CoversType kind file) }
+{
+    yes_covers();
+    match failure {
         None => Ok(CheckedType::new(kind, file)),
-        Some(triple) => Err((file, not_commuting(triple))),
+        Some(Triple { p, q, s }) => Err((file, CheckRefusal::NotCommuting { p, q, s })),
     }
 }
 
@@ -87,15 +99,5 @@ fn begins_inside(table: &TypeTable, set: &StateSet) -> bool
     requires { length set.now ≡ table.now.states }
     ensures { result ≡ has set.now table.now.initial }
 {
-    let initial = table.initial();
-    let states = table.states();
-    prove!(initial < states);
-    set.has(initial)
-}
-
-fn not_commuting(triple: Triple) -> CheckRefusal
-    ensures { result ≡ CheckRefusal.NotCommuting triple.p triple.q triple.s }
-{
-    let Triple { p, q, s } = triple;
-    CheckRefusal::NotCommuting { p, q, s }
+    set.has(table.initial())
 }

@@ -10,15 +10,13 @@ mod parallel;
 mod reach;
 mod refusal;
 mod scan;
-#[cfg(test)]
-mod tests;
 
 pub use checked_type::{CheckedType, condition_of};
 pub use checker::{check, check_parallel};
 pub use condition::Condition;
-pub use laws::{
-    lists_backward, lists_backward_both_ways, lists_forward, strong_yes_covers, yes_covers,
-};
+pub use laws::{one_answer, strong_yes_covers, yes_covers};
 pub use refusal::CheckRefusal;
 pub use scan::first_failing_state;
 pub use type_table::Kind;
+
+pub mod worked;

@@ -15,8 +15,6 @@ mod make_error;
 mod names;
 mod semiqueue;
 mod set;
-#[cfg(test)]
-mod tests;
 
 pub use account::make_account;
 pub use counter::make_counter;
@@ -25,3 +23,5 @@ pub use made_file::make_tables;
 pub use make_error::MakeError;
 pub use semiqueue::make_semiqueue;
 pub use set::make_set;
+
+pub mod worked;

@@ -3,6 +3,7 @@ use Rattle.std.proofs.Common.{◌≡◌, ℕ, ◌+◌, ◌<◌, length, get_or, 
 use Rattle.std.proofs.lemmas.List.{at_drop_more}
 use Rattle.type_table.specs.Table.{Table, next}
 use Rattle.type_table.specs.Run.{next_of, run, Looks, AreEqui}
+use Rattle.type_table.specs.Laws.{LooksExtends, EquiExtends}
 
 pub run-append : (T : Table) (from : Option ℕ) (v w : List ℕ) → run T from (v ++ w) ≡ run T (run T from v) w
 run-append T from [] w = refl
@@ -13,6 +14,22 @@ Looks-run T a b w h = λ ks legal. rw (run-append T b w ks) at (h (w ++ ks) (rw 
 
 pub AreEqui-run : (T : Table) (a b : Option ℕ) (w : List ℕ) → AreEqui T a b → AreEqui T (run T a w) (run T b w)
 AreEqui-run T a b w h = (Looks-run T a b w h.0, Looks-run T b a w h.1)
+
+-- looks-like is extended
+pub looks_extends : LooksExtends
+looks_extends T = record {
+  itself = λ a ks h. h;
+  through = λ a b c h k ks legal. k ks (h ks legal);
+  after = λ a b w h legal. (h w legal, Looks-run T a b w h);
+}
+
+-- and so is equieffective
+pub equi_extends : EquiExtends
+equi_extends T = record {
+  itself = λ a. (λ ks h. h, λ ks h. h);
+  through = λ a b c h k. (λ ks legal. k.0 ks (h.0 ks legal), λ ks legal. h.1 ks (k.1 ks legal));
+  after = λ a b w h legal. (h.0 w legal, AreEqui-run T a b w h);
+}
 
 -- nothing is legal where there is no state
 pub run_from_none : (T : Table) (ks : List ℕ) → run T None ks ≡ None

@@ -15,6 +15,19 @@ LooksAfter = (T : Table) (a b : Option ℕ) (w : List ℕ) → Looks T a b → I
 abbrev pub EquiAfter : Type 0
 EquiAfter = (T : Table) (a b : Option ℕ) (w : List ℕ) → AreEqui T a b → IsLegal T a w → IsLegal T b w × AreEqui T (run T a w) (run T b w)
 
+-- what looks-like and equieffective have in common: each state is so to itself, it goes through a third one, and it stays so after
+-- the same operations
+pub record IsExtended (T : Table) (R : Option ℕ → Option ℕ → Type 0) : Type 0 where
+  pub itself : (a : Option ℕ) → R a a
+  pub through : (a b c : Option ℕ) → R a b → R b c → R a c
+  pub after : (a b : Option ℕ) (w : List ℕ) → R a b → IsLegal T a w → IsLegal T b w × R (run T a w) (run T b w)
+
+abbrev pub LooksExtends : Type 0
+LooksExtends = (T : Table) → IsExtended T (Looks T)
+
+abbrev pub EquiExtends : Type 0
+EquiExtends = (T : Table) → IsExtended T (AreEqui T)
+
 -- a step is of an operation of the table, from a state to a state
 abbrev pub StepsWithin : Type 0
 StepsWithin = (T : Table) (s k t : ℕ) → IsTable T → next T s k ≡ Some t → (s < T.states) × (k < length T.ops) × (t < T.states)

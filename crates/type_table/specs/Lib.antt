@@ -9,4 +9,5 @@ pub mod StateSet
 pub mod ConflictTable
 pub mod Commute
 pub mod Laws
+pub mod Lists
 pub mod Examples

@@ -10,14 +10,17 @@ mod op;
 mod state_set;
 mod table;
 mod table_error;
-#[cfg(test)]
-mod tests;
 
 pub use conflict_table::ConflictTable;
 pub use kind::Kind;
-pub use laws::{equi_after, looks_after, runs_along, steps_within};
+pub use laws::{
+    equi_after, equi_extends, lists_backward, lists_backward_both_ways, lists_forward, looks_after,
+    looks_extends, runs_along, steps_within,
+};
 pub use name::Name;
 pub use op::Op;
 pub use state_set::StateSet;
 pub use table::TypeTable;
 pub use table_error::TableError;
+
+pub mod worked;

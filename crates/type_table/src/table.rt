@@ -104,9 +104,10 @@ impl TypeTable {
         self.states
     }
 
-    /// The initial state.
+    /// The initial state, which is one of the table's.
     pub fn initial(&self) -> u16
-        ensures { result ≡ self.now.initial }
+        ensures exact { result ≡ self.now.initial }
+        ensures inside { result < self.now.states }
     {
         self.initial
     }

@@ -10,13 +10,14 @@ use Rattle.type_table.specs.StateSet.{has}
 use Rattle.type_table.specs.ConflictTable.{conflicts}
 use Rattle.type_table.specs.declared.kind.Kind.{Kind}
 use Rattle.equi_cert.specs.Relation.{relates}
+use Rattle.type_text.specs.TypeFile.{conflicts_of}
 use Rattle.type_text.specs.declared.type_file.TypeFile.{TypeFile}
 use Rattle.type_text.specs.declared.type_line.TypeLine.{TypeLine}
 use Rattle.type_text.specs.declared.type_line.TypeLine.TheVariants.{States, Initial, Step, Reach, Equi, Conflict}
 use Rattle.type_text.specs.declared.entries.Entries.{Entries}
 use Rattle.type_text.specs.declared.entries.Entries.TheVariants.{Steps, Members, Pairs, Conflicts}
 use Rattle.type_text.specs.TypeLines.{rank_of, conflict_rank, key_of, is_in_range, is_twin, op_in, states_of, op_count}
-use Rattle.type_text.specs.Canonical.{rows, columns, is_whole, pairs_of, line_at, IsNamed, IsTypeFile}
+use Rattle.type_text.specs.Canonical.{rows, columns, is_whole, line_at, IsNamed, IsTypeFile}
 use Rattle.type_text.proofs.Twins.{never_twin}
 use Rattle.type_text.proofs.CanonicalFront.{AreCounted}
 
@@ -131,5 +132,5 @@ module _ (file : TypeFile) (known : IsTypeFile file) where
       let found = picked (relates file.relation s t && not (eqb s t)) (Equi s t) x e in
       subst (IsEntry file 6 s t) found.1 (equi_entry s t s_in t_in ((and_parts (relates file.relation s t) (not (eqb s t)) found.0).1))
   entry_at within (Conflicts kind) p q x p_in q_in e =
-      let found = picked (conflicts (pairs_of kind file) p q) (Conflict kind p q) x e in
+      let found = picked (conflicts (conflicts_of kind file) p q) (Conflict kind p q) x e in
       subst (IsEntry file (conflict_rank kind) p q) found.1 (conflict_entry kind p q p_in q_in)

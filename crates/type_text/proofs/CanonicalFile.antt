@@ -19,8 +19,8 @@ use Rattle.type_text.specs.declared.type_line.TypeLine.TheVariants.{Step, Reach,
 use Rattle.type_text.specs.declared.entries.Entries.{Entries}
 use Rattle.type_text.specs.declared.entries.Entries.TheVariants.{Steps, Members, Pairs, Conflicts}
 use Rattle.type_text.specs.TypeLines.{rank_of, op_in, ops_of}
-use Rattle.type_text.specs.TypeFile.{IsTableOf, IsReached, IsFileOf}
-use Rattle.type_text.specs.Canonical.{rows, is_whole, pairs_of, canonical_lines, IsTypeFile}
+use Rattle.type_text.specs.TypeFile.{IsTableOf, IsReached, IsFileOf, conflicts_of}
+use Rattle.type_text.specs.Canonical.{rows, is_whole, canonical_lines, IsTypeFile}
 use Rattle.type_text.proofs.CanonicalEntries.{entry_rank, entry_at, picked, mapped}
 use Rattle.type_text.proofs.CanonicalMembers.{IsCell, cell_of_line, contains_cell, section_in_lines, body, each_in_body}
 use Rattle.type_text.proofs.CanonicalAccepted.{body_ops}
@@ -204,18 +204,18 @@ module _ (within : StepsWithin) (file : TypeFile) (known : IsTypeFile file) wher
   ]
 
   -- the `conflict` lines of a kind are the pairs of its table
-  conflict_lines : (kind : Kind) → IsSquare (length file.table.ops) (pairs_of kind file) → (p q : ℕ) → (conflicts (pairs_of kind file) p q ≡ true) ↔ Contains (canonical_lines file) (Conflict kind p q)
+  conflict_lines : (kind : Kind) → IsSquare (length file.table.ops) (conflicts_of kind file) → (p q : ℕ) → (conflicts (conflicts_of kind file) p q ≡ true) ↔ Contains (canonical_lines file) (Conflict kind p q)
   conflict_lines kind square p q = (
     λ h.
-        let inside = pair_within (length file.table.ops) (pairs_of kind file) p q square h in
+        let inside = pair_within (length file.table.ops) (conflicts_of kind file) p q square h in
         line_of_cell (Conflict kind p q) (Conflicts kind) (record { row = p; column = q; row_in = inside.0; column_in = inside.1; is = rw h refl }),
     λ h.
         let cell = cell_in_lines (Conflict kind p q) (Conflicts kind) refl h in
-        let found = picked (conflicts (pairs_of kind file) cell.row cell.column) (Conflict kind cell.row cell.column) (Conflict kind p q) cell.is in
+        let found = picked (conflicts (conflicts_of kind file) cell.row cell.column) (Conflict kind cell.row cell.column) (Conflict kind p q) cell.is in
         let same : Conflict kind cell.row cell.column ≡ Conflict kind p q = found.1 in
         let first : cell.row ≡ p = cc in
         let second : cell.column ≡ q = cc in
-        moved (λ x y. conflicts (pairs_of kind file) x y ≡ true) cell.row cell.column p q first second found.0,
+        moved (λ x y. conflicts (conflicts_of kind file) x y ≡ true) cell.row cell.column p q first second found.0,
   )
 
   -- the lines describe the file

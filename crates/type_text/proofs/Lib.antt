@@ -1,5 +1,4 @@
-pub mod Puts
-pub mod Takes
+pub mod Turns
 pub mod Members
 pub mod Steps
 pub mod Conflicts

@@ -9,29 +9,16 @@ use Rattle.std.specs.Result.{IsErrAnd}
 use Rattle.line_text.specs.Spelling.{spaced, text_of}
 use Rattle.type_table.specs.declared.op.Op.{Op}
 use Rattle.type_table.specs.declared.kind.Kind.TheVariants.{Undo, Intentions}
-use Rattle.type_text.specs.Out.{Puts}
+use Rattle.outputs.specs.Out.{Puts, PutsItems, PutsJoin}
 use Rattle.type_text.specs.Canonical.{words_of, lines_of_entries, canonical_lines, canonical_text}
 use Rattle.type_text.specs.declared.entries.Entries.{Entries}
 use Rattle.type_text.specs.declared.entries.Entries.TheVariants.{Steps, Members, Pairs, Conflicts}
-use Rattle.type_text.specs.declared.output.OutFault.{OutFault}
+use Rattle.outputs.specs.declared.out.OutFault.{OutFault}
 use Rattle.type_text.specs.declared.type_file.TypeFile.{TypeFile}
 use Rattle.type_text.specs.declared.type_line.TypeLine.{TypeLine}
 use Rattle.type_text.specs.declared.type_line.TypeLine.TheVariants.{TypeName, States, Initial, Operation, End}
 use Rattle.type_text.proofs.Members.{take-more}
-use Rattle.type_text.proofs.Puts.{Puts-append, Puts-exit_at}
-
--- ---- words
-
--- a keyword, and a space before each word behind it
-pub spaced-words : {X : Type 0} (now : X → List ℕ) (keyword : List ℕ) (words : List X)
-    → spaced (keyword ∷ map now words) ≡ keyword ++ flat_map (λ w. 32 ∷ now w) words
-spaced-words now keyword [] = sym (append-nil keyword)
-spaced-words now keyword (w ∷ words) = ap (λ l. keyword ++ 32 ∷ l) (spaced-words now (now w) words)
-
--- the same with the end of the line
-pub line-words : {X : Type 0} (now : X → List ℕ) (keyword : List ℕ) (words : List X)
-    → keyword ++ (flat_map (λ w. 32 ∷ now w) words ++ 10 ∷ []) ≡ spaced (keyword ∷ map now words) ++ 10 ∷ []
-line-words now keyword words = rw (spaced-words now keyword words) (sym (append_assoc keyword (flat_map (λ w. 32 ∷ now w) words) (10 ∷ [])))
+use Rattle.type_text.proofs.Turns.{Puts-append, Puts-exit_at}
 
 -- ---- lines
 
@@ -65,56 +52,56 @@ range-more i =
 -- ---- groups that are written in turn
 
 -- one more group
-pub groups_more : {a b c : Option (List ℕ)} {f g : Option OutFault} {result : Result (Unit {0}) OutFault}
+pub groups_more : PutsJoin → {a b c : Option (List ℕ)} {f g : Option OutFault} {result : Result (Unit {0}) OutFault}
     (lines : ℕ → List TypeLine) (i : ℕ) → Puts a b f (text_of words_of (flat_map lines (range_with_len 0 i))) (Ok tt)
     → Puts b c g (text_of words_of (lines i)) result → Puts a c g (text_of words_of (flat_map lines (range_with_len 0 (i + 1)))) result
-groups_more {a = a} {c = c} {g = g} {result = result} lines i so_far next =
+groups_more joined {a = a} {c = c} {g = g} {result = result} lines i so_far next =
     let text : text_of words_of (flat_map lines (range_with_len 0 (i + 1))) ≡ text_of words_of (flat_map lines (range_with_len 0 i)) ++ text_of words_of (lines i) =
     ap (λ l. text_of words_of (flat_map lines l)) (range-more i) ∙ ap (text_of words_of) (flat_map-append lines (range_with_len 0 i) (i ∷ []))
     ∙ text_of-append (flat_map lines (range_with_len 0 i)) (lines i ++ []) ∙ ap (λ l. text_of words_of (flat_map lines (range_with_len 0 i)) ++ text_of words_of l) (append-nil (lines i)) in
-    subst (λ (t : List ℕ). Puts a c g t result) (sym text) (Puts-append so_far next)
+    subst (λ (t : List ℕ). Puts a c g t result) (sym text) (Puts-append joined so_far next)
 
 -- a group at which the output stopped, at the exit of a `?`
-pub group_exit : {X : Type 0} {a b c : Option (List ℕ)} {f g : Option OutFault} {e : OutFault} {result : Result (Unit {0}) OutFault}
+pub group_exit : {X : Type 0} → PutsItems X → {a b c : Option (List ℕ)} {f g : Option OutFault} {e : OutFault} {result : Result (Unit {0}) OutFault}
     (lines : X → List TypeLine) (xs : List X) (i : ℕ) (d : X) → i < length xs → Puts a b f (text_of words_of (flat_map lines (take i xs))) (Ok tt)
     → Puts b c g (text_of words_of (lines (get_or xs i d))) (Err e) → IsErrAnd result (λ y. y ≡ e) → Puts a c g (text_of words_of (flat_map lines xs)) result
-group_exit {a = a} {b = b} {c = c} {f = f} {g = g} {result = result} lines xs i d inside so_far stop exit =
+group_exit items {a = a} {b = b} {c = c} {f = f} {g = g} {result = result} lines xs i d inside so_far stop exit =
     let front : Puts a b f (flat_map (λ x. text_of words_of (lines x)) (take i xs)) (Ok tt) = rw (← text_of-groups lines (take i xs)) so_far in
-    rw (text_of-groups lines xs) (Puts-exit_at (λ x. text_of words_of (lines x)) xs i d inside front stop exit)
+    rw (text_of-groups lines xs) (Puts-exit_at items (λ x. text_of words_of (lines x)) xs i d inside front stop exit)
 
 -- the same for groups by their numbers
-pub groups_exit : {a b c : Option (List ℕ)} {f g : Option OutFault} {e : OutFault} {result : Result (Unit {0}) OutFault}
+pub groups_exit : PutsItems ℕ → {a b c : Option (List ℕ)} {f g : Option OutFault} {e : OutFault} {result : Result (Unit {0}) OutFault}
     (lines : ℕ → List TypeLine) (n i : ℕ) → i < n → Puts a b f (text_of words_of (flat_map lines (range_with_len 0 i))) (Ok tt)
     → Puts b c g (text_of words_of (lines i)) (Err e) → IsErrAnd result (λ y. y ≡ e) → Puts a c g (text_of words_of (flat_map lines (range_with_len 0 n))) result
-groups_exit {a = a} {b = b} {c = c} {f = f} {g = g} {e = e} {result = result} lines n i inside so_far stop exit =
+groups_exit items {a = a} {b = b} {c = c} {f = f} {g = g} {e = e} {result = result} lines n i inside so_far stop exit =
     let within : i ≤ n = omega (arith, inside) in
     let long : i < length (range_with_len 0 n) = omega (arith, inside, length-range_with_len 0 n) in
     let at : get_or (range_with_len 0 n) i 0 ≡ i = get_or-range_with_len 0 n i 0 inside ∙ zero-add i in
     let front : Puts a b f (text_of words_of (flat_map lines (take i (range_with_len 0 n)))) (Ok tt) = rw (take-range 0 n i within) so_far in
     let here : Puts b c g (text_of words_of (lines (get_or (range_with_len 0 n) i 0))) (Err e) = rw at stop in
-    group_exit lines (range_with_len 0 n) i 0 long front here exit
+    group_exit items lines (range_with_len 0 n) i 0 long front here exit
 
 -- ---- operations
 
 -- one more `op` line
-pub ops_more : {a b c : Option (List ℕ)} {f g : Option OutFault} {result : Result (Unit {0}) OutFault}
+pub ops_more : PutsJoin → {a b c : Option (List ℕ)} {f g : Option OutFault} {result : Result (Unit {0}) OutFault}
     (ops : List Op) (i : ℕ) (op : Op) → i < length ops → op ≡ get_or ops i op → Puts a b f (text_of words_of (map Operation (take i ops))) (Ok tt)
     → Puts b c g (spaced (words_of (Operation op)) ++ 10 ∷ []) result → Puts a c g (text_of words_of (map Operation (take (i + 1) ops))) result
-ops_more {a = a} {c = c} {g = g} {result = result} ops i op inside at so_far next =
+ops_more joined {a = a} {c = c} {g = g} {result = result} ops i op inside at so_far next =
     let text : text_of words_of (map Operation (take (i + 1) ops)) ≡ text_of words_of (map Operation (take i ops)) ++ (spaced (words_of (Operation op)) ++ 10 ∷ []) =
     ap (λ l. text_of words_of (map Operation l)) (take-more ops i op inside at) ∙ ap (text_of words_of) (map-append Operation (take i ops) (op ∷ []))
     ∙ text_of-append (map Operation (take i ops)) (Operation op ∷ []) ∙ ap (λ l. text_of words_of (map Operation (take i ops)) ++ l) (append-nil (spaced (words_of (Operation op)) ++ 10 ∷ [])) in
-    rw text (Puts-append so_far next)
+    rw text (Puts-append joined so_far next)
 
 -- an `op` line at which the output stopped, at the exit of a `?`
-pub ops_exit : {a b c : Option (List ℕ)} {f g : Option OutFault} {e : OutFault} {result : Result (Unit {0}) OutFault}
+pub ops_exit : PutsItems Op → {a b c : Option (List ℕ)} {f g : Option OutFault} {e : OutFault} {result : Result (Unit {0}) OutFault}
     (ops : List Op) (i : ℕ) (op : Op) → i < length ops → op ≡ get_or ops i op → Puts a b f (text_of words_of (map Operation (take i ops))) (Ok tt)
     → Puts b c g (spaced (words_of (Operation op)) ++ 10 ∷ []) (Err e) → IsErrAnd result (λ y. y ≡ e) → Puts a c g (text_of words_of (map Operation ops)) result
-ops_exit {a = a} {b = b} {c = c} {f = f} {g = g} {e = e} {result = result} ops i op inside at so_far stop exit =
+ops_exit items {a = a} {b = b} {c = c} {f = f} {g = g} {e = e} {result = result} ops i op inside at so_far stop exit =
     let text : Op → List ℕ = λ o. spaced (words_of (Operation o)) ++ 10 ∷ [] in
     let front : Puts a b f (flat_map text (take i ops)) (Ok tt) = rw (← flat_map-map (λ line. spaced (words_of line) ++ 10 ∷ []) Operation (take i ops)) so_far in
     let here : Puts b c g (text (get_or ops i op)) (Err e) = rw (← at) stop in
-    rw (flat_map-map (λ line. spaced (words_of line) ++ 10 ∷ []) Operation ops) (Puts-exit_at text ops i op inside front here exit)
+    rw (flat_map-map (λ line. spaced (words_of line) ++ 10 ∷ []) Operation ops) (Puts-exit_at items text ops i op inside front here exit)
 
 -- ---- the whole text
 

@@ -15,7 +15,7 @@ use Rattle.equi_cert.specs.Relation.{relates, IsRelation}
 use Rattle.line_text.specs.Spelling.{text_of}
 use Rattle.line_text.specs.Outcome.{outcome_of}
 use Rattle.type_text.specs.TypeLines.{type_rules}
-use Rattle.type_text.specs.TypeFile.{IsFileOf, Reads}
+use Rattle.type_text.specs.TypeFile.{IsFileOf, Reads, conflicts_of}
 use Rattle.type_text.specs.declared.type_file.TypeFile.{TypeFile}
 use Rattle.type_text.specs.declared.type_line.TypeLine.{TypeLine}
 use Rattle.type_text.specs.declared.type_line.TypeLine.TheVariants.{TypeName, States, Initial, Operation, Step, Reach, Equi, Conflict, End}
@@ -59,17 +59,12 @@ columns file Members = 1
 columns file Pairs = file.table.states
 columns file (Conflicts kind) = length file.table.ops
 
--- the conflict table of a kind
-abbrev pub pairs_of : Kind → TypeFile → List (List Bool)
-pairs_of Undo file = file.undo
-pairs_of Intentions file = file.intentions
-
 -- the line of a cell
 abbrev pub line_at : TypeFile → Entries → ℕ → ℕ → Option TypeLine
 line_at file Steps s k = option_map (Step s k) (next file.table s k)
 line_at file Members s column = line_where (has file.reach s) (Reach s)
 line_at file Pairs s t = line_where (relates file.relation s t && not (s == t)) (Equi s t)
-line_at file (Conflicts kind) p q = line_where (conflicts (pairs_of kind file) p q) (Conflict kind p q)
+line_at file (Conflicts kind) p q = line_where (conflicts (conflicts_of kind file) p q) (Conflict kind p q)
 
 -- the lines of a row, and of the whole section
 abbrev pub lines_of_row : TypeFile → Entries → ℕ → List TypeLine

@@ -1,4 +1,3 @@
-pub mod Out
 pub mod TypeLines
 pub mod Reach
 pub mod TypeFile

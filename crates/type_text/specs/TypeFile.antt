@@ -1,9 +1,10 @@
 -- The file that the lines of a text describe.
-use Rattle.std.specs.Prelude.{◌≡◌, ◌↔◌, ◌⊎◌, ◌<◌, ℕ, true, List, slice_get, Some, Contains, Result, Ok, Err}
+use Rattle.std.specs.Prelude.{◌≡◌, ◌↔◌, ◌⊎◌, ◌<◌, ℕ, Bool, true, List, slice_get, Some, Contains, Result, Ok, Err}
 use Rattle.type_table.specs.Table.{Table, next}
 use Rattle.type_table.specs.StateSet.{has}
 use Rattle.equi_cert.specs.Relation.{relates}
 use Rattle.type_table.specs.ConflictTable.{conflicts}
+use Rattle.type_table.specs.declared.kind.Kind.{Kind}
 use Rattle.type_table.specs.declared.kind.Kind.TheVariants.{Undo, Intentions}
 use Rattle.line_text.specs.Outcome.{outcome_of, IsReached as IsReachedLine}
 use Rattle.line_text.specs.Text.{lines_of}
@@ -33,6 +34,11 @@ pub record IsFileOf (lines : List TypeLine) (file : TypeFile) : Type 0 where
   pub relation : (s t : ℕ) → s < file.table.states → t < file.table.states → (relates file.relation s t ≡ true) ↔ ((s ≡ t) ⊎ Contains lines (Equi s t))
   pub undo : (p q : ℕ) → (conflicts file.undo p q ≡ true) ↔ Contains lines (Conflict Undo p q)
   pub intentions : (p q : ℕ) → (conflicts file.intentions p q ≡ true) ↔ Contains lines (Conflict Intentions p q)
+
+-- the file's conflict table for a kind
+abbrev pub conflicts_of : Kind → TypeFile → List (List Bool)
+conflicts_of Undo file = file.undo
+conflicts_of Intentions file = file.intentions
 
 -- the file of a text that has a value, else the text's fault; or memory was refused at the line that was being read
 abbrev pub Reads : Result TypeFile TextFault → List ℕ → Type 0

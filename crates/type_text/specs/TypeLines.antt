@@ -90,20 +90,46 @@ line_of words =
 
 -- ---- the sections
 
+-- their ranks
+abbrev pub type_rank : ℕ
+type_rank = 0
+
+abbrev pub states_rank : ℕ
+states_rank = 1
+
+abbrev pub initial_rank : ℕ
+initial_rank = 2
+
+abbrev pub op_rank : ℕ
+op_rank = 3
+
+abbrev pub step_rank : ℕ
+step_rank = 4
+
+abbrev pub reach_rank : ℕ
+reach_rank = 5
+
+abbrev pub equi_rank : ℕ
+equi_rank = 6
+
+abbrev pub end_rank : ℕ
+end_rank = 9
+
 abbrev pub conflict_rank : Kind → ℕ
 conflict_rank Undo = 7
 conflict_rank Intentions = 8
 
+-- the rank of the section of a line
 abbrev pub rank_of : TypeLine → ℕ
-rank_of (TypeName name) = 0
-rank_of (States states) = 1
-rank_of (Initial s) = 2
-rank_of (Operation op) = 3
-rank_of (Step s k t) = 4
-rank_of (Reach s) = 5
-rank_of (Equi s t) = 6
+rank_of (TypeName name) = type_rank
+rank_of (States states) = states_rank
+rank_of (Initial s) = initial_rank
+rank_of (Operation op) = op_rank
+rank_of (Step s k t) = step_rank
+rank_of (Reach s) = reach_rank
+rank_of (Equi s t) = equi_rank
 rank_of (Conflict kind p q) = conflict_rank kind
-rank_of End = 9
+rank_of End = end_rank
 
 -- a section that is one line
 abbrev pub one_line : Section
@@ -122,7 +148,7 @@ sections = one_line ∷ one_line ∷ one_line ∷ op_lines ∷ any_lines ∷ any
 
 -- ---- what the lines say together
 
--- the number of states stands in the second line
+-- the number of states, which the second line tells
 abbrev pub states_in : Option TypeLine → ℕ
 states_in (Some (States states)) = states
 states_in _ = 0
@@ -140,7 +166,7 @@ ops_of lines = filter_map op_in lines
 
 -- how many lines are `op` lines
 abbrev pub op_count : List TypeLine → ℕ
-op_count lines = count_by (λ x. rank_of x == 3) lines
+op_count lines = count_by (λ x. rank_of x == op_rank) lines
 
 -- ---- the tests of a line behind others
 

@@ -1,10 +1,10 @@
-//! Texts of types, and what all texts are written to.
+//! Texts of types: what is read and written of a type file. The outputs are passed on.
 #![tactic(auto)]
 
 mod build;
 mod entries;
+mod file_conflicts;
 mod laws;
-mod output;
 mod read;
 mod type_file;
 mod type_grammar;
@@ -13,10 +13,11 @@ mod write;
 
 pub use laws::{canonical_is_read, lines_tell_the_file, written_is_read};
 pub use line_text::{FaultKind, TextFault};
-pub use output::{Failed, Out, OutFault, Sink, put, put_all, texts_in_turn};
+pub use outputs::{
+    Failed, Out, OutFault, Sink, items_in_turn, put, put_all, put_line, texts_in_turn,
+};
 pub use read::read_type;
 pub use type_file::TypeFile;
 pub use write::write_type;
 
-#[cfg(test)]
-mod tests;
+pub mod worked;

@@ -27,13 +27,32 @@ const OP_LINES: Section = Section {
     most: Some(64),
 };
 
+/// The sections by rank.
 static SECTIONS: [Section; 10] = [
     ONE_LINE, ONE_LINE, ONE_LINE, OP_LINES, ANY_LINES, ANY_LINES, ANY_LINES, ANY_LINES, ANY_LINES,
     ONE_LINE,
 ];
 
-/// The place of the `op` lines among the sections.
+// The ranks of the sections, which are their places among them.
+const TYPE_RANK: usize = 0;
+
+const STATES_RANK: usize = 1;
+
+const INITIAL_RANK: usize = 2;
+
 const OP_RANK: usize = 3;
+
+const STEP_RANK: usize = 4;
+
+const REACH_RANK: usize = 5;
+
+const EQUI_RANK: usize = 6;
+
+const UNDO_RANK: usize = 7;
+
+const INTENTIONS_RANK: usize = 8;
+
+const END_RANK: usize = 9;
 
 /// The grammar of type files.
 #[derive(Clone, Copy, Debug)]
@@ -75,18 +94,18 @@ impl Grammar for TypeGrammar {
 
     fn rank(&self, item: TypeLine) -> usize {
         match item {
-            TypeLine::TypeName(_) => 0,
-            TypeLine::States(_) => 1,
-            TypeLine::Initial(_) => 2,
+            TypeLine::TypeName(_) => TYPE_RANK,
+            TypeLine::States(_) => STATES_RANK,
+            TypeLine::Initial(_) => INITIAL_RANK,
             TypeLine::Operation(_) => OP_RANK,
-            TypeLine::Step { .. } => 4,
-            TypeLine::Reach(_) => 5,
-            TypeLine::Equi { .. } => 6,
+            TypeLine::Step { .. } => STEP_RANK,
+            TypeLine::Reach(_) => REACH_RANK,
+            TypeLine::Equi { .. } => EQUI_RANK,
             TypeLine::Conflict { kind, .. } => match kind {
-                Kind::Undo => 7,
-                Kind::Intentions => 8,
+                Kind::Undo => UNDO_RANK,
+                Kind::Intentions => INTENTIONS_RANK,
             },
-            TypeLine::End => 9,
+            TypeLine::End => END_RANK,
         }
     }
 
@@ -126,7 +145,7 @@ impl Grammar for TypeGrammar {
     }
 }
 
-/// The number of states, which stands in the second line.
+/// The number of states, which the second line tells.
 fn states_of(lines: &[TypeLine]) -> u32
     ensures { result ≡ states_of lines.now }
 {

@@ -4,19 +4,18 @@ ghost use Rattle.std.specs.Prelude.{◌≡◌, ◌<◌, ◌++◌, ◌∷◌, [],
 ghost use Rattle.std.specs.List.{flat_map};
 ghost use Rattle.std.specs.Option.{option_to_list};
 ghost use Rattle.line_text.specs.Spelling.{spaced, text_of};
-ghost use Rattle.type_table.specs.Kind.{kind_word};
 ghost use Rattle.type_table.specs.Name.{is_name};
 ghost use Rattle.type_table.specs.Table.{IsTable};
-ghost use Rattle.type_text.specs.Out.{Puts};
-ghost use Rattle.type_text.specs.Canonical.{words_of, is_whole, rows, columns, line_at, lines_of_row, lines_of_entries, canonical_text, line_where, pairs_of, IsNamed, IsTypeFile, IsReadBack};
+ghost use Rattle.outputs.specs.Out.{Puts};
+ghost use Rattle.type_text.specs.Canonical.{words_of, is_whole, rows, columns, line_at, lines_of_row, lines_of_entries, canonical_text, line_where, IsNamed, IsTypeFile, IsReadBack};
 
 use crate::entries::Entries;
 use crate::laws::canonical_is_read;
-use crate::output::{Out, OutFault, put};
 use crate::type_file::TypeFile;
 use crate::type_line::TypeLine;
 use itoa::Buffer;
-use type_table::{ConflictTable, Kind, Op, StateSet, TypeTable};
+use outputs::{Out, OutFault, items_in_turn, put_line, texts_in_turn};
+use type_table::{Kind, Op, StateSet, TypeTable};
 
 /// The sections of entries in the order of a text.
 const SECTIONS: [Entries; 5] = [
@@ -40,6 +39,7 @@ pub fn write_type<W: Out>(file: &TypeFile, out: &mut W) -> Result<(), OutFault>
     ensures read_back { OnOk result (IsReadBack file.now) }
 {
     canonical_is_read();
+    texts_in_turn();
     known(file);
     write_head(out, &file.table)?;
     write_ops(out, file.table.ops())?;
@@ -64,6 +64,7 @@ fn write_head<W: Out>(out: &mut W, table: &TypeTable) -> Result<(), OutFault>
         (text_of words_of (TypeLine.TypeName table.now.name ∷ TypeLine.States table.now.states ∷ TypeLine.Initial table.now.initial ∷ [])) result }
     ensures named { OnOk result (is_name table.now.name ≡ true) }
 {
+    texts_in_turn();
     write_line(out, TypeLine::TypeName(table.name()))?;
     write_line(out, TypeLine::States(table.states() as u32))?;
     write_line(out, TypeLine::Initial(table.initial() as u32))
@@ -75,6 +76,8 @@ fn write_ops<W: Out>(out: &mut W, ops: &[Op]) -> Result<(), OutFault>
     ensures writes { Puts (W.taken out.old) (W.taken out.new) (W.fault out.new) (text_of words_of (map TypeLine.Operation ops.now)) result }
     ensures named { OnOk result (All (λ op. IsNamed (TypeLine.Operation op)) ops.now) }
 {
+    texts_in_turn();
+    items_in_turn::<Op>();
     for op in ops {
         write_line(out, TypeLine::Operation(*op))?;
     }
@@ -86,6 +89,8 @@ fn write_sections<W: Out>(out: &mut W, file: &TypeFile) -> Result<(), OutFault>
     requires { W.fault out.old ≡ None }
     ensures { Puts (W.taken out.old) (W.taken out.new) (W.fault out.new) (text_of words_of (flat_map (lines_of_entries file.now) SECTIONS)) result }
 {
+    texts_in_turn();
+    items_in_turn::<Entries>();
     for entries in &SECTIONS {
         write_entries(out, file, *entries)?;
     }
@@ -97,6 +102,8 @@ fn write_entries<W: Out>(out: &mut W, file: &TypeFile, entries: Entries) -> Resu
     requires { W.fault out.old ≡ None }
     ensures { Puts (W.taken out.old) (W.taken out.new) (W.fault out.new) (text_of words_of (lines_of_entries file.now entries)) result }
 {
+    texts_in_turn();
+    items_in_turn::<u16>();
     for row in 0..rows(file, entries) {
         write_row(out, file, entries, row)?;
     }
@@ -115,6 +122,8 @@ fn write_row<W: Out>(
     requires row { row < rows file.now entries }
     ensures { Puts (W.taken out.old) (W.taken out.new) (W.fault out.new) (text_of words_of (lines_of_row file.now entries row)) result }
 {
+    texts_in_turn();
+    items_in_turn::<u16>();
     for column in 0..columns(file, entries) {
         write_cell(out, line_at(file, entries, row, column))?;
     }
@@ -183,7 +192,7 @@ fn line_at(file: &TypeFile, entries: Entries, row: u16, column: u16) -> Option<T
             },
         ),
         Entries::Conflicts(kind) => line_where(
-            pairs_of(kind, file).conflicts(row as u8, column as u8),
+            file.conflicts(kind).conflicts(row as u8, column as u8),
             TypeLine::Conflict {
                 kind,
                 p: first,
@@ -198,17 +207,6 @@ fn line_where(is_entry: bool, line: TypeLine) -> Option<TypeLine>
     ensures { result ≡ line_where is_entry line }
 {
     if is_entry { Some(line) } else { None }
-}
-
-/// The conflict table of a kind.
-fn pairs_of(kind: Kind, file: &TypeFile) -> &ConflictTable
-    ensures exact { result.now ≡ pairs_of kind file.now }
-    ensures fits { length result.now ≡ length file.now.table.ops }
-{
-    match kind {
-        Kind::Undo => &file.undo,
-        Kind::Intentions => &file.intentions,
-    }
 }
 
 /// Whether a set is that of all states.
@@ -232,13 +230,13 @@ fn write_line<W: Out>(out: &mut W, line: TypeLine) -> Result<(), OutFault>
 {
     let (mut first, mut second, mut third) = (Buffer::new(), Buffer::new(), Buffer::new());
     match line {
-        TypeLine::TypeName(name) => write_words(out, b"type", &[name.as_bytes()]),
-        TypeLine::States(states) => write_words(out, b"states", &[first.format(states).as_bytes()]),
-        TypeLine::Initial(s) => write_words(out, b"initial", &[first.format(s).as_bytes()]),
+        TypeLine::TypeName(name) => put_line(out, b"type", &[name.as_bytes()]),
+        TypeLine::States(states) => put_line(out, b"states", &[first.format(states).as_bytes()]),
+        TypeLine::Initial(s) => put_line(out, b"initial", &[first.format(s).as_bytes()]),
         TypeLine::Operation(op) => {
-            write_words(out, b"op", &[op.call.as_bytes(), op.reply.as_bytes()])
+            put_line(out, b"op", &[op.call.as_bytes(), op.reply.as_bytes()])
         }
-        TypeLine::Step { s, k, t } => write_words(
+        TypeLine::Step { s, k, t } => put_line(
             out,
             b"step",
             &[
@@ -247,61 +245,21 @@ fn write_line<W: Out>(out: &mut W, line: TypeLine) -> Result<(), OutFault>
                 third.format(t).as_bytes(),
             ],
         ),
-        TypeLine::Reach(s) => write_words(out, b"reach", &[first.format(s).as_bytes()]),
-        TypeLine::Equi { s, t } => write_words(
+        TypeLine::Reach(s) => put_line(out, b"reach", &[first.format(s).as_bytes()]),
+        TypeLine::Equi { s, t } => put_line(
             out,
             b"equi",
             &[first.format(s).as_bytes(), second.format(t).as_bytes()],
         ),
-        TypeLine::Conflict { kind, p, q } => write_words(
+        TypeLine::Conflict { kind, p, q } => put_line(
             out,
             b"conflict",
             &[
-                kind_word(kind),
+                kind.word().as_bytes(),
                 first.format(p).as_bytes(),
                 second.format(q).as_bytes(),
             ],
         ),
-        TypeLine::End => write_words(out, b"end", &[]),
+        TypeLine::End => put_line(out, b"end", &[]),
     }
-}
-
-/// The word of a kind.
-fn kind_word(kind: Kind) -> &'static [u8]
-    ensures { result.now ≡ kind_word kind }
-{
-    match kind {
-        Kind::Undo => b"undo",
-        Kind::Intentions => b"intentions",
-    }
-}
-
-/// Writes a keyword and the words behind it with one space between two, and ends the line.
-fn write_words<W: Out>(out: &mut W, keyword: &[u8], words: &[&[u8]]) -> Result<(), OutFault>
-    requires { W.fault out.old ≡ None }
-    ensures { Puts (W.taken out.old) (W.taken out.new) (W.fault out.new) (spaced (keyword.now ∷ map (λ w. w.now) words.now) ++ 10 ∷ []) result }
-{
-    put(out, keyword)?;
-    write_behind(out, words)?;
-    put(out, b"\n")
-}
-
-/// Writes words with a space before each.
-fn write_behind<W: Out>(out: &mut W, words: &[&[u8]]) -> Result<(), OutFault>
-    requires { W.fault out.old ≡ None }
-    ensures { Puts (W.taken out.old) (W.taken out.new) (W.fault out.new) (flat_map (λ w. 32 ∷ w.now) words.now) result }
-{
-    for word in words {
-        write_word(out, word)?;
-    }
-    Ok(())
-}
-
-/// Writes a space and a word.
-fn write_word<W: Out>(out: &mut W, word: &[u8]) -> Result<(), OutFault>
-    requires { W.fault out.old ≡ None }
-    ensures { Puts (W.taken out.old) (W.taken out.new) (W.fault out.new) (32 ∷ word.now) result }
-{
-    put(out, b" ")?;
-    put(out, word)
 }

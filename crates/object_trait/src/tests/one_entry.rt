@@ -30,10 +30,7 @@ impl OneEntry {
     pub fn new(checked: CheckedType) -> OneEntry
         requires { checked.kind ≡ Undo }
     {
-        let table = checked.table();
-        let initial = table.initial();
-        let states = table.states();
-        prove!(initial < states);
+        let initial = checked.table().initial();
         OneEntry {
             checked,
             entry: None,
@@ -46,10 +43,7 @@ impl OneEntry {
         ensures checked { self.new.checked ≡ self.old.checked }
         ensures empty { self.new.entry ≡ None }
     {
-        let table = self.checked.table();
-        let initial = table.initial();
-        let states = table.states();
-        prove!(initial < states);
+        let initial = self.checked.table().initial();
         self.entry = None;
         self.state = initial;
     }

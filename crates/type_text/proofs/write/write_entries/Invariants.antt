@@ -2,7 +2,7 @@
 use Rattle.std.proofs.Common.{Ok}
 use Rattle.std.specs.List.{flat_map, range_with_len}
 use Rattle.line_text.specs.Spelling.{text_of}
-use Rattle.type_text.specs.Out.{Puts}
+use Rattle.outputs.specs.Out.{Puts}
 use Rattle.type_text.specs.Canonical.{words_of, lines_of_row}
 use Rattle.type_text.proofs.write.write_entries.Given as goal
 

@@ -2,7 +2,7 @@
 use Rattle.std.proofs.Common.{Ok, take, map}
 use Rattle.std.specs.List.{All}
 use Rattle.line_text.specs.Spelling.{text_of}
-use Rattle.type_text.specs.Out.{Puts}
+use Rattle.outputs.specs.Out.{Puts}
 use Rattle.type_text.specs.Canonical.{words_of, IsNamed}
 use Rattle.type_text.specs.declared.type_line.TypeLine.TheVariants.{Operation}
 use Rattle.type_text.proofs.write.write_ops.Given as goal

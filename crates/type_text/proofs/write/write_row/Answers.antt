@@ -8,9 +8,9 @@ pub returns-in_err-write_cell : goal.returns-in_err-write_cell
 returns-in_err-write_cell g c =
     let below = rw c.columns-column-end.ensures at c.loop-column-test.true in
     let stop = rw c.line_at.ensures at c.in_err-write_cell.ensures in
-    groups_exit (λ column. option_to_list (line_at c.args.file.now c.args.entries c.args.row column)) (columns c.args.file.now c.args.entries) c.loop-column.column below c.loop-column.invariant stop c.from_residual.ensures.1
+    groups_exit c.items_in_turn.ensures (λ column. option_to_list (line_at c.args.file.now c.args.entries c.args.row column)) (columns c.args.file.now c.args.entries) c.loop-column.column below c.loop-column.invariant stop c.from_residual.ensures.1
 
 pub loop-column-preserved : goal.loop-column-preserved
 loop-column-preserved g c =
     let next = rw c.line_at.ensures at c.in_ok-write_cell.ensures in
-    groups_more {result = Ok tt} (λ column. option_to_list (line_at c.args.file.now c.args.entries c.args.row column)) c.loop-column.column c.loop-column.invariant next
+    groups_more c.texts_in_turn.ensures.joined {result = Ok tt} (λ column. option_to_list (line_at c.args.file.now c.args.entries c.args.row column)) c.loop-column.column c.loop-column.invariant next

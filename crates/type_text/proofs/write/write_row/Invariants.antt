@@ -3,7 +3,7 @@ use Rattle.std.proofs.Common.{Ok}
 use Rattle.std.specs.List.{flat_map, range_with_len}
 use Rattle.std.specs.Option.{option_to_list}
 use Rattle.line_text.specs.Spelling.{text_of}
-use Rattle.type_text.specs.Out.{Puts}
+use Rattle.outputs.specs.Out.{Puts}
 use Rattle.type_text.specs.Canonical.{words_of, line_at}
 use Rattle.type_text.proofs.write.write_row.Given as goal
 

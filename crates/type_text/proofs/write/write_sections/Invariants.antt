@@ -2,7 +2,7 @@
 use Rattle.std.proofs.Common.{Ok, take}
 use Rattle.std.specs.List.{flat_map}
 use Rattle.line_text.specs.Spelling.{text_of}
-use Rattle.type_text.specs.Out.{Puts}
+use Rattle.outputs.specs.Out.{Puts}
 use Rattle.type_text.specs.Canonical.{words_of, lines_of_entries}
 use Rattle.type_text.proofs.write.write_sections.Given as goal
 

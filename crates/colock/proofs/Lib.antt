@@ -1,8 +1,0 @@
-pub mod OptionLemmas
-pub mod LeafLemmas
-pub mod SubcommandLemmas
-pub mod ParseLemmas
-pub mod ProgramLemmas
-pub mod RequestLemmas
-pub mod VerdictLemmas
-pub mod MadeLemmas

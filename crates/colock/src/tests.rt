@@ -1,0 +1,12 @@
+//! The tests that cross crates, and those of the crates below.
+
+mod histories;
+mod lines;
+mod memory_source;
+mod relations;
+mod sinks;
+mod source;
+mod tasks;
+mod type_files;
+mod types;
+mod words;

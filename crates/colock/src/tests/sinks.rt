@@ -1,0 +1,139 @@
+//! The outputs.
+
+ghost use Rattle.std.specs.Prelude.{◌≡◌, None};
+ghost use Rattle.outputs.specs.Out.{sink_fault};
+
+use outputs::{Failed, Out, OutFault, Sink, put, put_all};
+use std::alloc::Global;
+use std::io;
+use std::io::{ErrorKind, Write};
+use std::test::Fail;
+
+/// What a full writer answers.
+#[derive(Clone, Copy)]
+pub enum AtEnd {
+    Fails,
+    TakesNothing,
+}
+
+/// A writer that takes `width` bytes at a time, and `room` more bytes in all.
+#[derive(Drop)]
+pub struct Narrow {
+    pub held: Vec<u8>,
+    width: usize,
+    room: usize,
+    at_end: AtEnd,
+}
+
+impl Write for Narrow {
+    fn write(&mut self, buf: &[u8]) -> io::Result<usize> {
+        let count = buf.len().min(self.width).min(self.room);
+        if count == 0 {
+            return match self.at_end {
+                AtEnd::Fails => Err(io::Error::from(ErrorKind::Other)),
+                AtEnd::TakesNothing => Ok(0),
+            };
+        }
+        self.held.extend_from_slice(&buf[..count])?;
+        self.room -= count;
+        Ok(count)
+    }
+
+    fn flush(&mut self) -> io::Result<()> {
+        Ok(())
+    }
+}
+
+pub fn narrow_sink(alloc: Global, width: usize, room: usize, at_end: AtEnd) -> Sink<Narrow>
+    ensures { sink_fault result ≡ None }
+{
+    Sink::new(Narrow {
+        held: Vec::new(alloc),
+        width,
+        room,
+        at_end,
+    })
+}
+
+/// The width and the room of a writer and what it answers when it is full, the pieces that are put,
+/// what stops them, and the bytes that the writer then holds.
+type Row = (
+    usize,
+    usize,
+    AtEnd,
+    &'static [&'static [u8]],
+    Option<OutFault>,
+    &'static [u8],
+);
+
+static ROWS: [Row; 6] = [
+    (
+        3,
+        100,
+        AtEnd::Fails,
+        &[b"step 0 inc:1 1\nend\n"],
+        None,
+        b"step 0 inc:1 1\nend\n",
+    ),
+    (
+        100,
+        13,
+        AtEnd::Fails,
+        &[b"step 0 ", b"inc:1 1\n"],
+        Some(OutFault::Device),
+        b"step 0 inc:1 ",
+    ),
+    (
+        100,
+        13,
+        AtEnd::TakesNothing,
+        &[b"step 0 ", b"inc:1 1\n"],
+        Some(OutFault::WroteNothing),
+        b"step 0 inc:1 ",
+    ),
+    // An empty piece reaches no writer.
+    (100, 0, AtEnd::Fails, &[b""], None, b""),
+    (
+        100,
+        0,
+        AtEnd::Fails,
+        &[b"", b"end\n"],
+        Some(OutFault::Device),
+        b"",
+    ),
+    (
+        100,
+        8,
+        AtEnd::Fails,
+        &[b"# ", b"end", b"", b"\n"],
+        None,
+        b"# end\n",
+    ),
+];
+
+#[test]
+fn faults_leave_a_beginning(rt: HostRuntime) {
+    for (width, room, at_end, pieces, fault, held) in ROWS {
+        let mut out = narrow_sink(rt.alloc(), width, room, at_end);
+        assert!(rt; (put_all(&mut out, pieces).err() == fault) & (out.fault() == fault));
+        assert!(rt; out.into_inner().held.as_slice() == held);
+    }
+}
+
+#[test]
+fn memory_takes_pieces_whole(rt: HostRuntime) -> Result<(), Fail> {
+    let mut out = Sink::new(b"# ".to_vec(rt.alloc())?);
+    assert!(rt; put(&mut out, b"step 0 inc:1 1\nend\n") == Ok(()));
+    assert!(rt; put_all(&mut out, &[b"end", b"", b"\n"]) == Ok(()));
+    assert!(rt; out.fault() == None);
+    let held = out.into_inner();
+    assert!(rt; held.as_slice() == b"# step 0 inc:1 1\nend\nend\n".as_slice());
+    Ok(())
+}
+
+#[test]
+fn an_error_of_a_writer_is_a_fault(rt: HostRuntime) {
+    let mut out = narrow_sink(rt.alloc(), 100, 0, AtEnd::Fails);
+    assert!(rt; out.take(b"end\n") == Err(Failed));
+    assert!(rt; out.fault() == Some(OutFault::Device));
+}

@@ -1,0 +1,46 @@
+use crate::tests::memory_source::MemorySource;
+use command_files::{FileSource, Source, SourceFault};
+use std::io::ErrorKind;
+use std::test::Fail;
+use std::{fs, io};
+
+#[test]
+fn reads_memory(rt: HostRuntime) -> Result<(), Fail> {
+    let content: &[u8] = b"states 3\n";
+    let files = [("a.type", content)];
+    let mut source = MemorySource {
+        alloc: rt.alloc(),
+        files: files.as_slice(),
+    };
+    assert!(rt; source.bytes("a.type")?.as_slice() == content);
+    assert!(rt; source.bytes("b.type").err() == Some(SourceFault::CannotRead));
+    Ok(())
+}
+
+#[test]
+fn reads_files(rt: HostRuntime) -> Result<(), Fail> {
+    let path = "source-test.type";
+    fs::write(&rt, path, "states 3\n")?;
+    let mut source = FileSource { runtime: &rt };
+    assert!(rt; source.bytes(path)?.as_slice() == b"states 3\n".as_slice());
+    fs::remove_file(&rt, path)?;
+    Ok(())
+}
+
+#[test]
+fn cannot_read_other_paths(rt: HostRuntime) {
+    let mut source = FileSource { runtime: &rt };
+    for path in ["source-none.type", ".", "", "./no/file"] {
+        assert!(rt;
+            source.bytes(path).err() == Some(SourceFault::CannotRead),
+            "{path}"
+        );
+    }
+}
+
+#[test]
+fn tells_want_of_memory_apart(rt: HostRuntime) {
+    let memory = SourceFault::from(io::Error::from(ErrorKind::OutOfMemory));
+    let other = SourceFault::from(io::Error::from(ErrorKind::NotFound));
+    assert!(rt; (memory == SourceFault::NoMemory) & (other == SourceFault::CannotRead));
+}

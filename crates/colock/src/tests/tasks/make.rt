@@ -1,0 +1,304 @@
+//! The worked examples of `make`: texts of families, and words of which none is made.
+
+use super::examples::{CREDIT, POOL, SEATS, STOCK};
+use super::large::set_of_ten;
+use super::types::{ACCOUNT, COUNTER, SEMIQUEUE};
+use super::{performed, writes};
+use command_words::{Task, read_words};
+use std::process::Abort;
+use std::test::Fail;
+use std::thread::Threads;
+use type_table::Kind;
+
+/// Words, and the text that they make. Each is good for both kinds of recovery.
+static TEXTS: [(&str, &str); 7] = [
+    ("make account 2 1", ACCOUNT),
+    ("make counter 2 1", COUNTER),
+    ("make semiqueue 2 a b", SEMIQUEUE),
+    ("make set 0 a1 a2 b1", SEATS),
+    ("make counter 5 1 2", STOCK),
+    ("make account 5 1 2", CREDIT),
+    ("make semiqueue 2 mail report", POOL),
+];
+
+/// Words, how the text that they make begins, and how many operations it has.
+static HEADS: [(&str, &str, usize); 15] = [
+    ("make account 2 1 2", ACCOUNT_BY_TWO, 11),
+    ("make account 59 59", "type account\nstates 60\n", 64),
+    (
+        "make account 15 1 2 3 4 5 6 7 8 9 10 11 12",
+        "type account\nstates 16\n",
+        64,
+    ),
+    ("make counter 3 1 2", COUNTER_BY_TWO, 4),
+    ("make counter 1023 1023", GREATEST_COUNTER, 2),
+    (
+        "make counter 33 1 2 3 4 5 6 7 8 9 10 11 12 13 14 15 16 17 18 19 20 21 22 23 24 25 26 27 28 29 30 31 32",
+        "type counter\nstates 34\n",
+        64,
+    ),
+    ("make set 0 a b", SET_OF_TWO, 8),
+    ("make set 0 abcdefghijklmnopqrstuvwxy", SET_OF_25_BYTES, 4),
+    ("make semiqueue 1 e0", "type semiqueue\nstates 2\n", 2),
+    (
+        "make semiqueue 1 a234567890123456789012345678",
+        "type semiqueue\nstates 2\n",
+        2,
+    ),
+    ("make semiqueue 1023 e0", "type semiqueue\nstates 1024\n", 2),
+    ("make semiqueue 43 e0 e1", "type semiqueue\nstates 990\n", 4),
+    (
+        "make semiqueue 4 e0 e1 e2 e3 e4 e5 e6 e7 e8 e9",
+        "type semiqueue\nstates 1001\n",
+        20,
+    ),
+    (
+        "make semiqueue 2 e0 e1 e2 e3 e4 e5 e6 e7 e8 e9 e10 e11 e12 e13 e14 e15 e16 e17 e18 e19 e20 e21 e22 e23 e24 e25 e26 e27 e28 e29 e30 e31",
+        "type semiqueue\nstates 561\n",
+        64,
+    ),
+    (
+        "make semiqueue 1 e0 e1 e2 e3 e4 e5 e6 e7 e8 e9 e10 e11 e12 e13 e14 e15 e16 e17 e18 e19 e20 e21 e22 e23 e24 e25 e26 e27 e28 e29 e30 e31",
+        "type semiqueue\nstates 33\n",
+        64,
+    ),
+];
+
+/// The account up to two by one and two, up to its conflicts.
+const ACCOUNT_BY_TWO: &str = "type account
+states 3
+initial 0
+op deposit:1 ok
+op deposit:1 full
+op withdraw:1 ok
+op withdraw:1 short
+op deposit:2 ok
+op deposit:2 full
+op withdraw:2 ok
+op withdraw:2 short
+op balance 0
+op balance 1
+op balance 2
+step 0 0 1
+step 0 3 0
+step 0 4 2
+step 0 7 0
+step 0 8 0
+step 1 0 2
+step 1 2 0
+step 1 5 1
+step 1 7 1
+step 1 9 1
+step 2 1 2
+step 2 2 1
+step 2 5 2
+step 2 6 0
+step 2 10 2
+conflict ";
+
+/// The counter up to three by one and two, up to its conflicts.
+const COUNTER_BY_TWO: &str = "type counter
+states 4
+initial 0
+op inc:1 ok
+op dec:1 ok
+op inc:2 ok
+op dec:2 ok
+step 0 0 1
+step 0 2 2
+step 1 0 2
+step 1 1 0
+step 1 2 3
+step 2 0 3
+step 2 1 1
+step 2 3 0
+step 3 1 2
+step 3 3 1
+conflict ";
+
+/// The set of two elements, up to its conflicts.
+const SET_OF_TWO: &str = "type set
+states 4
+initial 0
+op insert:a ok
+op delete:a ok
+op member:a true
+op member:a false
+op insert:b ok
+op delete:b ok
+op member:b true
+op member:b false
+step 0 0 1
+step 0 1 0
+step 0 3 0
+step 0 4 2
+step 0 5 0
+step 0 7 0
+step 1 0 1
+step 1 1 0
+step 1 2 1
+step 1 4 3
+step 1 5 1
+step 1 7 1
+step 2 0 3
+step 2 1 2
+step 2 3 2
+step 2 4 2
+step 2 5 0
+step 2 6 2
+step 3 0 3
+step 3 1 2
+step 3 2 3
+step 3 4 3
+step 3 5 1
+step 3 6 3
+conflict ";
+
+/// The set of an element with a name of 25 bytes, up to its operations.
+const SET_OF_25_BYTES: &str = "type set
+states 2
+initial 0
+op insert:abcdefghijklmnopqrstuvwxy ok
+op delete:abcdefghijklmnopqrstuvwxy ok
+op member:abcdefghijklmnopqrstuvwxy true
+op member:abcdefghijklmnopqrstuvwxy false
+step ";
+
+/// The counter of the greatest cap, up to its operations.
+const GREATEST_COUNTER: &str = "type counter
+states 1024
+initial 0
+op inc:1023 ok
+op dec:1023 ok
+step ";
+
+/// Words of a type with too many operations or states.
+static TOO_LARGE: [&str; 12] = [
+    "make account 60 1",
+    "make account 1023 1",
+    "make account 16 1 2 3 4 5 6 7 8 9 10 11 12",
+    "make account 16 1 2 3 4 5 6 7 8 9 10 11 12 13 14 15 16",
+    "make account 17 1 2 3 4 5 6 7 8 9 10 11 12 13 14 15 16 17",
+    "make counter 33 1 2 3 4 5 6 7 8 9 10 11 12 13 14 15 16 17 18 19 20 21 22 23 24 25 26 27 28 29 30 31 32 33",
+    "make set 0 a b c d e f g h i j k",
+    "make semiqueue 1023 a b",
+    "make semiqueue 44 a b",
+    "make semiqueue 1 e0 e1 e2 e3 e4 e5 e6 e7 e8 e9 e10 e11 e12 e13 e14 e15 e16 e17 e18 e19 e20 e21 e22 e23 e24 e25 e26 e27 e28 e29 e30 e31 e32",
+    "make semiqueue 17 a b c",
+    "make semiqueue 1023 a b c",
+];
+
+/// Words of which some are no parameters.
+static BAD: [&str; 49] = [
+    "make bag 2 1",
+    "make Account 2 1",
+    "make  2 1",
+    "make account 2",
+    "make counter 2",
+    "make set 0",
+    "make semiqueue 2",
+    "make account x 1",
+    "make account  1",
+    "make account 2 x",
+    "make account 2 ",
+    "make counter 2 01",
+    "make counter 02 1",
+    "make counter 10 00000001",
+    "make counter 70000 1",
+    "make counter 2 70000",
+    "make counter 2 65537",
+    "make counter 65538 1",
+    "make counter 1024 1",
+    "make counter 0 1",
+    "make set 1 a",
+    "make set 00 a",
+    "make set 0 A",
+    "make set 0 abcdefghijklmnopqrstuvwxyz0123456",
+    "make semiqueue 2 a a",
+    "make semiqueue 0 a",
+    "make semiqueue two a",
+    "make account 0 1",
+    "make account 1024 1",
+    "make account 2 0 1",
+    "make account 2 1 3",
+    "make account 2 2 1",
+    "make account 2 1 1",
+    "make counter 3",
+    "make counter 3 0",
+    "make counter 3 1 4",
+    "make counter 3 2 1",
+    "make counter 3 1 2 2",
+    "make counter 3 1 3 2",
+    "make counter 32 1 2 3 4 5 6 7 8 9 10 11 12 13 14 15 16 17 18 19 20 21 22 23 24 25 26 27 28 29 30 31 32 33",
+    "make set 0 abcdefghijklmnopqrstuvwxyz",
+    "make set 0 a a",
+    "make set 0 a b a",
+    "make set 0 a b c d e f g h i j a",
+    "make semiqueue 1 a2345678901234567890123456789",
+    "make semiqueue 1",
+    "make semiqueue 1 a b a",
+    "make semiqueue 1024 a",
+    "make semiqueue 0 e0 e1 e2 e3 e4 e5 e6 e7 e8 e9 e10 e11 e12 e13 e14 e15 e16 e17 e18 e19 e20 e21 e22 e23 e24 e25 e26 e27 e28 e29 e30 e31 e32",
+];
+
+/// What the program writes at these words, where it is to say this of a fault and to have this status.
+fn made<R: Abort + AllocGlobal + Threads + Sync>(
+    rt: &R,
+    words: &str,
+    err: &str,
+    status: u8,
+) -> Result<Vec<u8>, Fail> {
+    let words: Vec<&str> = words.split(' ').collect(rt.alloc())?;
+    match read_words(rt.alloc(), &words) {
+        Ok(task) => Ok(performed(rt, task, b"", err, status)),
+        Err(_) => Err(Fail::from("a fault of the command line")),
+    }
+}
+
+#[test]
+fn makes_the_families(rt: HostRuntime) -> Result<(), Fail> {
+    let path = "ctr2.type";
+    for (words, text) in TEXTS {
+        let text = text.as_bytes();
+        assert!(rt; made(&rt, words, "", 0)?.as_slice() == text, "{words}");
+        for kind in [Kind::Undo, Kind::Intentions] {
+            writes(&rt, Task::Check { kind, path }, text, b"yes strong\n", 0);
+        }
+    }
+    Ok(())
+}
+
+#[test]
+fn makes_the_set_of_ten(rt: HostRuntime) -> Result<(), Fail> {
+    let set = set_of_ten(rt.alloc())?;
+    let out = made(&rt, "make set 0 a b c d e f g h i j", "", 0)?;
+    assert!(rt; out.as_slice() == set.as_bytes());
+    Ok(())
+}
+
+/// How many lines of operations a text has.
+fn ops_of(text: &[u8]) -> usize {
+    let lines = text.split(|b| *b == b'\n');
+    lines.filter(|line| line.starts_with(b"op ")).count()
+}
+
+#[test]
+fn makes_up_to_the_limits(rt: HostRuntime) -> Result<(), Fail> {
+    for (words, head, ops) in HEADS {
+        let out = made(&rt, words, "", 0)?;
+        assert!(rt; out.starts_with(head.as_bytes()), "{words}");
+        assert_eq!(rt; ops_of(&out), ops, "{words}");
+    }
+    Ok(())
+}
+
+#[test]
+fn refuses_parameters(rt: HostRuntime) -> Result<(), Fail> {
+    for words in TOO_LARGE {
+        assert!(rt; made(&rt, words, "colock: TooLarge\n", 2)?.is_empty());
+    }
+    for words in BAD {
+        assert!(rt; made(&rt, words, "colock: BadParameter\n", 2)?.is_empty());
+    }
+    Ok(())
+}

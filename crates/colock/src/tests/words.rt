@@ -1,0 +1,155 @@
+//! What the words of the command line ask for.
+
+use command_words::{Task, Topic, VERSION, WordFault, read_words};
+use std::alloc::Global;
+
+/// A task's command, the words that it has, and its items.
+type Parts = (
+    &'static str,
+    &'static str,
+    &'static str,
+    &'static [&'static str],
+);
+
+fn has_parts(task: &Task<'_>, parts: &Parts) -> bool {
+    let (command, first, second, rest) = *parts;
+    match task {
+        Task::Check { kind, path } => {
+            (command == "check") & (first == kind.word()) & (second == *path)
+        }
+        Task::Make {
+            family,
+            size,
+            items,
+        } => {
+            (command == "make")
+                & (first == *family)
+                & (second == *size)
+                & (items.as_slice() == rest)
+        }
+        Task::Tables { path } => (command == "tables") & (first == *path),
+        Task::Help { topic } => (command == "help") & (first == word_of(*topic)),
+        Task::Version => (command == "version") & (first == VERSION),
+    }
+}
+
+fn word_of(topic: Topic) -> &'static str {
+    match topic {
+        Topic::Program => "colock",
+        Topic::Check => "check",
+        Topic::Make => "make",
+        Topic::Tables => "tables",
+    }
+}
+
+/// Words, and the task that they ask for.
+static TASKS: [(&[&str], Parts); 14] = [
+    (
+        &["check", "undo", "ctr2.type"],
+        ("check", "undo", "ctr2.type", &[]),
+    ),
+    (
+        &["check", "intentions", "ctr2.type"],
+        ("check", "intentions", "ctr2.type", &[]),
+    ),
+    (&["make", "account", "2"], ("make", "account", "2", &[])),
+    (
+        &["make", "account", "2", "1"],
+        ("make", "account", "2", &["1"]),
+    ),
+    (
+        &["make", "set", "0", "2", "1", "a-b"],
+        ("make", "set", "0", &["2", "1", "a-b"]),
+    ),
+    (&["tables", "ctr2.type"], ("tables", "ctr2.type", "", &[])),
+    // Words with hyphens behind two.
+    (
+        &["make", "set", "0", "a", "--", "-b", "--"],
+        ("make", "set", "0", &["a", "-b", "--"]),
+    ),
+    (
+        &["check", "intentions", "--", "-x"],
+        ("check", "intentions", "-x", &[]),
+    ),
+    (&["help"], ("help", "colock", "", &[])),
+    (&["help", "check"], ("help", "check", "", &[])),
+    (&["help", "make"], ("help", "make", "", &[])),
+    (&["help", "tables"], ("help", "tables", "", &[])),
+    (&["--version"], ("version", "colock 0.1.0\n", "", &[])),
+    (&["-V"], ("version", "colock 0.1.0\n", "", &[])),
+];
+
+#[test]
+fn reads_tasks(rt: HostRuntime) {
+    for (words, wanted) in TASKS {
+        let task = read_words(rt.alloc(), words);
+        assert!(rt;
+            matches!(&task, Ok(task) if has_parts(task, &wanted)),
+            "at {words:?}"
+        );
+    }
+}
+
+/// Words that ask for no task.
+static REFUSED: [&[&str]; 26] = [
+    &[],
+    &["prove"],
+    &["check"],
+    &["check", "intentions"],
+    &["check", "intentions", "a", "b"],
+    &["check", "redo", "a"],
+    &["check", "Intentions", "a"],
+    &["check", "intentions", "-x"],
+    &["--", "check", "intentions", "a"],
+    &["check", "--force", "intentions", "a"],
+    &["make"],
+    &["make", "account"],
+    &["make", "account", "-2", "1"],
+    &["make", "account", "2", "-1"],
+    &["make", "account", "2", "1", "--all"],
+    &["--", "make", "account", "2", "1"],
+    &["tables"],
+    &["tables", "a", "b"],
+    &["tables", "-x"],
+    &["help", "nosuch"],
+    &["help", "check", "more"],
+    &["help", "--", "check"],
+    &["--", "help"],
+    &["--version", "x"],
+    &["-V", "-V"],
+    &["check", "--version"],
+];
+
+/// The text that the words are refused with.
+fn usage_of(alloc: Global, words: &[&str]) -> String {
+    match read_words(alloc, words) {
+        Err(WordFault::Usage { text }) => text,
+        _ => String::new(alloc),
+    }
+}
+
+#[test]
+fn refuses_other_words(rt: HostRuntime) {
+    for words in REFUSED {
+        assert!(rt; !usage_of(rt.alloc(), words).is_empty(), "at {words:?}");
+    }
+    let text = usage_of(rt.alloc(), &["check", "undo"]);
+    assert!(rt; text.contains("Usage: colock check <KIND> <FILE>"));
+}
+
+/// Options that ask for a text of help.
+static HELP: [(&[&str], Topic); 6] = [
+    (&["--help"], Topic::Program),
+    (&["-h"], Topic::Program),
+    (&["check", "--help"], Topic::Check),
+    (&["make", "--help"], Topic::Make),
+    (&["make", "-h"], Topic::Make),
+    (&["tables", "-h"], Topic::Tables),
+];
+
+#[test]
+fn options_for_help_have_its_text(rt: HostRuntime) {
+    for (words, topic) in HELP {
+        assert!(rt; usage_of(rt.alloc(), words).as_str() == topic.text());
+    }
+}

@@ -1,0 +1,10 @@
+-- What an error of the system says of a file.
+use Rattle.std.specs.declared.io.ErrorKind.{ErrorKind}
+use Rattle.std.specs.declared.io.ErrorKind.TheVariants.{OutOfMemory}
+use Rattle.command_files.specs.declared.source.SourceFault.{SourceFault}
+use Rattle.command_files.specs.declared.source.SourceFault.TheVariants.{CannotRead, NoMemory}
+
+-- want of memory is told apart from every other error
+abbrev pub fault_of : ErrorKind → SourceFault
+fault_of OutOfMemory = NoMemory
+fault_of _ = CannotRead

@@ -1,0 +1,79 @@
+-- What the clauses of `clap` say of the program's command.
+use Rattle.std.proofs.Common.{◌≡◌, ◌∙◌, ◌⊎◌, ap, refl, subst, sym, true, inl, inr, ⊎_elim, List, [], ◌∷◌, Bor, IfOk, Result, Ok, Err}
+use Rattle.std.specs.Prelude.{codes, unwrap_or, Some, None, Option, IsSome, option_map}
+use Rattle.clap.specs.Matches.{first_value, found_of, matched_of, raw_values}
+use Rattle.clap.specs.Walk.{all_of, first_of, texts}
+use Rattle.clap.proofs.WalkLemmas.{first_value-rows, raw_values-rows}
+use Rattle.clap.specs.Simple.{App, HasMatchesOf}
+use Rattle.clap.specs.Kinds.{FailsBy}
+use Rattle.clap.specs.Faults.{fault_of, is_simple_and_free}
+use Rattle.clap.specs.declared.error.Error.{Error}
+use Rattle.clap.specs.declared.parser.matches.ArgMatches.{ArgMatches}
+use Rattle.clap.specs.declared.builder.value_parser.ValueParser.{ValueParser}
+use Rattle.command_words.specs.Program.{HasRows, Parses, ReadsKinds, entry_of, program}
+use Rattle.command_words.specs.Words.{Order, OnUsage, Text}
+use Rattle.command_words.specs.Words as asked
+use Rattle.command_words.specs.declared.task.WordFault.{WordFault}
+use Rattle.command_words.specs.declared.task.WordFault.TheVariants.{Usage, NoMemory}
+
+-- the command is one of those that `clap` states whole
+program_free : (kinds : ValueParser) → is_simple_and_free (program kinds) ≡ true
+program_free kinds = refl
+
+-- the same, of the program itself
+at_program : (kinds : ValueParser) → ReadsKinds kinds → (words : List Text) (r : Result ArgMatches Error)
+    → FailsBy (fault_of (program kinds) words) r → IfOk r (HasMatchesOf (program kinds) words) → Parses words r
+at_program kinds reads words (Ok matches) none has = (kinds, reads, none, has)
+at_program kinds reads words (Err error) fails has = ⊎_elim (λ memory. inl memory) (λ among. inr (kinds, reads, among)) fails
+
+-- what `clap` says of a command that is the program's is said of the program
+pub parses : (kinds : ValueParser) → ReadsKinds kinds → (words : List Text) (r : Result ArgMatches Error) (app : App) → app ≡ program kinds
+    → (is_simple_and_free app ≡ true → FailsBy (fault_of app words) r) → IfOk r (HasMatchesOf app words) → Parses words r
+parses kinds reads words r app is fails has = at_program kinds reads words r
+    (subst (λ (a : App). FailsBy (fault_of a words) r) is (fails (ap is_simple_and_free is ∙ program_free kinds)))
+    (subst (λ (a : App). IfOk r (HasMatchesOf a words)) is has)
+
+-- ---- reading matches
+
+-- something that was found, by what is seen of it
+pub found_some : {X Y : Type 0} (f : X → Y) (o : Option X) (y : Y) → option_map f o ≡ Some y → IsSome o
+found_some f None y is = absurd cc
+found_some f (Some x) y is = refl
+
+-- what is seen of the value that was found
+pub found_is : {X Y : Type 0} (f : X → Y) (o : Option X) (x : X) (y : Y) → o ≡ Some x → option_map f o ≡ Some y → f x ≡ y
+found_is f o x y is seen = let both : Some (f x) ≡ Some y = ap (option_map f) (sym is) ∙ seen in cc
+
+-- the first value of an argument, by the rows
+pub value_read : (values : ArgMatches) (asked : Order) (id : Text) → HasRows values asked → first_value (found_of values) id ≡ first_of id (entry_of asked).1
+value_read values asked id has = first_value-rows (found_of values) id ∙ ap (first_of id) has
+
+-- all of them
+pub values_read : (values : ArgMatches) (asked : Order) (id : Text) → HasRows values asked
+    → option_map raw_values (matched_of (found_of values) id) ≡ all_of id (entry_of asked).1
+values_read values asked id has = raw_values-rows (found_of values) id ∙ ap (all_of id) has
+
+-- what is something is there
+pub some_of : {X : Type 0} (o : Option X) (x : X) → o ≡ Some x → IsSome o
+some_of None x is = absurd cc
+some_of (Some y) x is = refl
+
+-- the same, of the items themselves
+items_or_none : (family size : Text) (items : List Text) (o : Option (Bor (List (Bor Text)))) (none : Bor (List (Bor Text))) → none.now ≡ []
+    → option_map (λ s. texts s.now) o ≡ all_of (codes "items") (entry_of (asked.make family size items)).1 → texts (unwrap_or o none).now ≡ items
+items_or_none family size [] None none empty seen = ap texts empty
+items_or_none family size [] (Some s) none empty seen = absurd cc
+items_or_none family size (item ∷ items) None none empty seen = absurd cc
+items_or_none family size (item ∷ items) (Some s) none empty seen = cc
+
+-- the items that were found, or none
+pub items_read : (family size : Text) (items : List Text) (o : Option (Bor (List (Bor Text)))) (given none : Bor (List (Bor Text))) → given ≡ unwrap_or o none → none.now ≡ []
+    → option_map (λ s. texts s.now) o ≡ all_of (codes "items") (entry_of (asked.make family size items)).1 → texts given.now ≡ items
+items_read family size items o given none is empty seen = ap (λ (s : Bor (List (Bor Text))). texts s.now) is ∙ items_or_none family size items o none empty seen
+
+-- ---- what the program answers
+
+-- a fact that holds but for want of memory holds of a fault of the command line
+pub usage_of : (fault : WordFault) (M P : Type 0) → M ⊎ P → (M → fault ≡ NoMemory) → OnUsage fault P
+usage_of NoMemory M P either memory = tt
+usage_of (Usage text) M P either memory = ⊎_elim (λ m. absurd (cc (memory m))) (λ p. p) either

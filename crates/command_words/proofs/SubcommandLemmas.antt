@@ -1,0 +1,438 @@
+-- The three subcommands: where the walk stands after their operands, and which operands they take.
+use Rattle.std.proofs.Common.{◌≡◌, ◌∙◌, ◌++◌, ◌||◌, ap, arith, refl, subst, sym, true, false, zero, suc, Bool, List, [], ◌∷◌, Bor}
+use Rattle.std.specs.Prelude.{All, codes, Some, Option, fold, if◌then◌else◌}
+use Rattle.std.specs.List.{list_any}
+use Rattle.std.specs.Str.{bytes_eq}
+use Rattle.std.specs.Cmp.Lexicographic.{same_text}
+use Rattle.clap.specs.Walk.{Held, Row, Walk, arg_by_index, finished, idle, positional, settled, texts, to_positional, with_default}
+use Rattle.clap.specs.Kinds.{Kinds, or_else, value_kinds}
+use Rattle.clap.specs.Faults.{check_fault, defaults_fault}
+use Rattle.clap.specs.Simple.{App, Shape, built_leaf, inherited, marked_built, on_top}
+use Rattle.clap.specs.declared.builder.value_parser.ValueParser.{ValueParser}
+use Rattle.clap.specs.declared.builder.value_parser.ValueParser.TheVariants as parser
+use Rattle.clap.specs.declared.error.kind.ErrorKind.TheVariants.{InvalidValue, MissingRequiredArgument, UnknownArgument}
+use Rattle.clap.proofs.OnLiterals.{clap_on_literals}
+use Rattle.clap.proofs.WalkLemmas.{list_any-map}
+use Rattle.type_table.specs.Kind.{kind_word}
+use Rattle.type_table.specs.declared.kind.Kind.{Kind}
+use Rattle.type_table.specs.declared.kind.Kind.TheVariants.{Undo, Intentions}
+use Rattle.command_words.specs.Program.{check_app, entry_of, item_rows, kind_words, make_app, program, row, tables_app}
+use Rattle.command_words.specs.Words.{Order, IsPlainOrder, IsPlain, Text, without_dashes, order_words}
+use Rattle.command_words.specs.Words as asked
+use Rattle.command_words.proofs.OptionLemmas.{by_test, holding, never, or_else_none, refuses}
+use Rattle.command_words.proofs.LeafLemmas.{IsBetween, Passes, Place, Takes, at, both_none, end_of, ends, faults, held_at, operand_fault, operands_taken, plain_taken, start}
+
+-- a subcommand as it is built
+abbrev pub leaf_of : ValueParser → App → Shape
+leaf_of kinds app = built_leaf (inherited (on_top marked_built (program kinds)).top app.top)
+
+-- the value of an argument that waits to be settled
+abbrev waits : Text → Text → Option (Text × List Text)
+waits id word = Some (id, word ∷ [])
+
+-- ---- `check KIND FILE`
+
+-- `check` as it is built
+abbrev pub check_leaf : Bor (List (Bor Text)) → Shape
+check_leaf listed = leaf_of (parser.Names listed) (check_app (parser.Names listed))
+
+-- where its walk stands after these operands
+abbrev pub check_place : List Text → Place
+check_place [] = start
+check_place (kind ∷ []) = record { rows = []; pending = waits (codes "kind") kind; position = 2; waiting = idle }
+check_place (kind ∷ path ∷ rest) =
+    record { rows = row (codes "kind") kind ∷ []; pending = waits (codes "path") path; position = 3; waiting = idle }
+
+-- at most two operands, of which the first is a kind once the second was taken
+abbrev pub CheckTook : Bor (List (Bor Text)) → List Text → Type 0
+CheckTook listed [] = Unit {0}
+CheckTook listed (kind ∷ []) = Unit {0}
+CheckTook listed (kind ∷ path ∷ []) = value_kinds false (parser.Names listed) kind ≡ []
+CheckTook listed (kind ∷ path ∷ more ∷ rest) = ⊥
+
+-- between two operands nothing waits for a value
+check_between : (listed : Bor (List (Bor Text))) (operands : List Text) → IsBetween (check_leaf listed) (check_place operands)
+check_between listed [] = record { free = λ _ _. refl; nameless = λ _. refl }
+check_between listed (kind ∷ []) = record { free = λ _ _. refl; nameless = λ _. refl }
+check_between listed (kind ∷ path ∷ rest) = record { free = λ _ _. refl; nameless = λ _. refl }
+
+-- an operand that comes to no fault is taken
+check_next : (listed : Bor (List (Bor Text))) (operands : List Text) (word : Text) → CheckTook listed operands
+    → operand_fault (check_leaf listed) (check_place operands) ≡ [] → CheckTook listed (operands ++ word ∷ [])
+check_next listed [] word took none = tt
+check_next listed (kind ∷ []) word took none = (or_else_none (value_kinds false (parser.Names listed) kind) [] none).0
+check_next listed (kind ∷ path ∷ []) word took none = never UnknownArgument [] none
+check_next listed (kind ∷ path ∷ more ∷ rest) word took none = took
+
+-- and moves the walk to the place after it
+check_moves : (listed : Bor (List (Bor Text))) (operands : List Text) (word : Text) (t : Bool) → CheckTook listed operands
+    → operand_fault (check_leaf listed) (check_place operands) ≡ []
+    → to_positional (check_leaf listed).rules (arg_by_index (check_leaf listed).rules (check_place operands).position) word (at t (check_place operands)) (held_at (check_place operands))
+    ≡ at t (check_place (operands ++ word ∷ []))
+check_moves listed [] word true took none = refl
+check_moves listed [] word false took none = refl
+check_moves listed (kind ∷ []) word true took none = refl
+check_moves listed (kind ∷ []) word false took none = refl
+check_moves listed (kind ∷ path ∷ []) word t took none = absurd (never UnknownArgument [] none)
+check_moves listed (kind ∷ path ∷ more ∷ rest) word t took none = absurd took
+
+-- `check` by its operands
+check_takes : (listed : Bor (List (Bor Text))) → Takes (check_leaf listed) check_place (CheckTook listed)
+check_takes listed = record {
+  refuses = refuses _ _ (record { long = λ _. refl; short = λ _. refl });
+  between = check_between listed;
+  first = tt;
+  next = check_next listed;
+  moves = check_moves listed;
+}
+
+-- ---- `tables FILE`
+
+-- `tables` as it is built
+abbrev pub tables_leaf : Bor (List (Bor Text)) → Shape
+tables_leaf listed = leaf_of (parser.Names listed) tables_app
+
+-- where its walk stands after these operands
+abbrev pub tables_place : List Text → Place
+tables_place [] = start
+tables_place (path ∷ rest) = record { rows = []; pending = waits (codes "path") path; position = 2; waiting = idle }
+
+-- at most one operand
+abbrev pub TablesTook : List Text → Type 0
+TablesTook [] = Unit {0}
+TablesTook (path ∷ []) = Unit {0}
+TablesTook (path ∷ more ∷ rest) = ⊥
+
+-- between two operands nothing waits for a value
+tables_between : (listed : Bor (List (Bor Text))) (operands : List Text) → IsBetween (tables_leaf listed) (tables_place operands)
+tables_between listed [] = record { free = λ _ _. refl; nameless = λ _. refl }
+tables_between listed (path ∷ rest) = record { free = λ _ _. refl; nameless = λ _. refl }
+
+-- an operand that comes to no fault is taken
+tables_next : (listed : Bor (List (Bor Text))) (operands : List Text) (word : Text) → TablesTook operands
+    → operand_fault (tables_leaf listed) (tables_place operands) ≡ [] → TablesTook (operands ++ word ∷ [])
+tables_next listed [] word took none = tt
+tables_next listed (path ∷ []) word took none = never UnknownArgument [] none
+tables_next listed (path ∷ more ∷ rest) word took none = took
+
+-- and moves the walk to the place after it
+tables_moves : (listed : Bor (List (Bor Text))) (operands : List Text) (word : Text) (t : Bool) → TablesTook operands
+    → operand_fault (tables_leaf listed) (tables_place operands) ≡ []
+    → to_positional (tables_leaf listed).rules (arg_by_index (tables_leaf listed).rules (tables_place operands).position) word (at t (tables_place operands)) (held_at (tables_place operands))
+    ≡ at t (tables_place (operands ++ word ∷ []))
+tables_moves listed [] word true took none = refl
+tables_moves listed [] word false took none = refl
+tables_moves listed (path ∷ []) word t took none = absurd (never UnknownArgument [] none)
+tables_moves listed (path ∷ more ∷ rest) word t took none = absurd took
+
+-- `tables` by its operands
+tables_takes : (listed : Bor (List (Bor Text))) → Takes (tables_leaf listed) tables_place TablesTook
+tables_takes listed = record {
+  refuses = refuses _ _ (record { long = λ _. refl; short = λ _. refl });
+  between = tables_between listed;
+  first = tt;
+  next = tables_next listed;
+  moves = tables_moves listed;
+}
+
+-- ---- `make FAMILY SIZE ITEM...`
+
+-- a list without its last element, and that element
+abbrev pub last_of : Text → List Text → List Text × Text
+last_of x [] = ([], x)
+last_of x (y ∷ ys) = (x ∷ (last_of y ys).0, (last_of y ys).1)
+
+-- the last element is the one that was put behind
+last_added : (x : Text) (ys : List Text) (word : Text) → last_of x (ys ++ word ∷ []) ≡ (x ∷ ys, word)
+last_added x [] word = refl
+last_added x (y ∷ ys) word = ap (λ (p : List Text × Text). (x ∷ p.0, p.1)) (last_added y ys word)
+
+-- a list is its beginning and its last element
+last_joined : (x : Text) (ys : List Text) → (last_of x ys).0 ++ (last_of x ys).1 ∷ [] ≡ x ∷ ys
+last_joined x [] = refl
+last_joined x (y ∷ ys) = ap (λ (items : List Text). x ∷ items) (last_joined y ys)
+
+-- `make` as it is built
+abbrev pub make_leaf : Bor (List (Bor Text)) → Shape
+make_leaf listed = leaf_of (parser.Names listed) make_app
+
+-- the rows of FAMILY, SIZE and items that were settled
+abbrev make_rows : Text → Text → List Text → List Row
+make_rows family size items = row (codes "family") family ∷ row (codes "size") size ∷ item_rows items
+
+-- the last item waits to be settled
+abbrev item_place : Text → Text → List Text × Text → Place
+item_place family size p =
+    record { rows = make_rows family size p.0; pending = waits (codes "items") p.1; position = 3; waiting = positional }
+
+-- where its walk stands after these operands
+abbrev pub make_place : List Text → Place
+make_place [] = start
+make_place (family ∷ []) = record { rows = []; pending = waits (codes "family") family; position = 2; waiting = idle }
+make_place (family ∷ size ∷ []) =
+    record { rows = row (codes "family") family ∷ []; pending = waits (codes "size") size; position = 3; waiting = idle }
+make_place (family ∷ size ∷ item ∷ items) = item_place family size (last_of item items)
+
+-- any operands are taken
+abbrev pub MakeTook : List Text → Type 0
+MakeTook operands = Unit {0}
+
+-- between two operands nothing waits for a value
+make_between : (listed : Bor (List (Bor Text))) (operands : List Text) → IsBetween (make_leaf listed) (make_place operands)
+make_between listed [] = record { free = λ _ _. refl; nameless = λ _. refl }
+make_between listed (family ∷ []) = record { free = λ _ _. refl; nameless = λ _. refl }
+make_between listed (family ∷ size ∷ []) = record { free = λ _ _. refl; nameless = λ _. refl }
+make_between listed (family ∷ size ∷ item ∷ items) = record { free = λ _ _. refl; nameless = λ _. refl }
+
+-- an item that waited joins those before it
+item_settled : (listed : Bor (List (Bor Text))) (family size : Text) (before : List Text) (word : Text)
+    → (settled (make_leaf listed).rules (holding (make_rows family size before) (waits (codes "items") word))).rows ≡ make_rows family size (before ++ word ∷ [])
+item_settled listed family size [] word = refl
+item_settled listed family size (item ∷ before) word = refl
+
+-- so the rows are those of all items
+items_settled : (listed : Bor (List (Bor Text))) (family size item : Text) (items : List Text)
+    → (settled (make_leaf listed).rules (held_at (item_place family size (last_of item items)))).rows ≡ make_rows family size (item ∷ items)
+items_settled listed family size item items =
+    item_settled listed family size (last_of item items).0 (last_of item items).1 ∙ ap (make_rows family size) (last_joined item items)
+
+-- the walk with these rows, where the word waits
+abbrev item_walk : Bool → Text → List Row → Walk
+item_walk t word rows = at t (record { rows = rows; pending = waits (codes "items") word; position = 3; waiting = positional })
+
+-- a further item moves the walk to the place after it
+item_moves : (listed : Bor (List (Bor Text))) (family size item : Text) (items : List Text) (word : Text) (t : Bool)
+    → item_walk t word (settled (make_leaf listed).rules (held_at (item_place family size (last_of item items)))).rows
+    ≡ at t (item_place family size (last_of item (items ++ word ∷ [])))
+item_moves listed family size item items word t =
+    ap (item_walk t word) (items_settled listed family size item items)
+    ∙ ap (λ (p : List Text × Text). at t (item_place family size p)) (sym (last_added item items word))
+
+-- and so does each operand
+make_moves : (listed : Bor (List (Bor Text))) (operands : List Text) (word : Text) (t : Bool) → MakeTook operands
+    → operand_fault (make_leaf listed) (make_place operands) ≡ []
+    → to_positional (make_leaf listed).rules (arg_by_index (make_leaf listed).rules (make_place operands).position) word (at t (make_place operands)) (held_at (make_place operands))
+    ≡ at t (make_place (operands ++ word ∷ []))
+make_moves listed [] word true took none = refl
+make_moves listed [] word false took none = refl
+make_moves listed (family ∷ []) word true took none = refl
+make_moves listed (family ∷ []) word false took none = refl
+make_moves listed (family ∷ size ∷ []) word true took none = refl
+make_moves listed (family ∷ size ∷ []) word false took none = refl
+make_moves listed (family ∷ size ∷ item ∷ items) word true took none = item_moves listed family size item items word true
+make_moves listed (family ∷ size ∷ item ∷ items) word false took none = item_moves listed family size item items word false
+
+-- `make` by its operands
+make_takes : (listed : Bor (List (Bor Text))) → Takes (make_leaf listed) make_place MakeTook
+make_takes listed = record {
+  refuses = refuses _ _ (record { long = λ _. refl; short = λ _. refl });
+  between = make_between listed;
+  first = tt;
+  next = λ _ _ _ _. tt;
+  moves = make_moves listed;
+}
+
+-- no operand comes to a fault
+make_clear : (listed : Bor (List (Bor Text))) (operands : List Text) → operand_fault (make_leaf listed) (make_place operands) ≡ []
+make_clear listed [] = refl
+make_clear listed (family ∷ []) = refl
+make_clear listed (family ∷ size ∷ []) = refl
+make_clear listed (family ∷ size ∷ item ∷ items) = refl
+
+-- the faults at the end, by the rows that are settled
+abbrev row_faults : Bor (List (Bor Text)) → List Row → Kinds
+row_faults listed rows = or_else (defaults_fault rows (make_leaf listed).rules)
+    (check_fault (make_leaf listed) (fold with_default rows (make_leaf listed).rules) false)
+
+-- nor does their end, where FAMILY and SIZE are there
+make_ends : (listed : Bor (List (Bor Text))) (family size : Text) (items : List Text) → ends (make_leaf listed) (held_at (make_place (family ∷ size ∷ items))) ≡ []
+unfolding clap_on_literals
+make_ends listed family size [] = refl
+make_ends listed family size (item ∷ items) = ap (row_faults listed) (items_settled listed family size item items)
+
+-- ---- the three
+
+-- a subcommand
+pub data Command : Type 0 where
+  check : Command
+  make : Command
+  tables : Command
+
+-- its name
+abbrev pub name_of : Command → Text
+name_of check = codes "check"
+name_of make = codes "make"
+name_of tables = codes "tables"
+
+-- the subcommand as it is built
+abbrev pub leaf : Bor (List (Bor Text)) → Command → Shape
+leaf listed check = check_leaf listed
+leaf listed make = make_leaf listed
+leaf listed tables = tables_leaf listed
+
+-- where its walk stands after these operands
+abbrev pub place : Command → List Text → Place
+place check = check_place
+place make = make_place
+place tables = tables_place
+
+-- what holds of operands that it took
+abbrev pub Took : Bor (List (Bor Text)) → Command → List Text → Type 0
+Took listed check = CheckTook listed
+Took listed make = MakeTook
+Took listed tables = TablesTook
+
+-- the subcommand by its operands
+takes : (listed : Bor (List (Bor Text))) (command : Command) → Takes (leaf listed command) (place command) (Took listed command)
+takes listed check = check_takes listed
+takes listed make = make_takes listed
+takes listed tables = tables_takes listed
+
+-- its walk begins where each walk does
+begins : (command : Command) → place command [] ≡ start
+begins check = refl
+begins make = refl
+begins tables = refl
+
+-- ---- what operands ask for
+
+-- the operands and the rows of a subcommand are those of what is asked for
+pub record Answers (name : Text) (s : Shape) (h : Held) (operands : List Text) : Type 0 where
+  pub asked : Order
+  pub words : name ∷ operands ≡ order_words asked
+  pub entry : (name, finished s.rules h) ≡ entry_of asked
+
+-- the fault of a value of KIND, by the words of the kinds
+kind_fault : (listed : Bor (List (Bor Text))) (word : Text) → texts listed.now ≡ kind_words
+    → value_kinds false (parser.Names listed) word ≡ (if bytes_eq (codes "undo") word || (bytes_eq (codes "intentions") word || false) then [] else (InvalidValue ∷ []))
+kind_fault listed word are =
+    ap (λ (b : Bool). if b then [] else (InvalidValue ∷ []))
+    (list_any-map (λ (w : Text). bytes_eq w word) (λ (s : Bor Text). s.now) listed.now ∙ ap (list_any (λ (w : Text). bytes_eq w word)) are)
+
+-- a word that the parser takes is that of a kind
+named_kind : (listed : Bor (List (Bor Text))) (word : Text) → texts listed.now ≡ kind_words → value_kinds false (parser.Names listed) word ≡ []
+    → (kind : Kind) × (word ≡ kind_word kind)
+named_kind listed word are accepted =
+    let none = sym (kind_fault listed word are) ∙ accepted in
+    by_test (bytes_eq (codes "undo") word)
+    (λ undo. (Undo, sym (same_text (codes "undo") word (sym undo))))
+    (λ not_undo. by_test (bytes_eq (codes "intentions") word)
+    (λ intentions. (Intentions, sym (same_text (codes "intentions") word (sym intentions))))
+    (λ other. absurd (never InvalidValue [] (simp (not_undo, other) at none))))
+
+-- the word of each kind is taken
+offered : (listed : Bor (List (Bor Text))) (kind : Kind) → texts listed.now ≡ kind_words → value_kinds false (parser.Names listed) (kind_word kind) ≡ []
+offered listed Undo are = kind_fault listed (codes "undo") are
+offered listed Intentions are = kind_fault listed (codes "intentions") are
+
+-- operands of `check` that come to no fault are a kind and a path
+check_answers : (listed : Bor (List (Bor Text))) → texts listed.now ≡ kind_words → (operands : List Text) → CheckTook listed operands
+    → ends (check_leaf listed) (held_at (check_place operands)) ≡ [] → Answers (codes "check") (check_leaf listed) (held_at (check_place operands)) operands
+unfolding clap_on_literals
+check_answers listed are [] took none = absurd (never MissingRequiredArgument [] none)
+check_answers listed are (kind ∷ []) took none =
+    absurd (never MissingRequiredArgument [] (or_else_none (or_else (value_kinds false (parser.Names listed) kind) []) (MissingRequiredArgument ∷ []) none).1)
+check_answers listed are (kind ∷ path ∷ []) took none =
+    let named = named_kind listed kind are took in
+    record {
+      asked = asked.check named.0 path;
+      words = ap (λ (k : Text). codes "check" ∷ k ∷ path ∷ []) named.1;
+      entry = ap (λ (k : Text). (codes "check", row (codes "kind") k ∷ row (codes "path") path ∷ [])) named.1;
+    }
+check_answers listed are (kind ∷ path ∷ more ∷ rest) took none = absurd took
+
+-- operands of `make` that come to no fault are a family, a size and items
+make_answers : (listed : Bor (List (Bor Text))) (operands : List Text)
+    → ends (make_leaf listed) (held_at (make_place operands)) ≡ [] → Answers (codes "make") (make_leaf listed) (held_at (make_place operands)) operands
+unfolding clap_on_literals
+make_answers listed [] none = absurd (never MissingRequiredArgument [] none)
+make_answers listed (family ∷ []) none = absurd (never MissingRequiredArgument [] none)
+make_answers listed (family ∷ size ∷ []) none = record { asked = asked.make family size []; words = refl; entry = refl }
+make_answers listed (family ∷ size ∷ item ∷ items) none = record {
+  asked = asked.make family size (item ∷ items);
+  words = refl;
+  entry = ap (λ (rows : List Row). (codes "make", fold with_default rows (make_leaf listed).rules)) (items_settled listed family size item items);
+}
+
+-- operands of `tables` that come to no fault are a path
+tables_answers : (listed : Bor (List (Bor Text))) (operands : List Text) → TablesTook operands
+    → ends (tables_leaf listed) (held_at (tables_place operands)) ≡ [] → Answers (codes "tables") (tables_leaf listed) (held_at (tables_place operands)) operands
+unfolding clap_on_literals
+tables_answers listed [] took none = absurd (never MissingRequiredArgument [] none)
+tables_answers listed (path ∷ []) took none = record { asked = asked.tables path; words = refl; entry = refl }
+tables_answers listed (path ∷ more ∷ rest) took none = absurd took
+
+-- operands that come to no fault ask for something
+answers : (listed : Bor (List (Bor Text))) → texts listed.now ≡ kind_words → (command : Command) (operands : List Text) → Took listed command operands
+    → ends (leaf listed command) (held_at (place command operands)) ≡ [] → Answers (name_of command) (leaf listed command) (held_at (place command operands)) operands
+answers listed are check operands took none = check_answers listed are operands took none
+answers listed are make operands took none = make_answers listed operands none
+answers listed are tables operands took none = tables_answers listed operands took none
+
+-- words of a subcommand that come to no fault ask for something, and so do its rows
+pub words_answered : (listed : Bor (List (Bor Text))) → texts listed.now ≡ kind_words → (command : Command) (rest : List Text)
+    → faults (leaf listed command) (at false start) rest ≡ []
+    → Answers (name_of command) (leaf listed command) (end_of (leaf listed command) (at false start) rest).held (without_dashes rest)
+words_answered listed are command rest none =
+    let reached = operands_taken (leaf listed command) (place command) (Took listed command) (takes listed command) rest (begins command) none in
+    subst (λ (h : Held). Answers (name_of command) (leaf listed command) h (without_dashes rest)) (sym reached.held)
+    (answers listed are command (without_dashes rest) reached.taken reached.fault)
+
+-- ---- plain words
+
+-- the subcommand of what is asked for
+abbrev pub command_of : Order → Command
+command_of (asked.check kind path) = check
+command_of (asked.make family size items) = make
+command_of (asked.tables path) = tables
+
+-- and its operands
+abbrev pub operands_of : Order → List Text
+operands_of (asked.check kind path) = kind_word kind ∷ path ∷ []
+operands_of (asked.make family size items) = family ∷ size ∷ items
+operands_of (asked.tables path) = path ∷ []
+
+-- the word of a kind begins with no hyphen
+plain_kind : (kind : Kind) → IsPlain (kind_word kind)
+plain_kind Undo = refl
+plain_kind Intentions = refl
+
+-- a fact of the first word, and of the others
+all_with : (P : Text → Type 0) (word : Text) (rest : List Text) → P word → All P rest → All P (word ∷ rest)
+all_with P word rest first others zero d lt = first
+all_with P word rest first others (suc k) d lt = others k d (omega (arith, lt))
+
+-- of no words, each fact holds of all
+all_of_none : (P : Text → Type 0) → All P []
+all_of_none P k d lt = absurd (omega (arith, lt))
+
+-- no fault comes of these operands of a subcommand
+abbrev AllPass : Bor (List (Bor Text)) → (command : Command) → List Text → List Text → Type 0
+AllPass listed command = Passes (leaf listed command) (place command) (Took listed command) (takes listed command)
+
+-- no fault comes of items behind FAMILY and SIZE
+items_pass : (listed : Bor (List (Bor Text))) (family size : Text) (before rest : List Text) → AllPass listed make (family ∷ size ∷ before) rest
+items_pass listed family size before [] = make_ends listed family size before
+items_pass listed family size before (word ∷ rest) =
+    (make_clear listed (family ∷ size ∷ before), items_pass listed family size (before ++ word ∷ []) rest)
+
+-- no fault comes of the operands of what is asked for
+all_pass : (listed : Bor (List (Bor Text))) → texts listed.now ≡ kind_words → (a : Order) → AllPass listed (command_of a) [] (operands_of a)
+unfolding clap_on_literals
+all_pass listed are (asked.check kind path) =
+    (refl, (both_none (value_kinds false (parser.Names listed) (kind_word kind)) [] (offered listed kind are) refl, refl))
+all_pass listed are (asked.make family size items) = (refl, (refl, items_pass listed family size [] items))
+all_pass listed are (asked.tables path) = (refl, refl)
+
+-- where plain words are asked for, the operands are plain
+all_plain : (a : Order) → IsPlainOrder a → All IsPlain (operands_of a)
+all_plain (asked.check kind path) plain = all_with IsPlain (kind_word kind) (path ∷ []) (plain_kind kind) (all_with IsPlain path [] plain (all_of_none IsPlain))
+all_plain (asked.make family size items) plain = all_with IsPlain family (size ∷ items) plain.0 (all_with IsPlain size items plain.1 plain.2)
+all_plain (asked.tables path) plain = all_with IsPlain path [] plain (all_of_none IsPlain)
+
+-- plain words of a subcommand come to no fault
+pub plain_words : (listed : Bor (List (Bor Text))) → texts listed.now ≡ kind_words → (a : Order) → IsPlainOrder a
+    → faults (leaf listed (command_of a)) (at false start) (operands_of a) ≡ []
+plain_words listed are a plain =
+    plain_taken (leaf listed (command_of a)) (place (command_of a)) (Took listed (command_of a)) (takes listed (command_of a)) (operands_of a) (begins (command_of a)) (all_plain a plain)
+    (all_pass listed are a)

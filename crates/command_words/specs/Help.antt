@@ -1,0 +1,21 @@
+-- The texts of help and version.
+use Rattle.std.specs.Prelude.{◌≡◌, ◌-◌, length, slice_index}
+use Rattle.command_words.specs.Words.{Text}
+use Rattle.command_words.specs.declared.task.Topic.{Topic}
+use Rattle.command_words.specs.declared.task.Topic.TheVariants.{Program, Check, Make, Tables}
+use Rattle.command_words.specs.declared.help.TheConstants.{CHECK, MAKE, PROGRAM, TABLES, VERSION}
+
+-- the text of help on a topic
+abbrev pub text_of_topic : Topic → Text
+text_of_topic Program = PROGRAM.now
+text_of_topic Check = CHECK.now
+text_of_topic Make = MAKE.now
+text_of_topic Tables = TABLES.now
+
+-- the last byte of the text is a line end
+abbrev pub EndsLine : Text → Type 0
+EndsLine text = slice_index text (length text - 1) ≡ 10
+
+-- the line of the version
+abbrev pub version_text : Text
+version_text = VERSION.now

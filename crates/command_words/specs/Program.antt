@@ -1,0 +1,121 @@
+-- What `clap` reads of the program's command.
+use Rattle.std.specs.Prelude.{◌≡◌, ◌⊎◌, true, false, List, [], ◌∷◌, Some, codes, Result, Ok, Err, None}
+use Rattle.clap.specs.Values.{kind_of}
+use Rattle.clap.specs.Faults.{fault_of}
+use Rattle.clap.specs.Kinds.{IsAmong}
+use Rattle.clap.specs.Matches.{found_of}
+use Rattle.clap.specs.Walk.{Row, Rule, rows_of, rule_of, texts}
+use Rattle.clap.specs.Simple.{App, HasMatchesOf, app_of, new_app, new_rule, on_top, subcommand_rows_of, with_rule, with_subcommand}
+use Rattle.clap.specs.declared.builder.action.ArgAction.TheVariants.{Append}
+use Rattle.clap.specs.declared.builder.arg.Arg.{Arg}
+use Rattle.clap.specs.declared.builder.command.Command.{Command}
+use Rattle.clap.specs.declared.builder.command.Command.TheViews.{out-Command}
+use Rattle.clap.specs.declared.error.Error.{Error}
+use Rattle.clap.specs.declared.error.kind.ErrorKind.TheVariants.{OutOfMemory}
+use Rattle.clap.specs.declared.parser.matches.ArgMatches.{ArgMatches}
+use Rattle.clap.specs.declared.parser.matches.ValueSource.TheVariants.{CommandLine}
+use Rattle.clap.specs.declared.builder.value_parser.Reading.TheVariants.{AsWritten}
+use Rattle.clap.specs.declared.builder.value_parser.ValueParser.{ValueParser}
+use Rattle.clap.specs.declared.builder.value_parser.ValueParser.TheVariants as parser
+use Rattle.std.specs.Borrow.{Bor}
+use Rattle.command_words.specs.Words.{Order, Text}
+use Rattle.command_words.specs.Words as asked
+use Rattle.type_table.specs.Kind.{kind_word}
+use Rattle.type_table.specs.declared.kind.Kind.TheVariants.{Undo, Intentions}
+
+-- the words of the kinds
+abbrev pub kind_words : List Text
+kind_words = kind_word Undo ∷ kind_word Intentions ∷ []
+
+-- the parser takes the words of the kinds, and no other
+abbrev pub ReadsKinds : ValueParser → Type 0
+ReadsKinds p = (words : Bor (List (Bor Text))) × (p ≡ parser.Names words) × (texts words.now ≡ kind_words)
+
+-- a word that has to be there, by its id
+abbrev pub wanted_rule : Text → Rule
+wanted_rule id = record (new_rule id) { required = true; value_names = 1 }
+
+-- KIND
+abbrev pub kind_rule : ValueParser → Rule
+kind_rule kinds = record (wanted_rule (codes "kind")) { parser = Some kinds }
+
+-- ITEM, any number of times
+abbrev pub items_rule : Rule
+items_rule = record (new_rule (codes "items")) { action = Some Append; value_names = 1 }
+
+-- `check KIND FILE`
+abbrev pub check_app : ValueParser → App
+check_app kinds =
+    with_rule (with_rule (new_app (codes "check")) (kind_rule kinds)) (wanted_rule (codes "path"))
+
+-- `make FAMILY SIZE ITEM...`
+abbrev pub make_app : App
+make_app = with_rule (with_rule (with_rule (new_app (codes "make"))
+    (wanted_rule (codes "family"))) (wanted_rule (codes "size"))) items_rule
+
+-- `tables FILE`
+abbrev pub tables_app : App
+tables_app = with_rule (new_app (codes "tables")) (wanted_rule (codes "path"))
+
+-- the program, which wants a command and takes no word for its own name
+abbrev pub program : ValueParser → App
+program kinds = with_subcommand (with_subcommand (with_subcommand (on_top (λ top. record top {
+  no_binary_name = true;
+  subcommand_required = true;
+}) (new_app (codes "colock"))) (check_app kinds).top) make_app.top) tables_app.top
+
+-- the command is read as this one, and has no argument of the commands below it
+abbrev pub IsCommand : App → Command → Type 0
+IsCommand a command = ((out-Command command).has_globals ≡ false) × (app_of command ≡ a)
+
+-- the argument is read by this rule, and is one of its own command alone
+abbrev pub IsWord : Rule → Arg → Type 0
+IsWord rule word = (word.global ≡ false) × (rule_of word ≡ rule)
+
+-- a parse of the words: its matches are those of the program, and its error has a cause in them or
+-- is want of memory
+abbrev pub Parses : List Text → Result ArgMatches Error → Type 0
+Parses words (Ok matches) = (kinds : ValueParser) × ReadsKinds kinds
+    × (fault_of (program kinds) words ≡ []) × HasMatchesOf (program kinds) words matches
+Parses words (Err error) = (kind_of error ≡ OutOfMemory)
+    ⊎ ((kinds : ValueParser) × ReadsKinds kinds
+    × IsAmong (kind_of error) (fault_of (program kinds) words))
+
+-- the row of an argument that was given these values
+abbrev pub row_of : Text → List Text → Row
+row_of id values = record {
+  id = id;
+  values = values;
+  count = None;
+  source = Some CommandLine;
+  reading = AsWritten;
+}
+
+-- the row of an argument that was given one value
+abbrev pub row : Text → Text → Row
+row id text = row_of id (text ∷ [])
+
+-- the row of the items, where there are any
+abbrev pub item_rows : List Text → List Row
+item_rows [] = []
+item_rows (item ∷ items) = row_of (codes "items") (item ∷ items) ∷ []
+
+-- the name and the rows of the subcommand that asks for this
+abbrev pub entry_of : Order → Text × List Row
+entry_of (asked.check kind path) =
+    (codes "check", row (codes "kind") (kind_word kind) ∷ row (codes "path") path ∷ [])
+entry_of (asked.make family size items) =
+    (codes "make", row (codes "family") family ∷ row (codes "size") size ∷ item_rows items)
+entry_of (asked.tables path) = (codes "tables", row (codes "path") path ∷ [])
+
+-- the matches are those of the subcommand that asks for this
+abbrev pub Asks : ArgMatches → Order → Type 0
+Asks matches o = subcommand_rows_of matches ≡ Some (entry_of o)
+
+-- the matches are those of a subcommand
+abbrev pub AskSomething : ArgMatches → Type 0
+AskSomething matches = (o : Order) × Asks matches o
+
+-- the rows of these matches are those of what is asked for
+abbrev pub HasRows : ArgMatches → Order → Type 0
+HasRows values o = rows_of (found_of values) ≡ (entry_of o).1

@@ -1,0 +1,108 @@
+-- What the words of the command line say.
+use Rattle.std.specs.Prelude.{◌≡◌, ◌≢◌, ◌==◌, ◌⊎◌, ℕ, false, List, [], ◌∷◌, ⊤, All, slice_index, codes, if◌then◌else◌}
+use Rattle.std.specs.Str.{bytes_eq}
+use Rattle.clap.specs.Walk.{texts}
+use Rattle.type_table.specs.declared.kind.Kind.{Kind}
+use Rattle.type_table.specs.Kind.{kind_word}
+use Rattle.command_words.specs.declared.task.Task.{Task}
+use Rattle.command_words.specs.declared.task.Task.TheVariants as task
+use Rattle.command_words.specs.declared.task.Topic.{Topic}
+use Rattle.command_words.specs.declared.task.Topic.TheVariants as topic
+use Rattle.command_words.specs.declared.task.WordFault.{WordFault}
+use Rattle.command_words.specs.declared.task.WordFault.TheVariants.{Usage, NoMemory}
+
+abbrev pub Text : Type 0
+Text = List ℕ
+
+-- a command with its operands
+pub data Order : Type 0 where
+  -- `check KIND FILE`
+  check : Kind → Text → Order
+  -- `make FAMILY SIZE ITEM...`
+  make : Text → Text → List Text → Order
+  -- `tables FILE`
+  tables : Text → Order
+
+-- what the words ask for
+pub data Asked : Type 0 where
+  -- what a command does with its operands
+  order : Order → Asked
+  -- a text of help
+  help : Topic → Asked
+  -- the version
+  version : Asked
+
+-- the words of a command and its operands
+abbrev pub order_words : Order → List Text
+order_words (check kind path) = codes "check" ∷ kind_word kind ∷ path ∷ []
+order_words (make family size items) = codes "make" ∷ family ∷ size ∷ items
+order_words (tables path) = codes "tables" ∷ path ∷ []
+
+-- the words of a call for help
+abbrev pub help_words : Topic → List Text
+help_words topic.Program = codes "help" ∷ []
+help_words topic.Check = codes "help" ∷ codes "check" ∷ []
+help_words topic.Make = codes "help" ∷ codes "make" ∷ []
+help_words topic.Tables = codes "help" ∷ codes "tables" ∷ []
+
+-- the words that ask for it
+abbrev pub words_of : Asked → List Text
+words_of (order o) = order_words o
+words_of (help topic) = help_words topic
+words_of version = codes "--version" ∷ []
+
+-- the words are these, or the short form of them
+abbrev pub AreFor : List Text → Asked → Type 0
+AreFor words version = (words ≡ words_of version) ⊎ (words ≡ codes "-V" ∷ [])
+AreFor words asked = words ≡ words_of asked
+
+-- what a task asks for
+abbrev pub asked_of : Task → Asked
+asked_of (task.Check kind path) = order (check kind path.now)
+asked_of (task.Make family size items) = order (make family.now size.now (texts items.items))
+asked_of (task.Tables path) = order (tables path.now)
+asked_of (task.Help topic) = help topic
+asked_of task.Version = version
+
+-- the words without the first `--`, which is no word of a task
+abbrev pub without_dashes : List Text → List Text
+without_dashes [] = []
+without_dashes (word ∷ rest) =
+    if bytes_eq word (codes "--") then rest else word ∷ without_dashes rest
+
+-- the words ask for it, where those of a command may have one `--` among them
+abbrev pub AskFor : List Text → Asked → Type 0
+AskFor words (order o) = without_dashes words ≡ order_words o
+AskFor words asked = AreFor words asked
+
+-- the words are those of the task, in their order
+abbrev pub AreWordsOf : List Text → Task → Type 0
+AreWordsOf words task = AskFor words (asked_of task)
+
+-- the word begins with no hyphen
+abbrev pub IsPlain : Text → Type 0
+IsPlain word = (slice_index word 0 == 45) ≡ false
+
+-- none of the words that a user chooses begins with a hyphen
+abbrev pub IsPlainOrder : Order → Type 0
+IsPlainOrder (check kind path) = IsPlain path
+IsPlainOrder (make family size items) = IsPlain family × IsPlain size × All IsPlain items
+IsPlainOrder (tables path) = IsPlain path
+
+-- the same, of all that may be asked for
+abbrev pub AsksPlainly : Asked → Type 0
+AsksPlainly (order o) = IsPlainOrder o
+AsksPlainly asked = ⊤
+
+-- the words ask for neither help nor version
+abbrev pub AreForNoText : List Text → Type 0
+AreForNoText words = ((topic : Topic) → words ≢ help_words topic) × ¬ (AreFor words version)
+
+-- the words are no task's that has plain words
+abbrev pub AreNoTask : List Text → Type 0
+AreNoTask words = (asked : Asked) → AsksPlainly asked → ¬ (AreFor words asked)
+
+-- a fact for a fault that is none of memory
+abbrev pub OnUsage : WordFault → Type 0 → Type 0
+OnUsage (Usage text) P = P
+OnUsage NoMemory P = ⊤

@@ -1,0 +1,120 @@
+//! The texts of help and version.
+ghost use Rattle.std.specs.Prelude.{◌≡◌};
+ghost use Rattle.command_words.specs.Help.{EndsLine, text_of_topic};
+
+use crate::Topic;
+
+/// The line that `--version` writes.
+pub const VERSION: &str = "colock 0.1.0\n";
+
+pub(crate) const PROGRAM: &str = "\
+colock checks and makes conflict tables, by which a store locks the operations
+of shared objects.
+
+Usage: colock COMMAND
+
+Commands:
+  check KIND FILE            Check the conflict table of a type file.
+  make FAMILY SIZE ITEM...   Write the type file of a family of types.
+  tables FILE                Write a type file with its tables made anew.
+  help [COMMAND]             Write this text, or the text on a command.
+
+Options, in place of a command:
+  -V, --version              Write the version.
+
+Status:
+  0   yes, or done
+  1   no
+  2   a fault of the command line or of a text
+  3   a file that can't be read, want of memory, or an output that failed
+
+Answers and texts go to standard output, faults to standard error. With --help
+or -h among the words, the text goes to standard error and the status is 2.
+";
+
+pub(crate) const CHECK: &str = "\
+Check whether the conflict table of a type file holds enough pairs.
+
+Usage: colock check KIND FILE
+
+KIND is how objects of the type recover from aborts:
+  undo         Update in place. An abort takes a transaction's operations out
+               of the middle.
+  intentions   Deferred update. A commit appends a transaction's operations to
+               what was committed before.
+
+FILE is the path of a type file.
+
+One line is written. States and operations have the numbers of the file.
+  yes strong
+      Enough pairs conflict. All others may change places in both directions.
+  yes one-way
+      The same for undo, where some others may change places in one direction.
+  no InitialOutside
+      The initial state isn't in the set of states.
+  no NotClosed S K
+      From state S of the set, operation K leads out of it.
+  no NotSimulation S T K
+      State S is said to look like T, but operation K is legal in S and not
+      in T, or leads to states of which the first isn't said to look like the
+      second.
+  no NotCommuting P Q S
+      P, requested while Q is held, has to conflict with it: at state S they
+      can't change places.
+
+Status: 0 yes, 1 no, 2 a fault of the command line or of the file's text, 3 a
+file that can't be read, want of memory, or an output that failed.
+";
+
+pub(crate) const MAKE: &str = "\
+Write the type file of a family, with a relation and conflict tables that fit.
+
+Usage: colock make FAMILY SIZE ITEM...
+
+  FAMILY      SIZE                    ITEM...
+  account     the cap, 1 to 1023      amounts from 1 to the cap, ascending
+  counter     the cap, 1 to 1023      amounts from 1 to the cap, ascending
+  set         0                       names of elements, at most 25 bytes each
+  semiqueue   capacity, 1 to 1023     names of elements, at most 28 bytes each
+
+There is at least one ITEM, and none comes twice. A name is made of a-z, 0-9
+and _ : - alone. ITEMs that begin with a hyphen follow the word --.
+
+A type has at most 64 operations and 1,024 states.
+
+Example: colock make semiqueue 2 a b
+
+Status: 0 done, 2 a fault of the command line or one of those below, 3 want of
+memory, or an output that failed.
+  colock: BadParameter   FAMILY is none of the four, or SIZE or an ITEM is none
+                         that it takes.
+  colock: TooLarge       The type has too many operations or states.
+";
+
+pub(crate) const TABLES: &str = "\
+Write a type file with its relation and its conflict tables made anew.
+
+Usage: colock tables FILE
+
+FILE is the path of a type file. What is written has its operations, states and
+steps and its set of states. The relation is made from the steps, and each
+conflict table has the pairs that can't change places at a state of the set.
+
+Status: 0 done, 2 a fault of the command line or of the file's text, 3 a file
+that can't be read, want of memory, or an output that failed.
+";
+
+impl Topic {
+    /// The text of help on it, in whole lines.
+    pub const fn text(self) -> &'static str
+        ensures exact { result.now ≡ text_of_topic self }
+        ensures lines { EndsLine result.now }
+    {
+        match self {
+            Topic::Program => PROGRAM,
+            Topic::Check => CHECK,
+            Topic::Make => MAKE,
+            Topic::Tables => TABLES,
+        }
+    }
+}

@@ -1,0 +1,11 @@
+//! The words of the command line: what they ask for, and the texts of help and version.
+#![tactic(auto)]
+
+mod help;
+mod program;
+mod task;
+mod words;
+
+pub use help::VERSION;
+pub use task::{Task, Topic, WordFault};
+pub use words::read_words;

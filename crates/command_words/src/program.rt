@@ -1,0 +1,92 @@
+//! The commands of the program, as `clap` reads them.
+ghost use Rattle.std.specs.Prelude.{◌≡◌, IfOk};
+ghost use Rattle.clap.specs.Simple.{App, app_of, with_rule, with_subcommand};
+ghost use Rattle.clap.specs.Walk.{Rule};
+ghost use Rattle.command_words.specs.Program.{IsCommand, IsWord, ReadsKinds, check_app, items_rule, kind_rule, make_app, program, tables_app, wanted_rule};
+
+use crate::Topic;
+use clap::{Arg, ArgAction, Command};
+use std::alloc::{AllocError, Global};
+
+// The words of the kinds of recovery.
+static KINDS: [&str; 2] = ["undo", "intentions"];
+
+// The program with its three commands.
+pub(crate) fn program<'a>(alloc: Global) -> Result<Command<'a>, AllocError>
+    ensures { (kinds : _) × ReadsKinds kinds × IfOk result (λ command. app_of command ≡ program kinds) }
+{
+    let bare = Command::new(alloc, "colock")
+        .override_help(Topic::Program.text())
+        .no_binary_name(true)
+        .subcommand_required(true)
+        .bin_name("colock");
+    let with_check = with_command(bare, check_command(alloc));
+    let with_make = with_command(with_check, make_command(alloc));
+    with_command(with_make, tables_command(alloc))
+}
+
+fn check_command<'a>(alloc: Global) -> Result<Command<'a>, AllocError>
+    ensures { (kinds : _) × ReadsKinds kinds × IfOk result (IsCommand (check_app kinds)) }
+{
+    let bare = Command::new(alloc, "check").override_help(Topic::Check.text());
+    let with_kind = with_word(Ok(bare), kind_arg(alloc));
+    with_word(with_kind, wanted(alloc, "path", "FILE"))
+}
+
+fn make_command<'a>(alloc: Global) -> Result<Command<'a>, AllocError>
+    ensures { IfOk result (IsCommand make_app) }
+{
+    let bare = Command::new(alloc, "make").override_help(Topic::Make.text());
+    let with_family = with_word(Ok(bare), wanted(alloc, "family", "FAMILY"));
+    let with_size = with_word(with_family, wanted(alloc, "size", "SIZE"));
+    with_word(with_size, items_arg(alloc))
+}
+
+fn tables_command<'a>(alloc: Global) -> Result<Command<'a>, AllocError>
+    ensures { IfOk result (IsCommand tables_app) }
+{
+    let bare = Command::new(alloc, "tables").override_help(Topic::Tables.text());
+    with_word(Ok(bare), wanted(alloc, "path", "FILE"))
+}
+
+// A growth that was refused before stays refused.
+fn with_command<'a>(
+    above: Result<Command<'a>, AllocError>,
+    below: Result<Command<'a>, AllocError>,
+) -> Result<Command<'a>, AllocError>
+    ensures { (a b : App) → IfOk above.entry (λ command. app_of command ≡ a) → IfOk below.entry (IsCommand b)
+        → IfOk result (λ command. app_of command ≡ with_subcommand a b.top) }
+{
+    above?.subcommand(below?)
+}
+
+fn with_word<'a>(
+    command: Result<Command<'a>, AllocError>,
+    word: Arg<'a>,
+) -> Result<Command<'a>, AllocError>
+    ensures { (a : App) (rule : Rule) → IfOk command.entry (IsCommand a) → IsWord rule word.entry
+        → IfOk result (IsCommand (with_rule a rule)) }
+{
+    command?.arg(word)
+}
+
+// A word that has to be there.
+fn wanted<'a>(alloc: Global, id: &'a str, shown: &'a str) -> Arg<'a>
+    ensures { IsWord (wanted_rule id.entry.now) result }
+{
+    Arg::new(alloc, id).required(true).value_name(shown)
+}
+
+fn kind_arg<'a>(alloc: Global) -> Arg<'a>
+    ensures { (kinds : _) × ReadsKinds kinds × IsWord (kind_rule kinds) result }
+{
+    wanted(alloc, "kind", "KIND").value_parser(KINDS.as_slice())
+}
+
+fn items_arg<'a>(alloc: Global) -> Arg<'a>
+    ensures { IsWord items_rule result }
+{
+    Arg::new(alloc, "items")
+        .action(ArgAction::Append)
+        .value_name("ITEM")
+}

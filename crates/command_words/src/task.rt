@@ -1,0 +1,64 @@
+//! What the command line asks for, and why its words name no task.
+
+use thiserror::Error as FaultText;
+use type_table::Kind;
+
+/// What the command line asks for.
+#[derive(Debug, Drop)]
+pub enum Task<'a> {
+    /// Is the type file good for this kind of recovery?
+    Check {
+        /// The kind of recovery.
+        kind: Kind,
+        /// The path of the type file.
+        path: &'a str,
+    },
+    /// What is the type file of a family at these parameters?
+    Make {
+        /// The name of the family.
+        family: &'a str,
+        /// The cap of an account or a counter, the capacity of a semiqueue, `0` for a set.
+        size: &'a str,
+        /// The amounts or the elements.
+        items: Vec<&'a str>,
+    },
+    /// What is the type file with made tables in place of its own?
+    Tables {
+        /// The path of the type file.
+        path: &'a str,
+    },
+    /// How is the program used, or one of its commands?
+    Help {
+        /// The program or the command.
+        topic: Topic,
+    },
+    /// Which version of the program is this?
+    Version,
+}
+
+/// What a text of help is on.
+#[derive(Clone, Copy, Debug, PartialEq, Eq)]
+pub enum Topic {
+    /// The program and its commands.
+    Program,
+    /// The command `check`.
+    Check,
+    /// The command `make`.
+    Make,
+    /// The command `tables`.
+    Tables,
+}
+
+/// Why the words name no task.
+#[derive(Debug, Drop, FaultText)]
+pub enum WordFault {
+    /// A fault of the command line, or a call for help by `--help` or `-h`.
+    #[error("{text}")]
+    Usage {
+        /// What `clap` says to the user, with its line ends.
+        text: String,
+    },
+    /// A growth was refused.
+    #[error("no memory")]
+    NoMemory,
+}

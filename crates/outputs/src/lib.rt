@@ -1,0 +1,13 @@
+//! What texts are written to: outputs that take bytes and keep the fault that stopped them, and the
+//! loops that write whole pieces.
+#![tactic(auto)]
+
+mod laws;
+mod out;
+mod sink;
+mod writing;
+
+pub use laws::{items_in_turn, texts_in_turn};
+pub use out::{Failed, Out, OutFault};
+pub use sink::Sink;
+pub use writing::{put, put_all, put_line};

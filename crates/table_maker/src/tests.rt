@@ -1,8 +1,0 @@
-mod account;
-mod counter;
-mod made;
-mod make_tables;
-mod semiqueue;
-mod set;
-mod words;
-mod worked;

@@ -1,0 +1,99 @@
+-- What `make` is asked for.
+use Rattle.std.specs.Borrow.{Bor}
+use Rattle.std.specs.Prelude.{map, ◌≡◌, ◌≢◌, ℕ, ◌^◌, List, [], ◌∷◌, nat_lt, Option, Some, None, Result, Ok, Err, option_map, option_and_then, codes, if◌then◌else◌}
+use Rattle.std.specs.Str.{bytes_eq}
+use Rattle.line_text.specs.Text.{number_of}
+use Rattle.type_table.specs.Name.{is_name}
+use Rattle.table_maker.specs.Account.{account as account_family, AccountFits}
+use Rattle.table_maker.specs.Amounts.{AreAmounts}
+use Rattle.table_maker.specs.Counter.{counter as counter_family, CounterFits}
+use Rattle.table_maker.specs.Elements.{AreElements}
+use Rattle.table_maker.specs.Made.{Family}
+use Rattle.table_maker.specs.Semiqueue.{semiqueue as semiqueue_family, AreSemiqueueParameters, SemiqueueFits}
+use Rattle.table_maker.specs.Set.{set as set_family, SetFits}
+use Rattle.table_maker.specs.declared.make_error.MakeError.{MakeError}
+use Rattle.table_maker.specs.declared.make_error.MakeError.TheVariants.{BadParameter, TooLarge, NoMemory}
+use Rattle.type_commands.specs.declared.request.Request.{Request}
+use Rattle.type_commands.specs.declared.request.Request.TheVariants as request
+
+-- the bytes of a word
+abbrev pub Text : Type 0
+Text = List ℕ
+
+-- the words behind references
+abbrev pub texts : List (Bor Text) → List Text
+texts words = map (λ w. w.now) words
+
+-- a family and its parameters
+pub data Wanted : Type 0 where
+  account : ℕ → List ℕ → Wanted
+  counter : ℕ → List ℕ → Wanted
+  set : List Text → Wanted
+  semiqueue : List Text → ℕ → Wanted
+
+-- what a request wants
+abbrev pub wanted_by : Request → Wanted
+wanted_by (request.Account cap amounts) = account cap amounts.items
+wanted_by (request.Counter cap amounts) = counter cap amounts.items
+wanted_by (request.Set elements) = set elements.items
+wanted_by (request.Semiqueue elements capacity) = semiqueue elements.items capacity
+
+-- ---- words
+
+-- the number that a word is, below 65,536, which no parameter reaches
+abbrev pub parameter_of : Text → Option ℕ
+parameter_of word = option_and_then (λ n. if nat_lt n (2 ^ 16) then Some n else None) (number_of word)
+
+-- the name that a word is
+abbrev pub name_of : Text → Option Text
+name_of word = if is_name word then Some word else None
+
+module _ {T : Type 0} where
+  -- what each of the words says, where all of them say something
+  abbrev pub each_of : (Text → Option T) → List Text → Option (List T)
+  each_of read [] = Some []
+  each_of read (word ∷ rest) = option_and_then (λ value. option_map (λ values. value ∷ values) (each_of read rest)) (read word)
+
+-- a size and amounts
+abbrev pub of_amounts : (ℕ → List ℕ → Wanted) → Text → List Text → Option Wanted
+of_amounts family size items = option_and_then (λ cap. option_map (family cap) (each_of parameter_of items)) (parameter_of size)
+
+-- what FAMILY, SIZE and the ITEMs want; the SIZE of a set is 0
+abbrev pub wanted_of : Text → Text → List Text → Option Wanted
+wanted_of family size items =
+    if bytes_eq family (codes "account") then of_amounts account size items
+    else if bytes_eq family (codes "counter") then of_amounts counter size items
+    else if bytes_eq family (codes "set") then (if bytes_eq size (codes "0") then option_map set (each_of name_of items) else None)
+    else if bytes_eq family (codes "semiqueue")
+    then option_and_then (λ capacity. option_map (λ elements. semiqueue elements capacity) (each_of name_of items)) (parameter_of size)
+    else None
+
+-- the result is what the words say, or `BadParameter` where they say nothing; memory is wanted only where they say something
+abbrev pub Gives : {T V : Type 0} → Option T → (V → T) → Result V MakeError → Type 0
+Gives said shown (Ok value) = said ≡ Some (shown value)
+Gives said shown (Err BadParameter) = said ≡ None
+Gives said shown (Err TooLarge) = ⊥
+Gives said shown (Err NoMemory) = said ≢ None
+
+-- ---- families
+
+-- the parameters are good
+abbrev pub IsGood : Wanted → Type 0
+IsGood (account cap amounts) = AreAmounts cap amounts
+IsGood (counter cap amounts) = AreAmounts cap amounts
+IsGood (set elements) = AreElements 25 elements
+IsGood (semiqueue elements capacity) = AreSemiqueueParameters elements capacity
+
+-- the family isn't too large at them
+abbrev pub Fits : Wanted → Type 0
+Fits (account cap amounts) = AccountFits cap amounts
+Fits (counter cap amounts) = CounterFits amounts
+Fits (set elements) = SetFits elements
+Fits (semiqueue elements capacity) = SemiqueueFits elements capacity
+
+-- the family at them
+abbrev pub family_of : Wanted → Family
+family_of (account cap amounts) = account_family cap amounts
+family_of (counter cap amounts) = counter_family cap amounts
+family_of (set elements) = set_family elements
+family_of (semiqueue elements capacity) = semiqueue_family elements capacity

@@ -1,0 +1,48 @@
+//! Type files that a task names.
+
+ghost use Rattle.std.specs.Prelude.{◌≡◌, None, OnOk};
+ghost use Rattle.type_commands.specs.Verdict.{ReadsFile, ReadsText};
+
+use command_files::{Source, SourceFault, cannot_read, out_of_memory, refuse};
+use std::alloc::Global;
+use type_text::{FaultKind, Out, TextFault, TypeFile, read_type};
+
+/// The type file at a path. Otherwise says why there is none.
+///
+/// # Errors
+///
+/// The status: 2 where the text has a fault, and 3 where it can't be read or memory was refused.
+pub fn read_file<S: Source, E: Out>(
+    alloc: Global,
+    path: &str,
+    source: &mut S,
+    err: &mut E,
+) -> Result<TypeFile, u8>
+    requires { E.fault err.old ≡ None }
+    ensures reads { ReadsFile (S.holds source.old path.now) result }
+    ensures quiet { OnOk result (E.fault err.new ≡ None) }
+{
+    match source.bytes(path) {
+        Ok(text) => read_text(alloc, path, &text, err),
+        Err(SourceFault::CannotRead) => Err(cannot_read(alloc, path, err)),
+        Err(SourceFault::NoMemory) => Err(out_of_memory(err)),
+    }
+}
+
+/// The type file of a text that stands at a path.
+fn read_text<E: Out>(alloc: Global, path: &str, text: &[u8], err: &mut E) -> Result<TypeFile, u8>
+    requires { E.fault err.old ≡ None }
+    ensures reads { ReadsText text.now result }
+    ensures quiet { OnOk result (E.fault err.new ≡ None) }
+{
+    match read_type(alloc, text) {
+        Ok(file) => Ok(file),
+        Err(
+            TextFault {
+                kind: FaultKind::NoMemory,
+                ..
+            },
+        ) => Err(out_of_memory(err)),
+        Err(fault) => Err(refuse(alloc, path, fault, err)),
+    }
+}

@@ -1,0 +1,83 @@
+//! Worked examples of the definitions: each function does nothing, and its contract is the example.
+#![tactic(auto, unfolding(crate::specs::Table::next, crate::specs::Table::table_fault))]
+
+ghost use Rattle.std.specs.Prelude.{◌≡◌, false, true, [], ◌∷◌, Some, None, codes};
+ghost use Rattle.type_table.specs.Table.{next, table_fault, first_op, is_same_call};
+ghost use Rattle.type_table.specs.Run.{run, Looks};
+ghost use Rattle.type_table.specs.StateSet.{IsClosed};
+ghost use Rattle.type_table.specs.ConflictTable.{conflicts};
+ghost use Rattle.type_table.specs.Commute.{CommuteForward, CommutesBackward, CommutesBackwardBothWays, Covers};
+ghost use Rattle.type_table.specs.Examples.{ok_op, counter, three_states, forward_pairs, backward_pairs, idle, only_initial, one_way, five_states};
+
+use crate::kind::Kind;
+use crate::table_error::TableError;
+
+pub fn counter_steps()
+    ensures up { next counter 0 0 ≡ Some 1 }
+    ensures down { next counter 1 1 ≡ Some 0 }
+    ensures full { next counter 2 0 ≡ None }
+    ensures empty { next counter 0 1 ≡ None }
+    ensures outside { next counter 3 0 ≡ None }
+    ensures other { next counter 0 2 ≡ None }
+{}
+
+pub fn counter_runs()
+    ensures legal { run counter (Some 0) (0 ∷ 0 ∷ 1 ∷ []) ≡ Some 1 }
+    ensures illegal { run counter (Some 0) (0 ∷ 1 ∷ 1 ∷ 0 ∷ []) ≡ None }
+    ensures empty { run counter (Some 2) [] ≡ Some 2 }
+{}
+
+pub fn counter_calls()
+    ensures first { first_op counter (codes "dec:1") ≡ Some 1 }
+    ensures absent { first_op counter (codes "ok") ≡ None }
+    ensures same { is_same_call counter 1 1 ≡ true }
+    ensures other { is_same_call counter 0 1 ≡ false }
+{}
+
+pub fn faults_of_tables()
+    ensures none { table_fault counter ≡ None }
+    ensures no_states { table_fault (record counter { states = 0 }) ≡ Some TableError.BadCount }
+    ensures no_steps { table_fault (record counter { steps = [] }) ≡ Some TableError.BadCount }
+    ensures initial { table_fault (record counter { initial = 3 }) ≡ Some TableError.BadInitial }
+    ensures step { table_fault (record counter { steps = Some 3 ∷ None ∷ None ∷ None ∷ None ∷ None ∷ [] }) ≡ Some TableError.BadStep }
+    ensures first { table_fault (record counter { states = 2; initial = 2; steps = Some 1 ∷ None ∷ None ∷ Some 2 ∷ [] }) ≡ Some TableError.BadInitial }
+    ensures twice { table_fault (record counter { ops = ok_op (codes "p") ∷ ok_op (codes "p") ∷ [] }) ≡ Some TableError.TwiceOp }
+{}
+
+pub fn up_and_down_commute_forward()
+    ensures { CommuteForward counter three_states 0 1 }
+{}
+
+pub fn ups_do_not_commute_forward()
+    ensures { CommuteForward counter three_states 0 0 → ⊥ }
+{}
+
+pub fn ups_commute_backward()
+    ensures { CommutesBackward counter three_states 0 0 }
+{}
+
+pub fn up_does_not_commute_backward_with_down()
+    ensures { CommutesBackward counter three_states 0 1 → ⊥ }
+{}
+
+pub fn counter_is_covered()
+    ensures forward { Covers Kind.Intentions counter three_states (conflicts forward_pairs) }
+    ensures needed { Covers Kind.Intentions counter three_states (λ _ _. false) → ⊥ }
+    ensures backward { Covers Kind.Undo counter three_states (conflicts backward_pairs) }
+{}
+
+pub fn idle_operations_commute_in_the_closed_set()
+    ensures closed { IsClosed idle only_initial }
+    ensures inside { CommuteForward idle only_initial 0 1 }
+    ensures everywhere { CommuteForward idle three_states 0 1 → ⊥ }
+{}
+
+pub fn one_way_looks_one_way()
+    ensures looks { Looks one_way (Some 3) (Some 4) }
+    ensures back { Looks one_way (Some 4) (Some 3) → ⊥ }
+{}
+
+pub fn one_way_commutes_one_way()
+    ensures one { CommutesBackward one_way five_states 0 1 }
+    ensures both { CommutesBackwardBothWays one_way five_states 0 1 → ⊥ }
+{}
