@@ -63,14 +63,14 @@ diagonal (suc (suc zero)) (suc (suc zero)) h = refl
 diagonal (suc (suc zero)) (suc (suc (suc t))) h = absurd (false≢true h)
 diagonal (suc (suc (suc s))) t h = absurd (false≢true h)
 
--- what is so at each state for each of the four pairs
-at_places : (condition : Condition) (rows : List (List Bool)) → let At : ℕ → ℕ → Type 0 = λ p q. (s : ℕ) → s < 3 → fails_at condition counter_file rows p q s ≡ false in
-    At 0 0 → At 0 1 → At 1 0 → At 1 1 → PassesEverywhere condition counter_file rows
-at_places condition rows up_up up_down down_up down_down p q s inside =
-    at_two (λ a. fails_at condition counter_file rows a q s ≡ false)
-    (at_two (λ b. fails_at condition counter_file rows 0 b s ≡ false) (up_up s inside.state) (up_down s inside.state) q inside.held)
-    (at_two (λ b. fails_at condition counter_file rows 1 b s ≡ false) (down_up s inside.state) (down_down s inside.state) q inside.held)
-    p inside.requested
+-- no pair of a requested and a held operation fails at a state: up with up, up with down, down with up, down with down
+at_places : (condition : Condition) (table : List (List Bool)) → let At : ℕ → ℕ → Type 0 = λ p q. (s : ℕ) → s < 3 → fails_at condition counter_file table p q s ≡ false in
+    At 0 0 → At 0 1 → At 1 0 → At 1 1 → PassesEverywhere condition counter_file table
+at_places condition table up_up up_down down_up down_down p q s inside =
+    let with_held : ℕ → Type 0 = λ a. fails_at condition counter_file table a q s ≡ false in
+    let up : with_held zero = at_two (λ b. fails_at condition counter_file table zero b s ≡ false) (up_up s inside.state) (up_down s inside.state) q inside.held in
+    let down : with_held (suc zero) = at_two (λ b. fails_at condition counter_file table (suc zero) b s ≡ false) (down_up s inside.state) (down_down s inside.state) q inside.held in
+    at_two with_held up down p inside.requested
 
 -- the pairs outside the conflict table of a kind pass its condition at each state
 counter-passes : (kind : Kind) → PassesEverywhere (condition_of kind) counter_file (conflicts_of kind counter_file)
