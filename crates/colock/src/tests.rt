@@ -3,6 +3,8 @@
 mod histories;
 mod lines;
 mod memory_source;
+mod objects;
+mod printed;
 mod relations;
 mod sinks;
 mod source;

@@ -2,7 +2,7 @@
 use Rattle.std.specs.Prelude.{◌≡◌, ◌⊎◌, ℕ, List, Option}
 use Rattle.std.specs.Io.KnownBytes.{Appends}
 
--- at status 0 the output took the text, and else it failed, with status 3
+-- the status is 0 or 3, and at 0 the output took the text
 pub record WritesText (text : List ℕ) (status : ℕ) (old new : Option (List ℕ)) : Type 0 where
   pub ends : (status ≡ 0) ⊎ (status ≡ 3)
   pub written : status ≡ 0 → Appends old new text

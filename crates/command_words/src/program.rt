@@ -8,10 +8,10 @@ use crate::Topic;
 use clap::{Arg, ArgAction, Command};
 use std::alloc::{AllocError, Global};
 
-// The words of the kinds of recovery.
+/// The words of the kinds of recovery.
 static KINDS: [&str; 2] = ["undo", "intentions"];
 
-// The program with its three commands.
+/// The program with its three commands.
 pub(crate) fn program<'a>(alloc: Global) -> Result<Command<'a>, AllocError>
     ensures { (kinds : _) × ReadsKinds kinds × IfOk result (λ command. app_of command ≡ program kinds) }
 {
@@ -49,7 +49,7 @@ fn tables_command<'a>(alloc: Global) -> Result<Command<'a>, AllocError>
     with_word(Ok(bare), wanted(alloc, "path", "FILE"))
 }
 
-// A growth that was refused before stays refused.
+/// A growth that was refused before stays refused.
 fn with_command<'a>(
     above: Result<Command<'a>, AllocError>,
     below: Result<Command<'a>, AllocError>,
@@ -70,7 +70,7 @@ fn with_word<'a>(
     command?.arg(word)
 }
 
-// A word that has to be there.
+/// A word that has to be there.
 fn wanted<'a>(alloc: Global, id: &'a str, shown: &'a str) -> Arg<'a>
     ensures { IsWord (wanted_rule id.entry.now) result }
 {

@@ -29,7 +29,7 @@ pub fn read_words<'a>(alloc: Global, words: &'a [&'a str]) -> Result<Task<'a>, W
     }
 }
 
-// The task of words that ask for a text.
+/// The task of words that ask for a text.
 fn text_task<'a>(words: &[&str]) -> Option<Task<'a>>
     ensures taken { IfSome result (AreWordsOf (texts words.now)) }
     ensures other { IfNone result (AreForNoText (texts words.now)) }
@@ -50,7 +50,7 @@ fn help_on<'a>(topic: Topic) -> Task<'a>
     Task::Help { topic }
 }
 
-// The task of words that ask for no text.
+/// The task of words that ask for no text.
 fn read_order<'a>(alloc: Global, words: &'a [&'a str]) -> Result<Task<'a>, WordFault>
     requires { AreForNoText (texts words.now) }
     ensures taken { IfOk result (AreWordsOf (texts words.now)) }
@@ -65,14 +65,14 @@ fn read_order<'a>(alloc: Global, words: &'a [&'a str]) -> Result<Task<'a>, WordF
     }
 }
 
-// What `clap` makes of the words.
+/// What `clap` makes of the words.
 fn parsed<'a>(alloc: Global, words: &'a [&'a str]) -> Result<ArgMatches<'a>, Error>
     ensures { Parses (texts words.now) result }
 {
     program(alloc)?.try_get_matches_from(words)
 }
 
-// The task of matches that are those of a subcommand.
+/// The task of matches that are those of a subcommand.
 fn task_of<'a>(alloc: Global, matches: &ArgMatches<'a>) -> Result<Task<'a>, AllocError>
     requires { AskSomething matches.now }
     ensures { (o : Order) → Asks matches.now o → IfOk result (λ task. asked_of task ≡ asked.order o) }

@@ -3,7 +3,7 @@ use Rattle.std.specs.Prelude.{◌≡◌, ℕ, ◌<◌, ◌≤◌, Bool, true, fa
 use Rattle.std.specs.List.{range_with_len}
 use Rattle.type_table.specs.ConflictTable.{row, IsSquare}
 
--- A row for each first state, and in it a cell for each second one.
+-- a row for each first state, and in it a cell for each second one
 
 -- s is related to t
 abbrev pub relates : List (List Bool) → ℕ → ℕ → Bool

@@ -83,7 +83,7 @@ HaveSinglesInFront {Item} g items =
     ((k : ℕ) → k ≤ rank → (is_single (slice_get g.sections k) ≡ true) × (is_needed (slice_get g.sections k) ≡ true)) →
     (x : Item) × (slice_get items rank ≡ Some x) × (g.rank_of x ≡ rank)
 
--- how the items of an accepted text stand
+-- how the items of an accepted text follow each other
 pub record AreInOrder {Item : Type 0} (g : Rules Item) (items : List Item) : Type 0 where
   pub passed : HavePassed g items
   pub no_twins : HaveNoTwins g items

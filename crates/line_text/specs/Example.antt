@@ -49,7 +49,7 @@ entry_of words =
 abbrev pub rank_of : Entry → ℕ
 rank_of x = min x.0 4
 
--- the number of the `size` line, which stands first
+-- the number of the `size` line, which comes first
 abbrev pub size_of : List Entry → ℕ
 size_of [] = 0
 size_of (x ∷ before) = x.1
@@ -58,7 +58,7 @@ size_of (x ∷ before) = x.1
 abbrev pub is_in_range : List Entry → Entry → Bool
 is_in_range before x = if x.0 == 0 then nat_le 1 x.1 && nat_le x.1 9 else (if x.0 == 2 then nat_lt x.1 (size_of before) && nat_lt x.2 (size_of before) else true)
 
--- a `put` stands behind an `open`
+-- a `put` comes behind an `open`
 abbrev pub misses : List Entry → Entry → Bool
 misses before x = x.0 == 3 && x.2 == 1 && count_by (λ y. rank_of y == 3) before == 0
 
@@ -66,7 +66,7 @@ misses before x = x.0 == 3 && x.2 == 1 && count_by (λ y. rank_of y == 3) before
 abbrev pub key_of : Entry → Option (ℕ × ℕ)
 key_of x = if x.0 == 2 then Some (x.1, x.2) else None
 
--- an `op` stands once
+-- an `op` comes once
 abbrev pub is_twin : Entry → Entry → Bool
 is_twin x y = x.0 == 1 && y.0 == 1 && y.1 == x.1 && y.2 == x.2
 

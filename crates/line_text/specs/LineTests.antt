@@ -42,7 +42,7 @@ abbrev pub is_late : {Item : Type 0} → Rules Item → Option Item → Item →
 is_late g None x = false
 is_late g (Some y) x = nat_lt (g.rank_of x) (g.rank_of y) || (g.rank_of x == g.rank_of y && is_single (slice_get g.sections (g.rank_of x)))
 
--- test 8: a section of a rank below this one must be there and hasn't stood
+-- test 8: a section of a rank below this one must be there and hasn't come
 abbrev pub lacks : {Item : Type 0} → Rules Item → List Item → ℕ → Bool
 lacks g before zero = false
 lacks g before (suc rank) = lacks g before rank || (is_needed (slice_get g.sections rank) && not (has_stood g before rank))

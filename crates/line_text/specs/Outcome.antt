@@ -20,7 +20,7 @@ or_next line None next = next
 abbrev pub has_ended : {Item : Type 0} → Rules Item → List TextLine → Bool
 has_ended g lines = has_stood g (items_of g lines) (end_rank g)
 
--- the first refused line of those that follow, or that `end` hasn't stood
+-- the first refused line of those that follow, or that `end` hasn't come
 unfoldable pub first_fault : {Item : Type 0} → Rules Item → List TextLine → List TextLine → Option TextFault
 first_fault g before [] = if has_ended g before then None else Some (fault_on (length before + 1) Missing)
 first_fault g before (l ∷ after) = or_next (length before + 1) (fault_of g before l) (first_fault g (before ++ l ∷ []) after)

@@ -10,17 +10,17 @@ use Rattle.line_text.specs.declared.section.Section.{Section}
 pub record Rules (Item : Type 0) : Type 0 where
   -- the item of a line's words: tests 5 and 6
   pub item_of : List (List ℕ) → Result Item FaultKind
-  -- the rank of the section in which an item's line stands
+  -- the rank of the section to which an item's line belongs
   pub rank_of : Item → ℕ
   -- the sections by rank; the last is `end`
   pub sections : List Section
-  -- whether a line of its own section must stand before an item and doesn't: a `do` wants a `job`
+  -- whether a line of its own section must come before an item and doesn't: a `do` wants a `job`
   pub misses : List Item → Item → Bool
   -- whether the numbers of an item are in range behind these items
   pub is_in_range : List Item → Item → Bool
   -- what the items of its section ascend by, where they do
   pub key_of : Item → Option (ℕ × ℕ)
-  -- whether the first item may not stand behind the second
+  -- whether the first item may not come behind the second
   pub is_twin : Item → Item → Bool
 
 -- the item of a line's words, where there is a word and they say one

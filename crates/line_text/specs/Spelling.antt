@@ -28,7 +28,7 @@ pub record Spells {Item : Type 0} (g : Rules Item) (x : Item) (words : List (Lis
   pub short : length (spaced words) ≤ 200
   pub said : g.item_of words ≡ Ok x
 
--- the canonical text of items that may stand so is read as these items
+-- the canonical text of items that may follow each other so is read as these items
 abbrev pub IsReadAgain : {Item : Type 0} → Rules Item → (Item → List (List ℕ)) → List Item → Type 0
 IsReadAgain g words items =
     AllByRecursion (λ x. Spells g x (words x)) items → IsAccepted g items → outcome_of g (text_of words items) ≡ Ok items

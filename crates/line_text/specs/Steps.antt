@@ -7,7 +7,7 @@ use Rattle.line_text.specs.LineTests.{words_fault, line_fault}
 use Rattle.line_text.specs.declared.fault.FaultKind.{FaultKind}
 use Rattle.line_text.specs.declared.fault.FaultKind.TheVariants.{NoMemory}
 
--- words were judged behind items: they pass and their item stands then too, or the fault is theirs, or memory was refused
+-- words were judged behind items: they pass and their item is then behind the others, or the fault is theirs, or memory was refused
 abbrev pub JudgesWords : {Item : Type 0} → Rules Item → List (List ℕ) → List Item → Result (Unit {0}) FaultKind → List Item → Type 0
 JudgesWords g words before (Ok _) after = (words_fault g before words ≡ None) × (after ≡ before ++ option_to_list (item_in g words))
 JudgesWords g words before (Err kind) after = (words_fault g before words ≡ Some kind) ⊎ (kind ≡ NoMemory)

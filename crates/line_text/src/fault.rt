@@ -28,13 +28,13 @@ pub enum FaultKind {
     /// A section of a lower rank than the last, a second line of a single one, or an entry that doesn't ascend.
     #[error("OutOfOrder")]
     OutOfOrder = 7,
-    /// A section that must be there hasn't stood.
+    /// A section that must be there hasn't come.
     #[error("Missing")]
     Missing = 8,
     /// A line behind `end`.
     #[error("AfterEnd")]
     AfterEnd = 9,
-    /// An entry that stood before and may not stand twice.
+    /// An entry that came before and may not come twice.
     #[error("TwiceOp")]
     TwiceOp = 10,
     /// Memory was refused while the line was read.

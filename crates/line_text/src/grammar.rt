@@ -27,12 +27,12 @@ pub trait Grammar {
         ensures value { result.now ≡ (rules self.now).sections }
         ensures some { 0 < length result.now };
 
-    /// The rank of the section in which an item's line stands.
+    /// The rank of the section to which an item's line belongs.
     fn rank(&self, item: Self::Item) -> usize
         ensures value { result ≡ (rules self.now).rank_of item }
         ensures known { result < length (rules self.now).sections };
 
-    /// Whether a line of its own section must stand before the item and doesn't.
+    /// Whether a line of its own section must come before the item and doesn't.
     fn misses(&self, before: &[Self::Item], counts: &[usize], item: Self::Item) -> bool
         requires { IsCounted (rules self.now) before.now counts.now }
         ensures { result ≡ (rules self.now).misses before.now item };
@@ -46,7 +46,7 @@ pub trait Grammar {
     fn key(&self, item: Self::Item) -> Option<(u32, u32)>
         ensures { result ≡ (rules self.now).key_of item };
 
-    /// Whether an item before it is one that may not stand twice. For an item that may it answers
+    /// Whether an item before it is one that may not come twice. For an item that may it answers
     /// `false` at once.
     fn has_twin(&self, before: &[Self::Item], item: Self::Item) -> bool
         ensures { result ≡ list_any ((rules self.now).is_twin item) before.now };

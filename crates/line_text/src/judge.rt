@@ -8,7 +8,8 @@ use crate::grammar::Grammar;
 use crate::section::Section;
 use crate::stood::{Stood, has_ended, push_item};
 
-/// Tests 4 to 11 of a line with these words. Its item, if it passes and has one, stands then too.
+/// Tests 4 to 11 of a line with these words. Its item, if it passes and has one, is then behind the
+/// others.
 #[tactic(auto, unfolding(crate::specs::LineTests::words_fault))]
 pub fn judge_words<G: Grammar>(
     grammar: &G,
@@ -35,7 +36,7 @@ pub fn judge_words<G: Grammar>(
     Ok(())
 }
 
-/// The first of tests 7 to 11 that refuses an item behind those that stood.
+/// The first of tests 7 to 11 that refuses an item behind those before it.
 #[tactic(auto, unfolding(crate::specs::LineTests::item_fault))]
 fn item_fault<G: Grammar>(grammar: &G, stood: &Stood<G::Item>, item: G::Item) -> Option<FaultKind>
     requires { IsCounted (G.rules grammar.now) stood.now.items.items stood.now.counts.items }
@@ -61,7 +62,7 @@ fn item_fault<G: Grammar>(grammar: &G, stood: &Stood<G::Item>, item: G::Item) ->
     None
 }
 
-/// Test 7: the item's section can't stand behind the last item.
+/// Test 7: the item's section can't come behind the last item.
 fn is_late<G: Grammar>(grammar: &G, last: Option<G::Item>, item: G::Item) -> bool
     ensures { result ≡ is_late (G.rules grammar.now) last item }
 {
@@ -76,7 +77,7 @@ fn is_late<G: Grammar>(grammar: &G, last: Option<G::Item>, item: G::Item) -> boo
     }
 }
 
-/// Test 8: a section of a lower rank must be there and hasn't stood.
+/// Test 8: a section of a lower rank must be there and hasn't come.
 fn lacks<G: Grammar>(grammar: &G, stood: &Stood<G::Item>, rank: usize) -> bool
     requires counted { IsCounted (G.rules grammar.now) stood.now.items.items stood.now.counts.items }
     requires known { rank < length (G.rules grammar.now).sections }

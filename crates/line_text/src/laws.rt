@@ -5,20 +5,22 @@ ghost use Rattle.line_text.specs.Outcome.{IsOutcome};
 ghost use Rattle.line_text.specs.Accepted.{IsAccepted, AreInOrder};
 ghost use Rattle.line_text.specs.Spelling.{IsReadAgain, NameIsWord, NumberIsReadAgain};
 
-/// A text's fault is that of the first refused line, by the first test that refuses it from the lines
-/// before, or that `end` hasn't stood; it has a value exactly where no line is refused and `end` stood.
+/// A text's fault is that of the first refused line, by the first test that refuses it from the
+/// lines before, or that `end` hasn't come; it has a value exactly where no line is refused and
+/// there is an `end`.
 pub fn outcome_by_lines<Item>()
     ensures { (g : Rules Item) (text : List ℕ) → IsOutcome g text }
 {}
 
-/// How the items of an accepted text stand: each passed its tests behind those before it, ranks never
-/// fall, keys rise within a section, each needed section is there, and the last item alone is `end`.
+/// How the items of an accepted text follow each other: each passed its tests behind those before
+/// it, ranks never fall, keys rise within a section, each needed section is there, and the last item
+/// alone is `end`.
 pub fn accepted_in_order<Item>()
     ensures { (g : Rules Item) (items : List Item) → IsAccepted g items → AreInOrder g items }
 {}
 
-/// The canonical text of items that may stand so, where the words of each item say it, is read as these
-/// items.
+/// The canonical text of items that may follow each other so, where the words of each item say it,
+/// is read as these items.
 pub fn canonical_reads_again<Item>()
     ensures { (g : Rules Item) (words : Item → List (List ℕ)) (items : List Item) → IsReadAgain g words items }
 {}

@@ -19,7 +19,7 @@ const MOST_BYTES: usize = 200;
 
 /// The items of a text, or its first fault.
 ///
-/// `NoMemory` stands in place of either where memory was refused; its line is the one that was being
+/// `NoMemory` comes in place of either where memory was refused; its line is the one that was being
 /// read.
 pub fn read_items<G: Grammar>(
     alloc: Global,
@@ -55,7 +55,7 @@ pub fn read_items<G: Grammar>(
     Ok(items)
 }
 
-/// The eleven tests of a line. Its item, if it passes and has one, stands then too.
+/// The eleven tests of a line. Its item, if it passes and has one, is then behind the others.
 #[tactic(auto, unfolding(crate::specs::LineTests::line_fault))]
 fn read_line<'a, G: Grammar>(
     grammar: &G,

@@ -4,14 +4,14 @@ ghost use Rattle.line_text.specs.Rules.{IsCounted, has_stood, end_rank};
 use crate::grammar::Grammar;
 use std::alloc::{AllocError, AllocFailed, Global};
 
-/// What stood in the lines before: the items in order, and how many of each rank.
+/// What the lines before had: the items in order, and how many of each rank.
 #[derive(Drop)]
 pub struct Stood<Item> {
     pub items: Vec<Item>,
     pub counts: Vec<usize>,
 }
 
-/// What stands before the first line.
+/// What there is before the first line: nothing.
 pub fn nothing_stood<G: Grammar>(alloc: Global, grammar: &G) -> Result<Stood<G::Item>, AllocError>
     ensures items { IfOk result (λ stood. stood.items.items ≡ []) }
     ensures counted { IfOk result (λ stood. IsCounted (G.rules grammar.now) [] stood.counts.items) }
@@ -23,7 +23,7 @@ pub fn nothing_stood<G: Grammar>(alloc: Global, grammar: &G) -> Result<Stood<G::
     })
 }
 
-/// Whether `end` stood.
+/// Whether `end` has come.
 pub fn has_ended<G: Grammar>(grammar: &G, stood: &Stood<G::Item>) -> bool
     requires { IsCounted (G.rules grammar.now) stood.now.items.items stood.now.counts.items }
     ensures { let rules = G.rules grammar.now in
@@ -33,7 +33,7 @@ pub fn has_ended<G: Grammar>(grammar: &G, stood: &Stood<G::Item>) -> bool
     stood.counts[end] > 0
 }
 
-/// Puts an item behind those that stood, and counts it.
+/// Puts an item behind those before it, and counts it.
 pub fn push_item<G: Grammar>(
     grammar: &G,
     item: G::Item,

@@ -15,7 +15,7 @@ use Rattle.object_trait.specs.Orders.{Pairs}
 use Rattle.object_trait.specs.Meaning.{ops_of, is_open_of, open_of, run_log}
 use Rattle.object_trait.specs.Sound.{IsLocked, IsSoundIntentions}
 use Rattle.object_trait.specs.Steps.{IsOfAnotherOpen, IsIntentionsCommit, IsIntentionsStrike}
-use Rattle.object_trait.specs.Laws.{KeepsFirst}
+use Rattle.object_trait.specs.Laws.{KeepsFirst, CommuteFrom}
 use Rattle.object_trait.specs.declared.log_entry.LogEntry.{LogEntry}
 use Rattle.object_trait.proofs.Lists.{IsBetween, each-push, each-filter, each_two-map, each_two-at, each_between, pairs-weaker, pairs-push, pairs-filter}
 use Rattle.object_trait.proofs.Runs.{ops-append, front-legal, push-legal}
@@ -109,14 +109,18 @@ ops_between o covers t u differ log locked p q p_in q_in =
     let entries = each_between (λ x y. C x.op y.op) (is_open_of t) (is_open_of u) (apart t u differ) log pairs in
     each_two-at C (ops_of (open_of t log)) (ops_of (open_of u log)) (each_two-map C (λ (e : LogEntry). e.op) (open_of t log) (open_of u log) entries) p q p_in q_in
 
+-- the open operations of two transactions, in either order
+pub opens-commute : ListsForward → (o : Object) → Covers Intentions o.table o.set o.conflicts → (base : ℕ) (log : List LogEntry) (t u : ℕ) → eqb u t ≡ false → IsSoundIntentions o base log →
+    CommuteFrom o.table base (ops_of (open_of t log)) (ops_of (open_of u log))
+opens-commute forward o covers base log t u differ sound =
+    forward o.table o.set base (ops_of (open_of t log)) (ops_of (open_of u log)) covers.closed sound.inside (ops_between o covers t u differ log sound.locked) (sound.legal t) (sound.legal u)
+
 -- u's operations are legal from a state that is equieffective to that after t's
 behind-commit : RunsAlong → ListsForward → (o : Object) → Covers Intentions o.table o.set o.conflicts → (base : ℕ) (log : List LogEntry) (t u new_base : ℕ) → eqb u t ≡ false → IsSoundIntentions o base log →
     AreEqui o.table (Some new_base) (run_log o base (open_of t log)) → IsLegal o.table (Some new_base) (ops_of (open_of u log))
 behind-commit along forward o covers base log t u new_base differ sound reached =
-    let first = ops_of (open_of t log) in
-    let second = ops_of (open_of u log) in
-    let both = forward o.table o.set base first second covers.closed sound.inside (ops_between o covers t u differ log sound.locked) (sound.legal t) (sound.legal u) in
-    reached.1 second (rw (along o.table (Some base) first second) at both.0)
+    let both = opens-commute forward o covers base log t u differ sound in
+    reached.1 (ops_of (open_of u log)) (rw (along o.table (Some base) (ops_of (open_of t log)) (ops_of (open_of u log))) at both.0)
 
 -- deferred update stays sound by a commit
 pub intentions-committed : RunsAlong → ListsForward → (o : Object) → Covers Intentions o.table o.set o.conflicts → (base : ℕ) (log : List LogEntry) (t new_base : ℕ) (new_log : List LogEntry) →

@@ -1,8 +1,9 @@
-pub mod Examples
 pub mod Intentions
+pub mod Kept
 pub mod Lists
 pub mod Meanings
 pub mod Runs
 pub mod Sorting
 pub mod Striking
 pub mod Undo
+pub mod Untouched

@@ -1,5 +1,5 @@
 -- Meanings stay sound by each call, whatever their kind of recovery.
-use Rattle.std.proofs.Common.{◌≡◌, ℕ, false, List, [], ◌∷◌, ◌++◌, Some, refl, sym, subst}
+use Rattle.std.proofs.Common.{◌≡◌, ℕ, false, eqb, List, [], ◌∷◌, ◌++◌, Some, refl, sym, subst}
 use Rattle.std.specs.List.{AllByRecursion}
 use Rattle.type_table.specs.Run.{IsLegal}
 use Rattle.type_table.specs.Commute.{Covers}
@@ -10,13 +10,13 @@ use Rattle.table_checker.specs.Checked.{Checked}
 use Rattle.type_table.specs.Lists.{ListsForward}
 use Rattle.object_trait.specs.Object.{Object, object_of}
 use Rattle.object_trait.specs.Strike.{keep_first}
-use Rattle.object_trait.specs.Meaning.{object, ops_of, is_open_of, view_by}
+use Rattle.object_trait.specs.Meaning.{object, ops_of, is_open_of, open_of, view_by}
 use Rattle.object_trait.specs.Sound.{IsSoundBy}
 use Rattle.object_trait.specs.Steps.{IsOfAnotherOpen, IsCommitBy, IsStrikeBy}
-use Rattle.object_trait.specs.Laws.{PartsSort, KeepsFirst, StruckPart, SortsLook, StruckLogIsLegal, FreshIsSound, SoundAfterApply, SoundAfterCommit, SoundAfterStrike}
+use Rattle.object_trait.specs.Laws.{PartsSort, KeepsFirst, StruckPart, SortsLook, StruckLogIsLegal, CommuteFrom, OpensCommute, FreshIsSound, SoundAfterApply, SoundAfterCommit, SoundAfterStrike}
 use Rattle.object_trait.specs.declared.log_entry.LogEntry.{LogEntry}
-use Rattle.object_trait.proofs.Undo.{undo-applied, undo-committed, struck-legal, undo-struck}
-use Rattle.object_trait.proofs.Intentions.{intentions-applied, intentions-committed, intentions-struck}
+use Rattle.object_trait.proofs.Undo.{differ_turned, undo-applied, undo-committed, struck-legal, undo-struck}
+use Rattle.object_trait.proofs.Intentions.{intentions-applied, opens-commute, intentions-committed, intentions-struck}
 
 -- the struck log is legal: the kind is update in place
 struck_by : RunsAlong → PartsSort LogEntry → StruckPart LogEntry → SortsLook LogEntry → (kind : Kind) → kind ≡ Undo → (o : Object) → Covers kind o.table o.set o.conflicts →
@@ -27,6 +27,16 @@ struck_by along parts strike sorts Intentions e o covers base log t n sound = ab
 -- the law of struck logs
 pub struck_log-legal : RunsAlong → PartsSort LogEntry → StruckPart LogEntry → SortsLook LogEntry → StruckLogIsLegal
 struck_log-legal along parts strike sorts = λ m t n covers undo sound. struck_by along parts strike sorts m.checked.kind undo (object m) covers m.base m.log t _ sound
+
+-- two transactions' operations commute: the kind is deferred update
+opens_by : ListsForward → (kind : Kind) → kind ≡ Intentions → (o : Object) → Covers kind o.table o.set o.conflicts → (base : ℕ) (log : List LogEntry) (t u : ℕ) → eqb u t ≡ false →
+    IsSoundBy kind o base log → CommuteFrom o.table base (ops_of (open_of t log)) (ops_of (open_of u log))
+opens_by forward Undo e o covers base log t u differ sound = absurd (cc)
+opens_by forward Intentions e o covers base log t u differ sound = opens-commute forward o covers base log t u differ sound
+
+-- the law of two transactions
+pub opens-commuting : ListsForward → OpensCommute
+opens-commuting forward = λ m t u covers deferred sound differ. opens_by forward m.checked.kind deferred (object m) covers m.base m.log t u (differ_turned u t differ) sound
 
 -- a new object is sound
 fresh_by : (kind : Kind) (o : Object) (base : ℕ) (log : List LogEntry) → Covers kind o.table o.set o.conflicts → base ≡ o.table.initial → log ≡ [] → IsSoundBy kind o base log

@@ -1,15 +1,15 @@
 -- Statements of laws: exchanges of neighbours, and meanings that stay sound.
-use Rattle.std.specs.Prelude.{◌≡◌, ℕ, ◌-◌, Bool, true, false, not, List, ◌++◌, map, filter, take, drop, length, Some}
+use Rattle.std.specs.Prelude.{◌≡◌, ℕ, ◌-◌, Bool, true, false, not, ◌==◌, List, [], ◌++◌, map, filter, take, drop, length, Some}
 use Rattle.type_table.specs.Table.{Table}
 use Rattle.type_table.specs.Run.{run, IsLegal, Looks, AreEqui}
 use Rattle.type_table.specs.StateSet.{IsClosed}
 use Rattle.type_table.specs.Commute.{CommutesBackward, CommutesBackwardBothWays}
-use Rattle.type_table.specs.declared.kind.Kind.TheVariants.{Undo}
+use Rattle.type_table.specs.declared.kind.Kind.TheVariants.{Undo, Intentions}
 use Rattle.table_checker.specs.Checked.{Checked, IsChecked, IsStrong}
 use Rattle.object_trait.specs.Object.{IsCovered, IsCoveredStrongly, object_of}
 use Rattle.object_trait.specs.Orders.{Pairs, Sorts, Parts}
 use Rattle.object_trait.specs.Strike.{keep_first}
-use Rattle.object_trait.specs.Meaning.{Meaning, object, is_open_of, open_of}
+use Rattle.object_trait.specs.Meaning.{Meaning, object, ops_of, is_open_of, open_of}
 use Rattle.object_trait.specs.Sound.{IsSound}
 use Rattle.object_trait.specs.Steps.{IsFresh, MayApply, applied, IsCommit, Keeps}
 use Rattle.object_trait.specs.declared.log_entry.LogEntry.{LogEntry}
@@ -25,6 +25,20 @@ abbrev pub KeepsFirst : Type 0 → Type 0
 KeepsFirst E =
     (mine : E → Bool) (n : ℕ) (V : List E)
     → (filter mine (keep_first mine n V) ≡ take n (filter mine V)) × (filter (λ e. not (mine e)) (keep_first mine n V) ≡ filter (λ e. not (mine e)) V)
+
+-- where none of mine is kept, all others are left, in their order
+abbrev pub KeepsNone : Type 0 → Type 0
+KeepsNone E = (mine : E → Bool) (V : List E) → keep_first mine 0 V ≡ filter (λ e. not (mine e)) V
+
+-- of a list put together: the first n of mine of its front, and of its rest as many as the front left
+abbrev pub KeepsParts : Type 0 → Type 0
+KeepsParts E = (mine : E → Bool) (n : ℕ) (V W : List E) → keep_first mine n (V ++ W) ≡ keep_first mine n V ++ keep_first mine (n - length (filter mine V)) W
+
+-- those of another, of which none is mine, are all kept, in their order
+abbrev pub KeepsOthers : Type 0 → Type 0
+KeepsOthers E =
+    (mine other : E → Bool) (n : ℕ) (V : List E) → ((e : E) → other e ≡ true → mine e ≡ false)
+    → filter other (keep_first mine n V) ≡ filter other V
 
 -- where each of mine may move behind each later one that isn't mine, those that `keep_first` strikes can be moved to the end
 abbrev pub StruckPart : Type 0 → Type 0
@@ -63,6 +77,16 @@ StruckLogIsLegal =
     (m : Meaning) (t n : ℕ) → IsCovered (object m) → m.checked.kind ≡ Undo → IsSound m
     → IsLegal (object m).table (Some m.base) (map (λ (e : LogEntry). e.op) (keep_first (is_open_of t) (length (open_of t m.log) - n) m.log))
 
+-- from s two lists are legal in either order, and end equieffective
+abbrev pub CommuteFrom : Table → ℕ → List ℕ → List ℕ → Type 0
+CommuteFrom T s v w = IsLegal T (Some s) (v ++ w) × IsLegal T (Some s) (w ++ v) × AreEqui T (run T (Some s) (v ++ w)) (run T (Some s) (w ++ v))
+
+-- deferred update: so are the open operations of two transactions, from base
+abbrev pub OpensCommute : Type 0
+OpensCommute =
+    (m : Meaning) (t u : ℕ) → IsCovered (object m) → m.checked.kind ≡ Intentions → IsSound m → (t == u) ≡ false
+    → CommuteFrom (object m).table m.base (ops_of (open_of t m.log)) (ops_of (open_of u m.log))
+
 -- a new object's meaning is sound
 abbrev pub FreshIsSound : Type 0
 FreshIsSound = (m : Meaning) → IsCovered (object m) → IsFresh m → IsSound m
@@ -78,3 +102,7 @@ SoundAfterCommit = (old new : Meaning) (t : ℕ) → IsCovered (object old) → 
 -- and by a strike or an abort, of which only the first n open entries of t are left
 abbrev pub SoundAfterStrike : Type 0
 SoundAfterStrike = (old new : Meaning) (t n : ℕ) → IsCovered (object old) → IsSound old → Keeps old t n new → IsSound new
+
+-- a commit, a strike and an abort of a transaction without open entries may leave a meaning as it is
+abbrev pub UntouchedStays : Type 0
+UntouchedStays = (m : Meaning) (t : ℕ) → IsSound m → open_of t m.log ≡ [] → IsCommit m t m × ((n : ℕ) → Keeps m t n m)

@@ -13,7 +13,7 @@ use Rattle.object_trait.specs.declared.log_entry.LogEntry.{LogEntry}
 abbrev pub IsLocked : Object → LogEntry → LogEntry → Type 0
 IsLocked o held later = held.done ≡ false → (later.by == held.by) ≡ false → o.conflicts later.op held.op ≡ false
 
--- no done entry stands after an open one of the same transaction
+-- no done entry comes after an open one of the same transaction
 abbrev pub IsInOrder : LogEntry → LogEntry → Type 0
 IsInOrder entry later = entry.done ≡ false → (later.by == entry.by) ≡ true → later.done ≡ false
 

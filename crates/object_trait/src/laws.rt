@@ -1,14 +1,14 @@
 //! Laws of exchanges of neighbours and of meanings: each is a function that does nothing, whose
 //! contract is the law. It calls the laws on which it depends.
 
-ghost use Rattle.object_trait.specs.Laws.{PartsSort, KeepsFirst, StruckPart, SortsLook, SortsEqui, CheckedIsCovered, StruckLogIsLegal, FreshIsSound, SoundAfterApply, SoundAfterCommit, SoundAfterStrike};
+ghost use Rattle.object_trait.specs.Laws.{PartsSort, KeepsFirst, KeepsNone, KeepsParts, KeepsOthers, StruckPart, SortsLook, SortsEqui, CheckedIsCovered, StruckLogIsLegal, OpensCommute, FreshIsSound, SoundAfterApply, SoundAfterCommit, SoundAfterStrike, UntouchedStays};
 
 use crate::log_entry::LogEntry;
 use table_checker::{strong_yes_covers, yes_covers};
 use type_table::{equi_extends, lists_forward, looks_extends, runs_along};
 
 /// In a list of two parts, of which the elements of one may each move behind those of the other that
-/// stand behind it, the first part can be moved to the end, neighbour by neighbour.
+/// come behind it, the first part can be moved to the end, neighbour by neighbour.
 pub fn parts_sort<E>()
     ensures { PartsSort E }
 {}
@@ -16,6 +16,21 @@ pub fn parts_sort<E>()
 /// What is left after a strike: the first n of mine, and all others, in their order.
 pub fn keeps_first<E>()
     ensures { KeepsFirst E }
+{}
+
+/// Where a strike leaves none of mine, all others are left, in their order.
+pub fn keeps_none<E>()
+    ensures { KeepsNone E }
+{}
+
+/// A strike of a list put together: of its rest stay as many of mine as its front left of the first n.
+pub fn keeps_parts<E>()
+    ensures { KeepsParts E }
+{}
+
+/// A strike leaves all of another's, of which none is mine, in their order.
+pub fn keeps_others<E>()
+    ensures { KeepsOthers E }
 {}
 
 /// Where each of mine may move behind each later one that isn't mine, those that a strike takes out
@@ -58,6 +73,14 @@ pub fn struck_log_is_legal()
     runs_along();
 }
 
+/// Deferred update: the open operations of two transactions, run in either order from base, are legal
+/// and end equieffective.
+pub fn opens_commute()
+    ensures { OpensCommute }
+{
+    lists_forward();
+}
+
 /// A new object's meaning is sound.
 pub fn fresh_is_sound()
     ensures { FreshIsSound }
@@ -88,3 +111,8 @@ pub fn sound_after_strike()
     sorts_look::<LogEntry>();
     runs_along();
 }
+
+/// A commit, a strike and an abort of a transaction without open entries may leave a meaning as it is.
+pub fn untouched_stays()
+    ensures { UntouchedStays }
+{}

@@ -16,7 +16,8 @@ use Rattle.serial_order.specs.View.{view, is_legal_after, conflicts_with}
 use Rattle.serial_order.specs.Stand.{plain, StandsBy}
 use Rattle.serial_order.specs.Laws.{AllowsAlike, MachineMayApply}
 use Rattle.serial_order.specs.declared.entry.Entry.{Entry}
-use Rattle.serial_order.proofs.Runs.{AreInRun, transactions_in_run, pending_is_open, open_is_uncommitted}
+use Rattle.serial_order.specs.After.{AreInRun}
+use Rattle.serial_order.proofs.Runs.{transactions_in_run, pending_is_open, open_is_uncommitted}
 use Rattle.serial_order.proofs.Pairs.{each-weaker, each-both, each-rest, each-from_map, each-passes, each-filter}
 use Rattle.serial_order.proofs.StandUndo.{undo_stands-run}
 use Rattle.serial_order.proofs.StandDeferred.{deferred_stands-run}

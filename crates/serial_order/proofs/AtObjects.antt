@@ -20,7 +20,8 @@ use Rattle.serial_order.proofs.Facts.{IsFree}
 use Rattle.serial_order.proofs.Pairs.{each-both, each-filter}
 use Rattle.serial_order.proofs.Lists.{eqb-sym}
 use Rattle.serial_order.proofs.Events.{seen_after, seen-snoc}
-use Rattle.serial_order.proofs.Runs.{in_run, AreInRun, transactions_in_run, pending_is_open, open_is_uncommitted}
+use Rattle.serial_order.specs.After.{AreInRun}
+use Rattle.serial_order.proofs.Runs.{in_run, transactions_in_run, pending_is_open, open_is_uncommitted}
 
 -- an open transaction's operation that doesn't conflict with k is free of it
 apart_held : (o : Object) (s : Seen) (t k : ℕ) (held : Entry) → is_open s held.by ≡ true → (t == held.by) ≡ false → conflicts_with o s t k held ≡ false → o.conflicts k held.op ≡ false

@@ -31,7 +31,7 @@ busy_with_operation (Some o) s x t c u may = may.least.0
 -- ---- runs
 
 -- what the machine allows may stand in a history
-may_stand : (objects : List Object) (s : Seen) (happened : EventKind) → May objects s happened → MayStand (map (λ (o : Object). o.table) objects) s happened
+pub may_stand : (objects : List Object) (s : Seen) (happened : EventKind) → May objects s happened → MayStand (map (λ (o : Object). o.table) objects) s happened
 may_stand objects s (Begin t) may = may
 may_stand objects s (Op t x k) may = (may.0, rw (slice_get-map (λ (o : Object). o.table) objects x) (does_operation (slice_get objects x) s x t k may.1))
 may_stand objects s (Busy t x c u) may = (may.0, rw (slice_get-map (λ (o : Object). o.table) objects x) (busy_with_operation (slice_get objects x) s x t c u may.1))

@@ -26,3 +26,7 @@ pub mod Answers
 pub mod Replays
 pub mod Counter
 pub mod Examples
+pub mod After
+pub mod Opens
+pub mod StandCounts
+pub mod Held

@@ -38,7 +38,7 @@ is_among-apart C t u outside inside =
 -- ---- filters
 
 -- a filter of what another filter keeps keeps what passes both
-both_filters : {E : Type 0} (first second : E → Bool) (V : List E) → filter (λ e. first e && second e) V ≡ filter second (filter first V)
+pub both_filters : {E : Type 0} (first second : E → Bool) (V : List E) → filter (λ e. first e && second e) V ≡ filter second (filter first V)
 both_filters first second [] = refl
 both_filters first second (e ∷ V) =
     elim (cases_Bool (first e)) [
@@ -47,7 +47,7 @@ both_filters first second (e ∷ V) =
     ]
 
 -- a part that has all of mine has the same of mine
-mine-within : {E : Type 0} (test mine : E → Bool) (V : List E) → ((e : E) → mine e ≡ true → test e ≡ true) → filter mine (filter test V) ≡ filter mine V
+pub mine-within : {E : Type 0} (test mine : E → Bool) (V : List E) → ((e : E) → mine e ≡ true → test e ≡ true) → filter mine (filter test V) ≡ filter mine V
 mine-within test mine [] within = refl
 mine-within test mine (e ∷ V) within =
     elim (cases_Bool (mine e)) [
@@ -59,11 +59,11 @@ mine-within test mine (e ∷ V) within =
     ]
 
 -- a filter goes on with one more that passes
-filter-more : {E : Type 0} (test : E → Bool) (V : List E) (e : E) → test e ≡ true → filter test (V ++ e ∷ []) ≡ filter test V ++ e ∷ []
+pub filter-more : {E : Type 0} (test : E → Bool) (V : List E) (e : E) → test e ≡ true → filter test (V ++ e ∷ []) ≡ filter test V ++ e ∷ []
 filter-more test V e passes = filter-append test V (e ∷ []) ∙ ap (λ b. filter test V ++ cond b (e ∷ []) []) passes
 
 -- and stays the same after one that doesn't
-filter-apart : {E : Type 0} (test : E → Bool) (V : List E) (e : E) → test e ≡ false → filter test (V ++ e ∷ []) ≡ filter test V
+pub filter-apart : {E : Type 0} (test : E → Bool) (V : List E) (e : E) → test e ≡ false → filter test (V ++ e ∷ []) ≡ filter test V
 filter-apart test V e fails = filter-append test V (e ∷ []) ∙ ap (λ b. filter test V ++ cond b (e ∷ []) []) fails ∙ append-nil (filter test V)
 
 -- none is left where none passes

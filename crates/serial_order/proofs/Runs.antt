@@ -10,6 +10,7 @@ use Rattle.object_trait.specs.declared.event.EventKind.TheVariants.{Begin, Op, B
 use Rattle.serial_order.specs.Operations.{is_among, is_by}
 use Rattle.serial_order.specs.History.{seen, Seen, is_open}
 use Rattle.serial_order.specs.Machine.{May, MayFollow, RunsOn, IsRun}
+use Rattle.serial_order.specs.After.{AreInRun}
 use Rattle.serial_order.proofs.Strikes.{keep_first-none}
 use Rattle.serial_order.proofs.Pairs.{each-weaker, each-append, each-passes, each-keep_first}
 use Rattle.serial_order.proofs.Events.{seen_after, seen-snoc}
@@ -63,16 +64,6 @@ pub open_is_uncommitted : (s : Seen) (t : ℕ) → is_open s t ≡ true → is_a
 open_is_uncommitted s t open_now = (of_open s t open_now).uncommitted
 
 -- ---- transactions in a run
-
--- what is known of transactions in a run
-pub record AreInRun (s : Seen) : Type 0 where
-  -- a transaction that ended began
-  pub committed_began : (t : ℕ) → is_among s.committed t ≡ true → t < s.begun
-  pub aborted_began : (t : ℕ) → is_among s.aborted t ≡ true → t < s.begun
-  -- none both committed and aborted
-  pub apart : (t : ℕ) → is_among s.committed t ≡ true → is_among s.aborted t ≡ false
-  -- what stands is of transactions that began and didn't abort
-  pub stand : AllByRecursion (λ e. (e.by < s.begun) × (is_among s.aborted e.by ≡ false)) s.stands
 
 -- a begin keeps it
 after_begin : (s : Seen) (t : ℕ) → AreInRun s → AreInRun (seen_after s (Begin t))

@@ -23,7 +23,7 @@ module _ (o : Object) (base : ℕ) (log : List LogEntry) (x : ℕ) (C : List ℕ
   deferred_open t = open-plain x t log (each-weaker (λ e undone mine. undone) log stands.flags)
 
   -- the operations of a transaction that didn't commit are its open entries
-  deferred_of : (t : ℕ) → is_among C t ≡ false → of t V ≡ map (plain x) (open_of t log)
+  pub deferred_of : (t : ℕ) → is_among C t ≡ false → of t V ≡ map (plain x) (open_of t log)
   deferred_of t apart =
       sym (of-pending C t V apart)
       ∙ ap (of t) (sym stands.whole)

@@ -102,12 +102,14 @@ module _ (o : Object) (base : ℕ) (log : List LogEntry) (x : ℕ) (C : List ℕ
     flags = each-keep_first (λ e. e.done ≡ is_among C e.by) (is_open_of t) n log stands.flags;
   }
 
+  -- they are its open entries, in order
+  pub undo_of : (t : ℕ) → is_among C t ≡ false → of t V ≡ map (plain x) (open_of t log)
+  undo_of t apart =
+      ap (of t) (sym stands.whole)
+      ∙ filter-append (is_by t) stands.past (map (plain x) log)
+      ∙ ap (λ front. front ++ of t (map (plain x) log)) (filter-none (is_by t) stands.past (undo_others t apart))
+      ∙ filter-plain (is_by t) (is_open_of t) x log (undo_open t apart)
+
   -- so many open entries as there are operations of a transaction that didn't commit
   pub undo_stands-count : (t : ℕ) → is_among C t ≡ false → length (of t V) ≡ length (open_of t log)
-  undo_stands-count t apart =
-      ap (λ W. length (of t W)) (sym stands.whole)
-      ∙ ap length
-      (filter-append (is_by t) stands.past (map (plain x) log)
-      ∙ ap (λ front. front ++ of t (map (plain x) log)) (filter-none (is_by t) stands.past (undo_others t apart))
-      ∙ filter-plain (is_by t) (is_open_of t) x log (undo_open t apart))
-      ∙ length-map (open_of t log) (plain x)
+  undo_stands-count t apart = ap length (undo_of t apart) ∙ length-map (open_of t log) (plain x)

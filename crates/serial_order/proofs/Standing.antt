@@ -71,7 +71,7 @@ stands-count Intentions o base log x C V t apart stands = deferred_stands-count 
 -- ---- what an event changes at one object
 
 -- of a transaction's operations at x, those that aren't among its last stay
-stay-count : (x t n : ℕ) (V : List Entry) → length (of t (at_object x V)) - length (at_object x (drop n (of t V))) ≡ length (at_object x (take n (of t V)))
+pub stay-count : (x t n : ℕ) (V : List Entry) → length (of t (at_object x V)) - length (at_object x (drop n (of t V))) ≡ length (at_object x (take n (of t V)))
 stay-count x t n V =
     let all : length (of t (at_object x V)) ≡ length (at_object x (take n (of t V))) + length (at_object x (drop n (of t V))) =
     ap length (filter-turned (is_by t) (λ e. e.at == x) V ∙ ap (at_object x) (sym (take-append-drop n (of t V))) ∙ filter-append (λ e. e.at == x) (take n (of t V)) (drop n (of t V)))

@@ -36,7 +36,7 @@ commits H = flat_map (λ e. committed_by e.kind) H
 abbrev pub aborts : List Event → List ℕ
 aborts H = flat_map (λ e. aborted_by e.kind) H
 
--- the operations that stand after one more event: an abort strikes all of its transaction, a rollback the last n of its
+-- the operations that live after one more event: an abort strikes all of its transaction, a rollback the last n of its
 -- transaction, over all objects together
 abbrev pub stand_after : List Entry → EventKind → List Entry
 stand_after V (Op t x k) = V ++ (record { by = t; at = x; op = k }) ∷ []
@@ -80,7 +80,7 @@ MayStand tables s (Commit t) = is_open s t ≡ true
 MayStand tables s (Abort t) = is_open s t ≡ true
 MayStand tables s (Rollback t n) = (is_open s t ≡ true) × (0 < n) × (n ≤ length (of t s.stands))
 
--- each event may stand where it does, after those before it
+-- each event may come where it does, after those before it
 abbrev pub GoesOn : List Table → List Event → List Event → Type 0
 GoesOn tables before [] = Unit {0}
 GoesOn tables before (e ∷ es) = MayStand tables (seen before) e.kind × GoesOn tables (before ++ e ∷ []) es

@@ -1,4 +1,4 @@
--- Statements of laws: of histories, of the machine, and of objects that stand for a history.
+-- Statements of laws: of histories, of the machine, and of objects that represent a history.
 use Rattle.std.specs.Prelude.{◌≡◌, ◌↔◌, ℕ, ◌+◌, ◌<◌, List, [], ◌∷◌, ◌++◌, length, map, Bool, true, false, not, ◌&&◌, ◌==◌, Some, None, slice_get}
 use Rattle.type_table.specs.Run.{IsLegal}
 use Rattle.type_table.specs.declared.kind.Kind.TheVariants.{Undo}
@@ -34,7 +34,7 @@ RunIsHistory = (objects : List Object) (H : List Event) → IsRun objects H → 
 abbrev pub RunGoesOn : Type 0
 RunGoesOn = (objects : List Object) (H : List Event) (e : Event) → IsRun objects H → MayFollow objects H e → IsRun objects (H ++ e ∷ [])
 
--- what stands is each operation that stays by the events behind it
+-- what lives is each operation that stays by the events behind it
 abbrev pub StandsAsRead : Type 0
 StandsAsRead = (H : List Event) → standing H ≡ staying H
 
@@ -81,11 +81,11 @@ ReplaysJoin =
 
 -- ---- update in place
 
--- a, which stands before b, may move behind it
+-- a, which comes before b, may move behind it
 abbrev pub may_pass : Object → Entry → Entry → Bool
 may_pass o a b = not (b.by == a.by) && not (o.conflicts b.op a.op)
 
--- commit order: what stands sorts, neighbour by neighbour, into commit order with the open transactions last
+-- commit order: what lives sorts, neighbour by neighbour, into commit order with the open transactions last
 abbrev pub SortsIntoCommitOrder : Type 0
 SortsIntoCommitOrder =
     (objects : List Object) (H : List Event) (x : ℕ) (o : Object) → AreCovered objects → IsRun objects H
@@ -113,13 +113,13 @@ CommitKeepsViews =
     → slice_get objects x ≡ Some o → is_open (seen H) t ≡ true → is_open (seen H) u ≡ true → (u == t) ≡ false
     → IsLegal o.table (Some o.table.initial) (ops (view o.kind (seen (H ++ (record { worker = w; kind = Commit t }) ∷ [])) x u))
 
--- ---- objects that stand for a history
+-- ---- objects that represent a history
 
--- a new object stands for the empty history
+-- a new object represents the empty history
 abbrev pub FreshStands : Type 0
 FreshStands = (m : Meaning) (x : ℕ) → IsFresh m → StandsFor m x []
 
--- an object goes on standing for the history by each kind of event, where the event does to it what it should
+-- an object goes on representing the history by each kind of event, where the event does to it what it should
 abbrev pub StandsOn : Type 0
 StandsOn =
     (objects : List Object) (H : List Event) (e : Event) (x : ℕ) (old new : Meaning)
@@ -147,7 +147,7 @@ pub record IsSerialAndKept (objects : List Object) (H : List Event) : Type 0 whe
   pub kept : (x : ℕ) (m : Meaning) → slice_get objects x ≡ Some (object m) → StandsFor m x H → KeptAgrees m x H
 
 -- for every list of objects covered for their kinds and every run of the machine, the committed transactions, run one after
--- another in commit order, give the same replies at every object, with one commit order for all; and where an object stands for
+-- another in commit order, give the same replies at every object, with one commit order for all; and where an object represents
 -- the history, its kept state agrees
 abbrev pub Headline : Type 0
 Headline = (objects : List Object) (H : List Event) → AreCovered objects → IsRun objects H → IsSerialAndKept objects H

@@ -7,5 +7,7 @@ pub mod Stand
 pub mod Readings
 pub mod Answer
 pub mod Replay
+pub mod After
+pub mod Held
 pub mod Laws
 pub mod Examples

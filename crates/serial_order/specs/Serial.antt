@@ -7,7 +7,7 @@ use Rattle.serial_order.specs.Operations.{ops, at_object, serial, pending}
 use Rattle.serial_order.specs.History.{commits, standing}
 use Rattle.serial_order.specs.declared.entry.Entry.{Entry}
 
--- what stands at x
+-- what lives at x
 abbrev pub standing_at : ℕ → List Event → List Entry
 standing_at x H = at_object x (standing H)
 

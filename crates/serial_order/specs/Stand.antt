@@ -1,4 +1,4 @@
--- What an object stands for: when its state and its log are what a history says of it, and what its kept state then owes the
+-- What an object represents: when its base and its log are what a history says of it, and what its kept state then owes the
 -- serial state.
 use Rattle.std.specs.Prelude.{◌≡◌, ℕ, ◌-◌, List, ◌++◌, map, drop, length, true, false, cond, ◌==◌, Option, Some}
 use Rattle.std.specs.List.{AllByRecursion}
@@ -17,11 +17,11 @@ use Rattle.serial_order.specs.History.{Seen, seen, is_open, commits}
 use Rattle.serial_order.specs.Serial.{standing_at, serial_state}
 use Rattle.serial_order.specs.declared.entry.Entry.{Entry}
 
--- an entry of the log at x, as an operation that stands
+-- an entry of the log at x, as an operation that lives
 abbrev pub plain : ℕ → LogEntry → Entry
 plain x e = record { by = e.by; at = x; op = e.op }
 
--- update in place: base is the state after some operations of committed transactions, and the log is what stands behind them,
+-- update in place: base is the state after some operations of committed transactions, and the log is what lives behind them,
 -- with the entries of committed transactions done
 pub record StandsUndo (o : Object) (base : ℕ) (log : List LogEntry) (x : ℕ) (committed : List ℕ) (V : List Entry) : Type 0 where
   pub past : List Entry
@@ -30,7 +30,7 @@ pub record StandsUndo (o : Object) (base : ℕ) (log : List LogEntry) (x : ℕ) 
   pub ended : AllByRecursion (λ e. is_among committed e.by ≡ true) past
   pub flags : AllByRecursion (λ e. e.done ≡ is_among committed e.by) log
 
--- deferred update: base is equieffective to the serial state, and the log is what stands of open transactions
+-- deferred update: base is equieffective to the serial state, and the log is what lives of open transactions
 pub record StandsIntentions (o : Object) (base : ℕ) (log : List LogEntry) (x : ℕ) (committed : List ℕ) (V : List Entry) : Type 0 where
   pub reached : AreEqui o.table (Some base) (run o.table (Some o.table.initial) (ops (serial committed V)))
   pub whole : map (plain x) log ≡ pending committed V
@@ -40,7 +40,7 @@ abbrev pub StandsBy : Kind → Object → ℕ → List LogEntry → ℕ → List
 StandsBy Undo = StandsUndo
 StandsBy Intentions = StandsIntentions
 
--- an object of this meaning stands for the history at x
+-- an object of this meaning represents the history at x
 abbrev pub StandsFor : Meaning → ℕ → List Event → Type 0
 StandsFor m x H = StandsBy m.checked.kind (object m) m.base m.log x (commits H) (standing_at x H)
 

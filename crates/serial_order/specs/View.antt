@@ -9,7 +9,7 @@ use Rattle.serial_order.specs.Operations.{ops, at_object, of, serial}
 use Rattle.serial_order.specs.History.{Seen, is_open}
 use Rattle.serial_order.specs.declared.entry.Entry.{Entry}
 
--- the operations that t sees at x. Update in place: all that stand, in the order in which they were executed. Deferred update:
+-- the operations that t sees at x. Update in place: all that live, in the order in which they were executed. Deferred update:
 -- those of the committed transactions, in commit order, and then its own
 abbrev pub view : Kind → Seen → ℕ → ℕ → List Entry
 view Undo s x t = at_object x s.stands

@@ -7,7 +7,7 @@ pub enum Command {
     Begin,
     /// A call of transaction t at object x.
     Call { t: u32, x: u32, call: Name },
-    /// The end of transaction t, whose operations stand.
+    /// The end of transaction t, whose operations are kept.
     Commit { t: u32 },
     /// The end of transaction t, whose operations are struck.
     Abort { t: u32 },

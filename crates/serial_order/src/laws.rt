@@ -2,6 +2,8 @@
 //! each is a function that does nothing, whose contract is the law. It calls the laws on which it
 //! depends.
 
+ghost use Rattle.serial_order.specs.After.{SeenAfter, TransactionsInRun, OpensAfter, BeginnersAfter, OperationsInRun, LogsAreCounted, IdleIsClosed};
+ghost use Rattle.serial_order.specs.Held.{HeldAfter, BlockerIsHeld, OwnAfter};
 ghost use Rattle.serial_order.specs.Laws.{RunIsHistory, RunGoesOn, StandsAsRead, AnswerMayFollow, ReplayRuns, CommandAppends, RefusedAppendsNothing, ReplaysJoin, SortsIntoCommitOrder, StruckViewIsLegal, ViewsAreLegal, CommitKeepsViews, FreshStands, StandsOn, AllowsAlike, MachineMayApply, Headline, CheckedHeadline};
 
 use crate::entry::Entry;
@@ -20,7 +22,69 @@ pub fn run_goes_on()
     ensures { RunGoesOn }
 {}
 
-/// What stands is each operation behind which its transaction doesn't abort and, up to no event, took
+/// What a history says after one more event is told by what it said before.
+#[tactic(auto, using(crate::proofs::After::seen_after_one))]
+pub fn seen_after()
+    ensures { SeenAfter }
+{}
+
+/// What is known of the transactions of each run: they began before they ended, none both committed
+/// and aborted, and the operations that live are of those that didn't abort.
+#[tactic(auto, using(crate::proofs::After::are_in_run))]
+pub fn transactions_in_run()
+    ensures { TransactionsInRun }
+{}
+
+/// Who is open after an event that may come next, and how many are.
+#[tactic(auto, using(crate::proofs::Opens::opens_after))]
+pub fn opens_after()
+    ensures { OpensAfter }
+{}
+
+/// Who began each transaction of a history, after one more event.
+pub fn beginners_after()
+    ensures { BeginnersAfter }
+{}
+
+/// What open transactions hold at an object after an event that may come next.
+#[tactic(auto, using(crate::proofs::Held::held_after_one))]
+pub fn held_after()
+    ensures { HeldAfter }
+{}
+
+/// What keeps a transaction from an operation is the earliest operation held by another that
+/// conflicts with it.
+#[tactic(auto, using(crate::proofs::Held::blocker_is_held))]
+pub fn blocker_is_held()
+    ensures { BlockerIsHeld }
+{}
+
+/// The operations of one transaction that live, after one more event.
+#[tactic(auto, using(crate::proofs::Held::own_after_one))]
+pub fn own_after()
+    ensures { OwnAfter }
+{}
+
+/// Each operation that lives in a run is one of its object's table.
+#[tactic(auto, using(crate::proofs::Opens::operations_in_run))]
+pub fn operations_in_run()
+    ensures { OperationsInRun }
+{}
+
+/// Of an object that represents a history: its log is no longer than the history, and the open
+/// entries of an open transaction are its operations that live there.
+#[tactic(auto, using(crate::proofs::StandCounts::logs_are_counted))]
+pub fn logs_are_counted()
+    ensures { LogsAreCounted }
+{}
+
+/// Where no open transaction has an operation at an object that represents a run, none is open there.
+#[tactic(auto, using(crate::proofs::StandCounts::idle_is_closed))]
+pub fn idle_is_closed()
+    ensures { IdleIsClosed }
+{}
+
+/// What lives is each operation behind which its transaction doesn't abort and, up to no event, took
 /// back more than it executed since: told by counts of events, and not by striking from a list.
 #[tactic(auto, using(crate::proofs::Readings::stands_as_read))]
 pub fn stands_as_read()
@@ -56,7 +120,7 @@ pub fn replays_join()
     ensures { ReplaysJoin }
 {}
 
-/// Commit order: at an object of update in place what stands sorts, neighbour by neighbour, into
+/// Commit order: at an object of update in place what lives sorts, neighbour by neighbour, into
 /// commit order with the open transactions last.
 #[tactic(auto, using(crate::proofs::CommitOrder::sorts_into_commit_order))]
 pub fn sorts_into_commit_order()
@@ -100,13 +164,13 @@ pub fn commit_keeps_views()
     views_are_legal();
 }
 
-/// A new object stands for the empty history.
+/// A new object represents the empty history.
 #[tactic(auto, using(crate::proofs::Standing::fresh_stands))]
 pub fn fresh_stands()
     ensures { FreshStands }
 {}
 
-/// An object goes on standing for the history by each of the seven kinds of events.
+/// An object goes on representing the history by each of the seven kinds of events.
 #[tactic(auto, using(crate::proofs::Standing::stands_on))]
 pub fn stands_on()
     ensures { StandsOn }
@@ -114,7 +178,7 @@ pub fn stands_on()
     runs_along();
 }
 
-/// What an object that stands for a history allows is what the view allows.
+/// What an object that represents a history allows is what the view allows.
 #[tactic(auto, using(crate::proofs::Allows::allows_alike))]
 pub fn allows_alike()
     ensures { AllowsAlike }
@@ -122,7 +186,7 @@ pub fn allows_alike()
     runs_along();
 }
 
-/// An operation that the machine allows may be executed at an object that stands for the history.
+/// An operation that the machine allows may be executed at an object that represents the history.
 pub fn machine_may_apply()
     ensures { MachineMayApply }
 {

@@ -1,5 +1,5 @@
-//! Histories of transactions, the machine that makes them, commit order and serial order, and what an
-//! object stands for: the laws up to the headline.
+//! Histories of transactions, the machine that makes them, commit order and serial order, and when
+//! an object represents a history: the laws up to the headline.
 #![tactic(auto)]
 
 mod command;
@@ -10,10 +10,11 @@ mod refusal;
 pub use command::Command;
 pub use entry::Entry;
 pub use laws::{
-    allows_alike, answer_may_follow, checked_headline, command_appends, commit_keeps_views,
-    fresh_stands, headline, machine_may_apply, replay_runs, replays_join, run_goes_on,
-    run_is_history, sorts_into_commit_order, stands_as_read, stands_on, struck_view_is_legal,
-    views_are_legal,
+    allows_alike, answer_may_follow, beginners_after, blocker_is_held, checked_headline,
+    command_appends, commit_keeps_views, fresh_stands, headline, held_after, idle_is_closed,
+    logs_are_counted, machine_may_apply, opens_after, operations_in_run, own_after, replay_runs,
+    replays_join, run_goes_on, run_is_history, seen_after, sorts_into_commit_order, stands_as_read,
+    stands_on, struck_view_is_legal, transactions_in_run, views_are_legal,
 };
 pub use refusal::Refusal;
 

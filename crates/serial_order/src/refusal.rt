@@ -6,7 +6,7 @@ pub enum Refusal {
     /// The transaction isn't open.
     #[error("NotOpen")]
     NotOpen,
-    /// No object stands at this place.
+    /// There is no object at this place.
     #[error("NoObject")]
     NoObject,
     /// No operation of the object's type has this call name.

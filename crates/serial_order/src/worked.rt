@@ -15,6 +15,8 @@ ghost use Rattle.serial_order.specs.Stand.{struck_at, StandsFor, KeptAgrees};
 ghost use Rattle.serial_order.specs.Readings.{staying};
 ghost use Rattle.serial_order.specs.Answer.{event_of_call};
 ghost use Rattle.serial_order.specs.Replay.{open_count, refusal, replay};
+ghost use Rattle.serial_order.specs.After.{after, is_open_after, CountsTo, beginners};
+ghost use Rattle.serial_order.specs.Held.{held_at, held_after, own_after};
 ghost use Rattle.serial_order.specs.Laws.{IsSerialAndKept};
 ghost use Rattle.serial_order.specs.Examples.{events, entry, seen_first, undo_one_way, undo_counter, deferred_counter, undo_semiqueue, undo_account, one_way_history, semiqueue_history, deferred_history, lock_history, two_objects_history, unlocked_history, refused_history, reader_history, half_history, half_deferred_history, up_and_back};
 
@@ -74,6 +76,26 @@ pub fn a_rollback_gives_up_the_lock()
     ensures state { serial_state undo_counter 0 lock_history ≡ Some 0 }
 {}
 
+/// What one event changes: a commit ends its transaction, a rollback leaves it open, and both were
+/// begun by worker 0.
+pub fn an_event_changes_what_it_says()
+    ensures rolled_back { after (seen_first 4 lock_history) (EventKind.Rollback 0 1) ≡ seen_first 5 lock_history }
+    ensures committed { after (seen_first 6 lock_history) (EventKind.Commit 1) ≡ seen_first 7 lock_history }
+    ensures ended { is_open_after (seen_first 6 lock_history) (EventKind.Commit 1) 1 ≡ false }
+    ensures other { is_open_after (seen_first 6 lock_history) (EventKind.Commit 1) 0 ≡ true }
+    ensures counted { CountsTo (EventKind.Commit 1) (open_count (seen_first 6 lock_history)) (open_count (seen_first 7 lock_history)) }
+    ensures workers { beginners lock_history ≡ 0 ∷ 0 ∷ [] }
+{}
+
+/// After the rollback of one operation another transaction's is still held; after a commit its
+/// transaction holds nothing.
+pub fn a_rollback_leaves_what_others_hold()
+    ensures before { held_at 0 (seen_first 4 lock_history) ≡ entry 0 0 0 ∷ entry 1 0 0 ∷ [] }
+    ensures rolled_back { held_after 0 (seen_first 4 lock_history) (EventKind.Rollback 0 1) ≡ entry 1 0 0 ∷ [] }
+    ensures committed { held_after 0 (seen_first 6 lock_history) (EventKind.Commit 1) ≡ [] }
+    ensures own { own_after 0 (seen_first 4 two_objects_history) (EventKind.Rollback 0 2) ≡ entry 0 0 0 ∷ [] }
+{}
+
 /// A rollback of two operations strikes one at each of two objects.
 pub fn a_rollback_goes_over_two_objects()
     ensures runs { IsRun (undo_counter ∷ deferred_counter ∷ []) two_objects_history }
@@ -125,7 +147,7 @@ pub fn a_history_may_not_be_serial()
     ensures locked { IsRun (undo_counter ∷ []) unlocked_history → ⊥ }
 {}
 
-/// With update in place, what a committed transaction did may stand in the log or be settled in base.
+/// With update in place, what a committed transaction did may be in the log or be settled in base.
 pub fn a_counter_in_place_stands_for_two_ups()
     ensures runs { IsRun (undo_counter ∷ []) half_history }
     ensures logged { StandsFor (counter_at Kind.Undo 0 (past 0 0 ∷ held 1 0 ∷ [])) 0 half_history }

@@ -65,9 +65,9 @@ impl CheckedType {
         self.file.conflicts(self.kind)
     }
 
-    /// Whether kept states are equieffective to serial ones. For deferred update they always are;
-    /// for update in place they are where each pair outside the conflict table meets the two-way
-    /// condition at each state of the set.
+    /// Whether the stronger condition holds: for update in place, where each pair outside the
+    /// conflict table meets the two-way condition at each state of the set; for deferred update
+    /// always.
     pub fn is_strong(&self) -> bool
         ensures { (result ≡ true) ↔ IsStrong self.now }
     {

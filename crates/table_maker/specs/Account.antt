@@ -23,7 +23,7 @@ amount_step cap a (suc zero) s = where_legal (nat_lt cap (s + a)) s
 amount_step cap a (suc (suc zero)) s = where_legal (nat_le a s) (s - a)
 amount_step cap a (suc (suc (suc _))) s = where_legal (nat_lt s a) s
 
--- the state is the balance; operation 4 i + j is the j-th of amount i, and behind them stands one for each balance
+-- the state is the balance; operation 4 i + j is the j-th of amount i, and behind them there is one for each balance
 abbrev pub account : ℕ → List ℕ → Family
 account cap amounts = record {
   name = codes "account";

@@ -17,7 +17,7 @@ pub record AreElements (most : ℕ) (elements : List (List ℕ)) : Type 0 where
 abbrev pub is_short : ℕ → List ℕ → Bool
 is_short most e = nat_le (length e) most
 
--- an element stands twice, as a test
+-- an element comes twice, as a test
 abbrev pub repeats : List (List ℕ) → Bool
 repeats [] = false
 repeats (e ∷ elements) = list_any (λ other. bytes_eq other e) elements || repeats elements

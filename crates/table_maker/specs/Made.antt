@@ -23,7 +23,7 @@ pub record Family : Type 0 where
   pub ops : List Op
   pub step : ℕ → ℕ → Option ℕ
 
--- what a family needs to have a table: 1 to 1,024 states, 1 to 64 operations of which none stands twice, and steps that lead to its states
+-- what a family needs to have a table: 1 to 1,024 states, 1 to 64 operations of which none comes twice, and steps that lead to its states
 pub record HasTable (f : Family) : Type 0 where
   pub some_states : 0 < f.states
   pub states_fit : f.states ≤ 1024
@@ -32,7 +32,7 @@ pub record HasTable (f : Family) : Type 0 where
   pub no_twin : has_twin f.ops ≡ false
   pub steps_inside : (s k t : ℕ) → s < f.states → k < length f.ops → f.step s k ≡ Some t → t < f.states
 
--- the first entries of a table: that of state s and operation k stands at s * (number of operations) + k
+-- the first entries of a table: that of state s and operation k is at s * (number of operations) + k
 abbrev pub entries_of : Family → ℕ → List (Option ℕ)
 entries_of f count = map (λ place. f.step (place / length f.ops) (place % length f.ops)) (range_with_len 0 count)
 

@@ -43,7 +43,7 @@ deq_step states i s =
     let counts = counts_at states s in
     if nat_le 1 (count_of counts i) then state_of states (slice_set counts i (count_of counts i - 1)) else None
 
--- the states are the lists of counts with a sum of at most the capacity, in lexicographic order; first stand the enqueues, then the dequeues
+-- the states are the lists of counts with a sum of at most the capacity, in lexicographic order; first come the enqueues, then the dequeues
 abbrev pub semiqueue : List (List ℕ) → ℕ → Family
 semiqueue elements capacity =
     let states = states_of elements capacity in

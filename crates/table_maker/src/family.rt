@@ -66,7 +66,7 @@ fn table_of<F: FamilyRules>(
     }
 }
 
-/// The entries of a table: that of state s and operation k stands at `s * ops + k`.
+/// The entries of a table: that of state s and operation k is at `s * ops + k`.
 fn steps_of<F: FamilyRules>(
     alloc: Global,
     rules: &F,

@@ -11,8 +11,8 @@ use std::alloc::{AllocError, Global};
 use type_table::{ConflictTable, Kind, StateSet, TypeTable};
 use type_text::TypeFile;
 
-/// The file of a table and a set of its states that isn't empty, with the greatest relation that is
-/// a simulation and, for each kind, the pairs whose condition fails at some state of the set.
+/// The file of a table and a set of its states that isn't empty, with the relation of
+/// `made_relation` and, for each kind, the pairs whose condition fails at some state of the set.
 ///
 /// # Errors
 ///

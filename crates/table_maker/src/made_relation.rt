@@ -14,7 +14,8 @@ use type_table::TypeTable;
 
 /// The greatest relation between the states of a table that is a simulation. A pair of different
 /// states is left out where some operation is legal in the first state and is illegal in the second,
-/// or leads from the two to a pair that is left out.
+/// or leads from the two to a pair that is left out. That it is one, and the greatest, is tested
+/// and not proved.
 pub fn made_relation(alloc: Global, table: &TypeTable) -> Result<Relation, AllocError>
     ensures { IfOk result (λ r. length r ≡ table.now.states) }
 {

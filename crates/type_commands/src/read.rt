@@ -29,7 +29,7 @@ pub fn read_file<S: Source, E: Out>(
     }
 }
 
-/// The type file of a text that stands at a path.
+/// The type file of a text that is held at a path.
 fn read_text<E: Out>(alloc: Global, path: &str, text: &[u8], err: &mut E) -> Result<TypeFile, u8>
     requires { E.fault err.old ≡ None }
     ensures reads { ReadsText text.now result }

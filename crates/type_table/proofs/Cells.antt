@@ -69,14 +69,17 @@ rows_of-set ops p q words small fits p_below q_below =
 
 -- what the calls of a conflict table say of the rows that its words show
 
+-- the word of a row
+pub word-conflicts : (ops p : ℕ) (words : List ℕ) (rows : List (List Bool)) → rows_of ops words ≡ rows → ops ≤ length words → p < length rows → (q : ℕ) → q < length rows →
+    eqb (bit_at (get_or words p 0) q) 1 ≡ conflicts rows p q
+word-conflicts ops p words rows e fits p_in q q_in =
+    let len_rows : length rows ≡ ops = ap length (sym e) ∙ length-rows_of ops words fits in
+    sym (conflicts-rows_of ops p q words (rw len_rows at p_in) (rw len_rows at q_in) fits) ∙ ap (λ shown. conflicts shown p q) e
+
+-- and one bit of it
 pub bit-conflicts : (ops p q : ℕ) (words : List ℕ) (rows : List (List Bool)) → rows_of ops words ≡ rows → ops ≤ length words → p < length rows → q < length rows →
     eqb (bit_and (get_or words p 0 / 2 ^ q) 1) 1 ≡ conflicts rows p q
-bit-conflicts ops p q words rows e fits p_in q_in =
-    let len = length-rows_of ops words fits in
-    let len_rows : length rows ≡ ops = ap length (sym e) ∙ len in
-    ap (λ b. eqb b 1) (shr_and_one (get_or words p 0) q)
-    ∙ sym (conflicts-rows_of ops p q words (rw len_rows at p_in) (rw len_rows at q_in) fits)
-    ∙ ap (λ shown. conflicts shown p q) e
+bit-conflicts ops p q words rows e fits p_in q_in = ap (λ b. eqb b 1) (shr_and_one (get_or words p 0) q) ∙ word-conflicts ops p words rows e fits p_in q q_in
 
 -- the rows that words show are square
 pub square-rows_of : (ops : ℕ) (words : List ℕ) → ops ≤ length words → IsSquare ops (rows_of ops words)

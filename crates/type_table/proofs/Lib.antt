@@ -1,5 +1,6 @@
 pub mod Buffer
 pub mod Cells
+pub mod Ends
 pub mod Examples
 pub mod Lists
 pub mod Padding

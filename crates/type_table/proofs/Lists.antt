@@ -1,6 +1,5 @@
 -- From single operations that commute to lists of them.
-use Rattle.std.proofs.Common.{◌≡◌, ℕ, suc, Bool, true, List, [], ◌∷◌, ◌++◌, Contains, Option, Some, None, IsSome, refl, sym, ap, ◌∙◌, arith}
-use Rattle.std.proofs.lemmas.Bool.{false≢true}
+use Rattle.std.proofs.Common.{◌≡◌, ℕ, suc, Bool, true, List, [], ◌∷◌, ◌++◌, Contains, Option, Some, IsSome, refl, sym, ap, ◌∙◌, arith}
 use Rattle.std.proofs.lemmas.List.{append-nil, append_assoc}
 use Rattle.type_table.specs.Table.{Table, next}
 use Rattle.type_table.specs.Run.{run, IsLegal, Looks, AreEqui}
@@ -8,6 +7,7 @@ use Rattle.type_table.specs.StateSet.{IsClosed}
 use Rattle.type_table.specs.Commute.{CommuteForward}
 use Rattle.type_table.specs.Laws.{IsExtended, RunsAlong, LooksExtends, EquiExtends}
 use Rattle.type_table.specs.Lists.{ListsForward, ListsBackward, ListsBackwardBothWays}
+use Rattle.type_table.proofs.Ends.{from_state, is_there}
 
 -- ---- elements and steps
 
@@ -18,16 +18,6 @@ contains_head x xs = (0, omega arith, refl)
 -- an element of a list is one of the longer list
 contains_tail : (x y : ℕ) (xs : List ℕ) → Contains xs y → Contains (x ∷ xs) y
 contains_tail x y xs h = (suc h.0, omega (arith, h.1), h.2)
-
--- where a list is legal, there is a state
-from_state : (T : Table) (o : Option ℕ) (w : List ℕ) → IsLegal T o w → (t : ℕ) × (o ≡ Some t)
-from_state T None [] h = absurd (false≢true h)
-from_state T None (k ∷ w) h = from_state T None w h
-from_state T (Some t) w h = (t, refl)
-
--- what is some state is there
-is_there : (o : Option ℕ) (t : ℕ) → o ≡ Some t → IsSome o
-is_there o t e = rw e refl
 
 -- what is legal after a step is legal in the state to which it leads
 legal_there : (T : Table) (o : Option ℕ) (t : ℕ) (w : List ℕ) → o ≡ Some t → IsLegal T o w → IsLegal T (Some t) w

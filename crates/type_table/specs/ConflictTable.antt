@@ -3,7 +3,7 @@ use Rattle.std.specs.Prelude.{◌≡◌, ℕ, ◌<◌, ◌==◌, Bool, false, Li
 use Rattle.std.specs.Int.{bit_at}
 use Rattle.std.specs.List.{range_with_len}
 
--- A row for each requested operation, and in it a cell for each held one.
+-- a row for each requested operation, and in it a cell for each held one
 
 -- the row of a requested operation
 abbrev pub row : List (List Bool) → ℕ → List Bool

@@ -1,7 +1,8 @@
 -- Statements of laws of types.
-use Rattle.std.specs.Prelude.{◌≡◌, ℕ, ◌<◌, ◌++◌, List, length, Option, Some}
+use Rattle.std.specs.Prelude.{◌≡◌, ℕ, ◌<◌, Bool, true, ◌++◌, List, length, Option, Some}
 use Rattle.type_table.specs.Table.{Table, IsTable, next}
 use Rattle.type_table.specs.Run.{run, IsLegal, Looks, AreEqui}
+use Rattle.type_table.specs.StateSet.{IsClosed}
 
 -- a run along one list and then another
 abbrev pub RunsAlong : Type 0
@@ -31,3 +32,15 @@ EquiExtends = (T : Table) → IsExtended T (AreEqui T)
 -- a step is of an operation of the table, from a state to a state
 abbrev pub StepsWithin : Type 0
 StepsWithin = (T : Table) (s k t : ℕ) → IsTable T → next T s k ≡ Some t → (s < T.states) × (k < length T.ops) × (t < T.states)
+
+-- from a state of a closed set a list ends in the set
+abbrev pub EndsInside : Type 0
+EndsInside = (T : Table) (set : ℕ → Bool) (s e : ℕ) (w : List ℕ) → IsClosed T set → set s ≡ true → run T (Some s) w ≡ Some e → set e ≡ true
+
+-- from a state of a table it ends at one of its states
+abbrev pub EndsWithin : Type 0
+EndsWithin = (T : Table) (s e : ℕ) (w : List ℕ) → IsTable T → s < T.states → run T (Some s) w ≡ Some e → e < T.states
+
+-- what is legal ends somewhere
+abbrev pub LegalEnds : Type 0
+LegalEnds = (T : Table) (from : Option ℕ) (w : List ℕ) → IsLegal T from w → (e : ℕ) × (run T from w ≡ Some e)

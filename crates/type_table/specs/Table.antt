@@ -8,8 +8,8 @@ use Rattle.type_table.specs.declared.op.Op.{Op}
 use Rattle.type_table.specs.declared.table_error.TableError.{TableError}
 use Rattle.type_table.specs.declared.table_error.TableError.TheVariants.{BadCount, BadInitial, BadStep, TwiceOp}
 
--- Its name, its number of states, the initial state, the operations in order, and the steps: the entry of
--- state s and operation k stands at s * (number of operations) + k, and is None where k isn't legal in s.
+-- its name, its number of states, the initial state, the operations in order, and the steps: the entry of
+-- state s and operation k is at s * (number of operations) + k, and is None where k isn't legal in s
 pub record Table : Type 0 where
   pub name : List ℕ
   pub states : ℕ

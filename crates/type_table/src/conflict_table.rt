@@ -1,4 +1,5 @@
 ghost use Rattle.std.specs.Prelude.{◌≡◌, ◌≤◌, ◌<◌, ◌==◌, ◌&&◌, ◌||◌, ℕ, false, length};
+ghost use Rattle.std.specs.Int.{bit_at};
 ghost use Rattle.type_table.specs.ConflictTable.{conflicts, IsSquare};
 
 use std::marker::Model;
@@ -61,6 +62,15 @@ impl ConflictTable {
     {
         let word = self.words[p as usize];
         self.words[p as usize] = word | 1 << q;
+    }
+
+    /// The row of the requested operation p, as a word: it has the bit of each held operation with which p
+    /// conflicts.
+    pub fn row(&self, p: u8) -> u64
+        requires { p < length self.now }
+        ensures { (q : ℕ) → q < length self.now → (bit_at result q == 1) ≡ conflicts self.now p q }
+    {
+        self.words[usize::from(p)]
     }
 
     /// Whether the requested operation p conflicts with the held operation q.

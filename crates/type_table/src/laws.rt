@@ -1,7 +1,7 @@
 //! Laws of types and of lists of operations: each is a function that does nothing, whose contract is
 //! the law. It calls the laws on which it depends.
 
-ghost use Rattle.type_table.specs.Laws.{RunsAlong, LooksAfter, LooksExtends, EquiAfter, EquiExtends, StepsWithin};
+ghost use Rattle.type_table.specs.Laws.{RunsAlong, LooksAfter, LooksExtends, EquiAfter, EquiExtends, StepsWithin, EndsInside, EndsWithin, LegalEnds};
 ghost use Rattle.type_table.specs.Lists.{ListsForward, ListsBackward, ListsBackwardBothWays};
 
 /// A run along a list put together is a run along its parts.
@@ -35,6 +35,24 @@ pub fn equi_extends()
 /// A step is of an operation of the table, from one of its states to one of its states.
 pub fn steps_within()
     ensures { StepsWithin }
+{}
+
+/// A list that begins at a state of a closed set ends in the set.
+pub fn ends_inside()
+    ensures { EndsInside }
+{}
+
+/// A list that begins at a state of a table ends at one of its states.
+pub fn ends_within()
+    ensures { EndsWithin }
+{
+    steps_within();
+    ends_inside();
+}
+
+/// What is legal ends somewhere: the list leads to a state.
+pub fn legal_ends()
+    ensures { LegalEnds }
 {}
 
 /// Lists forward: where each operation of one list commutes forward with each of another, and both

@@ -14,8 +14,8 @@ mod table_error;
 pub use conflict_table::ConflictTable;
 pub use kind::Kind;
 pub use laws::{
-    equi_after, equi_extends, lists_backward, lists_backward_both_ways, lists_forward, looks_after,
-    looks_extends, runs_along, steps_within,
+    ends_inside, ends_within, equi_after, equi_extends, legal_ends, lists_backward,
+    lists_backward_both_ways, lists_forward, looks_after, looks_extends, runs_along, steps_within,
 };
 pub use name::Name;
 pub use op::Op;

@@ -23,7 +23,7 @@ pub record IsTableOf (lines : List TypeLine) (T : Table) : Type 0 where
   pub ops : T.ops ≡ ops_of lines
   pub steps : (s k t : ℕ) → (next T s k ≡ Some t) ↔ Contains lines (Step s k t)
 
--- a state of the file's set: one of a `reach` line, or any where no `reach` line stands
+-- a state of the file's set: one of a `reach` line, or any where there is no `reach` line
 abbrev pub IsReached : List TypeLine → ℕ → ℕ → Type 0
 IsReached lines states s = Contains lines (Reach s) ⊎ ((s < states) × ((r : ℕ) → Contains lines (Reach r) → ⊥))
 

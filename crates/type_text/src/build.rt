@@ -116,7 +116,7 @@ fn listed(alloc: Global, ops: &IndexSet<Op>) -> Result<Vec<Op>, AllocError>
     ops.iter().copied().collect(alloc)
 }
 
-/// The entries of a table: that of state s and operation k stands at `s * ops + k`.
+/// The entries of a table: that of state s and operation k is at `s * ops + k`.
 fn steps_of(
     alloc: Global,
     lines: &[TypeLine],

@@ -1,5 +1,5 @@
 //! Laws of the canonical text: each is a function that does nothing, whose contract is the law. It
-//! calls the laws on which it stands.
+//! calls the laws on which it depends.
 
 ghost use Rattle.type_text.specs.Canonical.{CanonicalIsRead, LinesTellTheFile, WrittenIsRead};
 

@@ -9,7 +9,7 @@ use std::alloc::Global;
 
 /// The file of a text, or the text's first fault.
 ///
-/// `NoMemory` stands in place of either where memory was refused; its line is the one that was
+/// `NoMemory` comes in place of either where memory was refused; its line is the one that was
 /// being read, or the first where the lines were read and the file was being built.
 pub fn read_type(alloc: Global, text: &[u8]) -> Result<TypeFile, TextFault>
     ensures { Reads result text.now }

@@ -1,11 +1,14 @@
 //! The entries of a history and why a command is refused; the laws of histories.
 
+use crate::tests::printed::{are_debugged, are_printed};
 use serial_order::{
-    Entry, Refusal, allows_alike, answer_may_follow, checked_headline, command_appends,
-    commit_keeps_views, fresh_stands, headline, machine_may_apply, replay_runs, replays_join,
-    run_goes_on, run_is_history, sorts_into_commit_order, stands_as_read, stands_on,
-    struck_view_is_legal, views_are_legal,
+    Entry, Refusal, allows_alike, answer_may_follow, beginners_after, blocker_is_held,
+    checked_headline, command_appends, commit_keeps_views, fresh_stands, headline, held_after,
+    idle_is_closed, logs_are_counted, machine_may_apply, opens_after, operations_in_run, own_after,
+    replay_runs, replays_join, run_goes_on, run_is_history, seen_after, sorts_into_commit_order,
+    stands_as_read, stands_on, struck_view_is_legal, transactions_in_run, views_are_legal,
 };
+use std::process::Abort;
 use std::test::Fail;
 
 const ENTRY: Entry = Entry {
@@ -15,42 +18,65 @@ const ENTRY: Entry = Entry {
 };
 
 #[test]
-fn entries_are_compared_and_printed(rt: HostRuntime) -> Result<(), Fail> {
-    let (by, at, op) = (
+fn entries_are_compared(rt: HostRuntime) {
+    let others = [
         Entry { by: 3, ..ENTRY },
         Entry { at: 3, ..ENTRY },
         Entry { op: 3, ..ENTRY },
-    );
-    assert!(rt; (ENTRY == ENTRY) & (ENTRY != by) & (ENTRY != at) & (ENTRY != op));
-    let text = format!(in rt.alloc(); "{ENTRY:?}")?;
-    assert!(rt; text.as_str() == "Entry { by: 1, at: 0, op: 2 }");
-    Ok(())
+    ];
+    assert!(rt; ENTRY == ENTRY);
+    for other in others {
+        assert!(rt; ENTRY != other);
+    }
+}
+
+#[test]
+fn entries_are_printed(rt: HostRuntime) -> Result<(), Fail> {
+    are_debugged(&rt, &[(ENTRY, "Entry { by: 1, at: 0, op: 2 }")])
 }
 
 static REFUSALS: [(Refusal, &str); 7] = [
-    (Refusal::NotOpen, "NotOpen NotOpen"),
-    (Refusal::NoObject, "NoObject NoObject"),
-    (Refusal::NoCall, "NoCall NoCall"),
-    (Refusal::TooManyOpen, "TooManyOpen TooManyOpen"),
-    (Refusal::HistoryFull, "HistoryFull HistoryFull"),
-    (Refusal::NoMemory, "NoMemory NoMemory"),
-    (Refusal::BadRollback, "BadRollback BadRollback"),
+    (Refusal::NotOpen, "NotOpen"),
+    (Refusal::NoObject, "NoObject"),
+    (Refusal::NoCall, "NoCall"),
+    (Refusal::TooManyOpen, "TooManyOpen"),
+    (Refusal::HistoryFull, "HistoryFull"),
+    (Refusal::NoMemory, "NoMemory"),
+    (Refusal::BadRollback, "BadRollback"),
 ];
 
 #[test]
-fn refusals_are_compared_and_printed(rt: HostRuntime) -> Result<(), Fail> {
-    for (refusal, words) in REFUSALS {
-        let text = format!(in rt.alloc(); "{refusal} {refusal:?}")?;
-        assert!(rt; text.as_str() == words);
-        assert!(rt; (refusal == Refusal::NoCall) == (words == "NoCall NoCall"));
+fn refusals_are_printed(rt: HostRuntime) -> Result<(), Fail> {
+    are_printed(&rt, &REFUSALS)?;
+    are_debugged(&rt, &REFUSALS)
+}
+
+/// That of these refusals the one with this word alone is this one.
+fn is_alone(rt: &impl Abort, rows: &[(Refusal, &str)], alone: Refusal, its: &str) {
+    for (refusal, word) in rows {
+        assert!(rt; (*refusal == alone) == (*word == its));
     }
-    Ok(())
+}
+
+#[test]
+fn refusals_are_compared(rt: HostRuntime) {
+    is_alone(&rt, &REFUSALS, Refusal::NoCall, "NoCall");
 }
 
 #[test]
 fn laws_are_called() {
     run_is_history();
     run_goes_on();
+    seen_after();
+    transactions_in_run();
+    opens_after();
+    beginners_after();
+    operations_in_run();
+    held_after();
+    blocker_is_held();
+    own_after();
+    logs_are_counted();
+    idle_is_closed();
     stands_as_read();
     answer_may_follow();
     replay_runs();

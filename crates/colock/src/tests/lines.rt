@@ -2,6 +2,8 @@ ghost use Rattle.std.specs.Prelude.{◌≡◌, map};
 ghost use Rattle.line_text.specs.Example.{example, entry_of, with_one, with_two, with_none, size_of, is_twin};
 
 use line_text::*;
+use std::alloc::{AllocError, Global};
+use std::process::Abort;
 use std::test::Fail;
 use type_table::{Kind, Name};
 
@@ -133,23 +135,30 @@ fn is_twin(entry: Entry, other: Entry) -> bool
 }
 
 #[test]
-fn reads_items(rt: HostRuntime) -> Result<(), Fail> {
+fn laws_are_called() {
     outcome_by_lines::<Entry>();
     accepted_in_order::<Entry>();
     canonical_reads_again::<Entry>();
     numbers_read_again();
     names_are_words();
-    let text = b"size 3\n\n# note\nop  1 2\n step 0 1 \nopen 7\nput 8\nend\n#\n";
-    let items = read_items(rt.alloc(), &Example, text)?;
-    let want = [
-        (0, 3, 0),
-        (1, 1, 2),
-        (2, 0, 1),
-        (3, 7, 0),
-        (3, 8, 1),
-        (4, 0, 0),
-    ];
-    assert!(rt; items.as_slice() == want.as_slice());
+}
+
+/// A text of the grammar, and its items.
+static TEXT: &[u8] = b"size 3\n\n# note\nop  1 2\n step 0 1 \nopen 7\nput 8\nend\n#\n";
+
+static ITEMS: [Entry; 6] = [
+    (0, 3, 0),
+    (1, 1, 2),
+    (2, 0, 1),
+    (3, 7, 0),
+    (3, 8, 1),
+    (4, 0, 0),
+];
+
+#[test]
+fn reads_items(rt: HostRuntime) -> Result<(), Fail> {
+    let items = read_items(rt.alloc(), &Example, TEXT)?;
+    assert!(rt; items.as_slice() == ITEMS.as_slice());
     Ok(())
 }
 
@@ -191,12 +200,22 @@ static FAULTS: [(&[u8], usize, FaultKind); 18] = [
     (b"size 3\nop 1 1\nop 1 1\n", 3, FaultKind::TwiceOp),
 ];
 
+/// The first fault of a text.
+fn fault_of(alloc: Global, text: &[u8]) -> Option<TextFault> {
+    read_items(alloc, &Example, text).err()
+}
+
+/// That each text has its fault.
+fn have_faults(rt: &(impl Abort + AllocGlobal), rows: &[(&[u8], usize, FaultKind)]) {
+    for (text, line, kind) in rows {
+        let (line, kind) = (*line, *kind);
+        assert!(rt; fault_of(rt.alloc(), text) == Some(TextFault { line, kind }));
+    }
+}
+
 #[test]
 fn names_the_first_fault(rt: HostRuntime) {
-    for (text, line, kind) in FAULTS {
-        let fault = read_items(rt.alloc(), &Example, text).err();
-        assert!(rt; fault == Some(TextFault { line, kind }), "at {text:?}");
-    }
+    have_faults(&rt, &FAULTS);
 }
 
 static WORDS: [&[u8]; 4] = [b"object", b"undo", b"intentions", b"a:1"];
@@ -227,11 +246,24 @@ static KINDS: [(FaultKind, u8, &str); 11] = [
     (FaultKind::NoMemory, 11, "line 12: NoMemory"),
 ];
 
-#[test]
-fn prints_faults(rt: HostRuntime) -> Result<(), Fail> {
-    for (kind, number, wanted) in KINDS {
-        let text = TextFault { line: 12, kind }.to_string(rt.alloc())?;
-        assert!(rt; (kind as u8 == number) & (text.as_str() == wanted));
+/// How a fault of this kind at line 12 is printed.
+fn printed(alloc: Global, kind: FaultKind) -> Result<String, AllocError> {
+    TextFault { line: 12, kind }.to_string(alloc)
+}
+
+/// That each kind has its number, and is printed so.
+fn are_numbered_and_printed(
+    rt: &(impl Abort + AllocGlobal),
+    rows: &[(FaultKind, u8, &str)],
+) -> Result<(), Fail> {
+    for (kind, number, wanted) in rows {
+        assert!(rt; *kind as u8 == *number);
+        assert!(rt; printed(rt.alloc(), *kind)?.as_str() == *wanted);
     }
     Ok(())
+}
+
+#[test]
+fn prints_faults(rt: HostRuntime) -> Result<(), Fail> {
+    are_numbered_and_printed(&rt, &KINDS)
 }

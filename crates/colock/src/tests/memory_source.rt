@@ -1,4 +1,4 @@
-//! Files that stand in memory, for tests.
+//! Files that are held in memory, for tests.
 ghost use Rattle.std.specs.Prelude.{◌≡◌, find, option_map};
 ghost use Rattle.std.specs.Str.{bytes_eq};
 

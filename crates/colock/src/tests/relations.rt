@@ -2,10 +2,12 @@
 
 ghost use Rattle.std.specs.Prelude.{◌≡◌, ◌<◌, ◌≤◌, length, IfOk};
 
+use crate::tests::printed::are_printed;
 use crate::tests::type_files::largest_table;
-use crate::tests::types::{Parts, table_of};
+use crate::tests::types::{Parts, good_table};
 use equi_cert::{CertFault, Relation, check_simulation};
-use std::alloc::Global;
+use std::alloc::{AllocError, Global};
+use std::process::Abort;
 use std::test::Fail;
 use type_table::TypeTable;
 
@@ -125,14 +127,26 @@ static PAIRS: [(u16, u16, bool); 9] = [
     (6, 64, false),
 ];
 
+/// That a relation has each of these pairs that it is to have, and no other of them.
+fn has_pairs(rt: &impl Abort, relation: &Relation, rows: &[(u16, u16, bool)]) {
+    for (s, t, is_there) in rows {
+        assert!(rt; has(relation, *s, *t) == *is_there);
+    }
+}
+
 #[test]
 fn pairs_are_added(rt: HostRuntime) -> Result<(), Fail> {
-    let relation = relation_of(rt.alloc(), 1024, &[(0, 1023), (1023, 0), (5, 64), (5, 64)])?;
-    for (s, t, is_there) in PAIRS {
-        assert!(rt; has(&relation, s, t) == is_there, "at {s} {t}");
-    }
+    let pairs = [(0, 1023), (1023, 0), (5, 64), (5, 64)];
+    let relation = relation_of(rt.alloc(), 1024, &pairs)?;
+    has_pairs(&rt, &relation, &PAIRS);
     Ok(())
 }
+
+/// Pairs of three states, and whether they are in a copy that was made before the second was added.
+static COPIED: [(u16, u16, bool); 2] = [(0, 1, true), (1, 2, false)];
+
+/// The same in what was copied.
+static ADDED: [(u16, u16, bool); 2] = [(0, 1, true), (1, 2, true)];
 
 #[test]
 fn copies_keep_their_pairs(rt: HostRuntime) -> Result<(), Fail> {
@@ -140,7 +154,8 @@ fn copies_keep_their_pairs(rt: HostRuntime) -> Result<(), Fail> {
     let copy = relation.copy(rt.alloc())?;
     relation.add(1, 2);
     assert!(rt; copy.states() == 3);
-    assert!(rt; has(&copy, 0, 1) & !has(&copy, 1, 2) & has(&relation, 0, 1) & has(&relation, 1, 2));
+    has_pairs(&rt, &copy, &COPIED);
+    has_pairs(&rt, &relation, &ADDED);
     Ok(())
 }
 
@@ -154,45 +169,58 @@ fn fault_of(
     Ok(check_simulation(table, &relation).err())
 }
 
-#[test]
-fn simulations_are_told_from_other_relations(rt: HostRuntime) -> Result<(), Fail> {
-    let types = [
-        ("oneway", ONE_WAY, ONE_WAY_CASES.as_slice()),
-        ("twin", TWIN, TWIN_CASES.as_slice()),
-    ];
-    for (name, parts, cases) in types {
-        let table = table_of(rt.alloc(), name, &parts)??;
-        for (pairs, fault) in cases {
-            assert!(rt;
-                fault_of(rt.alloc(), &table, pairs)? == *fault,
-                "at {pairs:?}"
-            );
-        }
+/// That these are the faults of relations over a table.
+fn have_faults(
+    rt: &(impl Abort + AllocGlobal),
+    table: &TypeTable,
+    cases: &[Case],
+) -> Result<(), Fail> {
+    for (pairs, fault) in cases {
+        assert!(rt; fault_of(rt.alloc(), table, pairs)? == *fault);
     }
     Ok(())
+}
+
+#[test]
+fn simulations_are_told_from_other_relations(rt: HostRuntime) -> Result<(), Fail> {
+    let table = good_table(rt.alloc(), "oneway", &ONE_WAY)?;
+    have_faults(&rt, &table, &ONE_WAY_CASES)
+}
+
+#[test]
+fn states_that_allow_the_same_are_related_both_ways(rt: HostRuntime) -> Result<(), Fail> {
+    let table = good_table(rt.alloc(), "twin", &TWIN)?;
+    have_faults(&rt, &table, &TWIN_CASES)
+}
+
+/// Each of the first of 1,024 states with the next one, in a circle.
+fn neighbours(alloc: Global, count: u16) -> Result<Vec<(u16, u16)>, AllocError> {
+    let mut pairs = Vec::new(alloc);
+    for s in 0..count {
+        pairs.push((s, (s % 1024 + 1) % 1024))?;
+    }
+    Ok(pairs)
 }
 
 #[test]
 fn largest_types_are_checked(rt: HostRuntime) -> Result<(), Fail> {
     let table = largest_table(rt.alloc())?;
-    let mut neighbours = Vec::new(rt.alloc());
-    for s in 0..1024u16 {
-        neighbours.push((s, (s + 1) % 1024))?;
-    }
-    assert!(rt; fault_of(rt.alloc(), &table, &neighbours)? == None);
-    neighbours.pop();
-    let last = Some(CertFault {
+    let all = neighbours(rt.alloc(), 1024)?;
+    assert!(rt; fault_of(rt.alloc(), &table, &all)? == None);
+    let fewer = neighbours(rt.alloc(), 1023)?;
+    let last = CertFault {
         s: 960,
         t: 961,
         k: 63,
-    });
-    assert!(rt; fault_of(rt.alloc(), &table, &neighbours)? == last);
+    };
+    assert!(rt; fault_of(rt.alloc(), &table, &fewer)? == Some(last));
     Ok(())
 }
 
 #[test]
 fn faults_are_printed(rt: HostRuntime) -> Result<(), Fail> {
-    let text = CertFault { s: 4, t: 3, k: 2 }.to_string(rt.alloc())?;
-    assert!(rt; text.as_str() == "NotSimulation 4 3 2");
-    Ok(())
+    are_printed(
+        &rt,
+        &[(CertFault { s: 4, t: 3, k: 2 }, "NotSimulation 4 3 2")],
+    )
 }

@@ -7,6 +7,7 @@ use outputs::{Failed, Out, OutFault, Sink, put, put_all};
 use std::alloc::Global;
 use std::io;
 use std::io::{ErrorKind, Write};
+use std::process::Abort;
 use std::test::Fail;
 
 /// What a full writer answers.
@@ -111,13 +112,25 @@ static ROWS: [Row; 6] = [
     ),
 ];
 
+/// That a writer stops the pieces of a row and holds a beginning, as the row says.
+fn leaves_a_beginning(rt: &(impl Abort + AllocGlobal), row: &Row) {
+    let (width, room, at_end, pieces, fault, held) = *row;
+    let mut out = narrow_sink(rt.alloc(), width, room, at_end);
+    assert!(rt; put_all(&mut out, pieces).err() == fault);
+    assert!(rt; out.fault() == fault);
+    assert!(rt; out.into_inner().held.as_slice() == held);
+}
+
+/// The same of each row.
+fn leave_beginnings(rt: &(impl Abort + AllocGlobal), rows: &[Row]) {
+    for row in rows {
+        leaves_a_beginning(rt, row);
+    }
+}
+
 #[test]
 fn faults_leave_a_beginning(rt: HostRuntime) {
-    for (width, room, at_end, pieces, fault, held) in ROWS {
-        let mut out = narrow_sink(rt.alloc(), width, room, at_end);
-        assert!(rt; (put_all(&mut out, pieces).err() == fault) & (out.fault() == fault));
-        assert!(rt; out.into_inner().held.as_slice() == held);
-    }
+    leave_beginnings(&rt, &ROWS);
 }
 
 #[test]

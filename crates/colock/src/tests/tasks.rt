@@ -1,6 +1,6 @@
 //! What the tasks write, and their statuses; here of texts with faults.
 
-ghost use Rattle.std.specs.Prelude.{None};
+ghost use Rattle.std.specs.Prelude.{◌≡◌, None};
 
 mod checked;
 mod examples;
@@ -10,6 +10,7 @@ mod tables;
 mod types;
 mod verdicts;
 
+pub use self::large::add_step;
 use self::types::{COMMENTED, COUNTER, CUT, IDLE};
 use crate::tests::memory_source::MemorySource;
 use command_words::{Task, Topic};
@@ -32,8 +33,43 @@ fn changed(alloc: Global, whole: &str, old: &str, new: &[u8]) -> Result<Vec<u8>,
     Ok(text)
 }
 
-/// What a task over this text, at the path `ctr2.type`, writes to its output, where it is to say this
-/// of a fault and to have this status.
+/// The status of a task over this text, at the path `ctr2.type`, and what it says of a fault.
+fn run<R: AllocGlobal + Threads + Sync, W: Out>(
+    rt: &R,
+    task: Task<'_>,
+    text: &[u8],
+    output: &mut W,
+) -> (u8, Vec<u8>)
+    requires { W.fault output.old ≡ None }
+{
+    let files = [("ctr2.type", text)];
+    let mut source = MemorySource {
+        alloc: rt.alloc(),
+        files: files.as_slice(),
+    };
+    let mut errors = Sink::new(Vec::new(rt.alloc()));
+    let Next::Done(status) = prepare(rt, task, &mut source, output, &mut errors);
+    (status, errors.into_inner())
+}
+
+/// That a task over this text says this of a fault, and has this status.
+fn ends<R: Abort + AllocGlobal + Threads + Sync, W: Out>(
+    rt: &R,
+    task: Task<'_>,
+    text: &[u8],
+    output: &mut W,
+    err: &str,
+    status: u8,
+)
+    requires { W.fault output.old ≡ None }
+{
+    let (found, errors) = run(rt, task, text, output);
+    assert!(rt; errors.as_slice() == err.as_bytes());
+    assert!(rt; found == status);
+}
+
+/// What a task over this text writes to its output, where it is to say this of a fault and to have
+/// this status.
 fn performed<R: Abort + AllocGlobal + Threads + Sync>(
     rt: &R,
     task: Task<'_>,
@@ -41,16 +77,8 @@ fn performed<R: Abort + AllocGlobal + Threads + Sync>(
     err: &str,
     status: u8,
 ) -> Vec<u8> {
-    let files = [("ctr2.type", text)];
-    let mut source = MemorySource {
-        alloc: rt.alloc(),
-        files: files.as_slice(),
-    };
     let mut output = Sink::new(Vec::new(rt.alloc()));
-    let mut errors = Sink::new(Vec::new(rt.alloc()));
-    let next = prepare(rt, task, &mut source, &mut output, &mut errors);
-    assert_eq!(rt; errors.into_inner().as_slice(), err.as_bytes());
-    assert_eq!(rt; next, Next::Done(status));
+    ends(rt, task, text, &mut output, err, status);
     output.into_inner()
 }
 
@@ -78,8 +106,10 @@ fn says<R: Abort + AllocGlobal + Threads + Sync>(
     assert!(rt; written.is_empty());
 }
 
-/// Texts with one part in place of another, and what a check says of the fault.
-static FAULTS: [(&str, &str, &[u8], &str); 18] = [
+/// A text, a part of it, what stands in place of that, and what a check says of the fault.
+type Fault = (&'static str, &'static str, &'static [u8], &'static str);
+
+static FAULTS: [Fault; 18] = [
     (
         COUNTER,
         "ok\nop dec",
@@ -180,17 +210,26 @@ static FAULTS: [(&str, &str, &[u8], &str); 18] = [
     ),
 ];
 
-#[test]
-fn answers_faults(rt: HostRuntime) -> Result<(), Fail> {
-    for (whole, old, new, err) in FAULTS {
+const CHECK: Task<'static> = Task::Check {
+    kind: Kind::Intentions,
+    path: "ctr2.type",
+};
+
+/// That a check says each of these faults.
+fn answers_all<R: Abort + AllocGlobal + Threads + Sync>(
+    rt: &R,
+    faults: &[Fault],
+) -> Result<(), Fail> {
+    for (whole, old, new, err) in faults {
         let text = changed(rt.alloc(), whole, old, new)?;
-        let task = Task::Check {
-            kind: Kind::Intentions,
-            path: "ctr2.type",
-        };
-        says(&rt, task, &text, err, 2);
+        says(rt, CHECK, &text, err, 2);
     }
     Ok(())
+}
+
+#[test]
+fn answers_faults(rt: HostRuntime) -> Result<(), Fail> {
+    answers_all(&rt, &FAULTS)
 }
 
 #[test]
@@ -244,26 +283,14 @@ impl Out for Full {
 
 /// That a task over the counter's text has status 3 where the output takes so many bytes.
 fn fails<R: Abort + AllocGlobal + Threads + Sync>(rt: &R, task: Task<'_>, room: usize) {
-    let files = [("ctr2.type", COUNTER.as_bytes())];
-    let mut source = MemorySource {
-        alloc: rt.alloc(),
-        files: files.as_slice(),
-    };
     let mut output = Full { room, fault: None };
-    let mut errors = Sink::new(Vec::new(rt.alloc()));
-    let next = prepare(rt, task, &mut source, &mut output, &mut errors);
-    assert_eq!(rt; next, Next::Done(3));
-    assert_eq!(rt; errors.into_inner().as_slice(), b"".as_slice());
+    ends(rt, task, COUNTER.as_bytes(), &mut output, "", 3);
 }
 
 #[test]
 fn fails_where_the_output_does(rt: HostRuntime) -> Result<(), Fail> {
     for room in [0, 1] {
-        let task = Task::Check {
-            kind: Kind::Intentions,
-            path: "ctr2.type",
-        };
-        fails(&rt, task, room);
+        fails(&rt, CHECK, room);
     }
     for room in [0, 1, 187] {
         fails(&rt, Task::Tables { path: "ctr2.type" }, room);

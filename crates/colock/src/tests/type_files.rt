@@ -1,7 +1,10 @@
 //! The reader of type files: the counter of two with other lines, and the largest table.
 
+ghost use Rattle.std.specs.Prelude.{◌≡◌, length};
+
 mod writing;
 
+use crate::tests::tasks::add_step;
 use crate::tests::types;
 use std::alloc::{AllocError, Global};
 use std::fmt::Write;
@@ -28,7 +31,7 @@ static COUNTER: [&[u8]; 14] = [
     b"end\n",
 ];
 
-/// What stands in place of a line of the counter's text, with the fault that the text then has.
+/// What is put in place of a line of the counter's text, with the fault that the text then has.
 static FAULTS: [(usize, &[u8], usize, FaultKind); 47] = [
     // A byte that isn't a text's.
     (1, b"\x80ype counter\n", 1, FaultKind::NotAscii),
@@ -103,7 +106,7 @@ static FAULTS: [(usize, &[u8], usize, FaultKind); 47] = [
     ),
     (11, b"conflict undo 0 0\n", 11, FaultKind::OutOfOrder),
     (13, b"conflict intentions 0 0\n", 13, FaultKind::OutOfOrder),
-    // An operation stands once.
+    // An operation comes once.
     (5, b"op inc:1 ok\n", 5, FaultKind::TwiceOp),
 ];
 
@@ -121,76 +124,130 @@ fn counter_text(alloc: Global) -> Result<Vec<u8>, AllocError> {
     counter_with(alloc, 0, b"")
 }
 
+/// The fault that the reader names.
+fn fault_of(alloc: Global, text: &[u8]) -> Option<TextFault> {
+    read_type(alloc, text).err()
+}
+
 /// That the reader names this fault.
 fn has_fault(rt: &(impl Abort + AllocGlobal), text: &[u8], line: usize, kind: FaultKind) {
-    let fault = read_type(rt.alloc(), text).err();
-    assert!(rt; fault == Some(TextFault { line, kind }), "of {text:?}");
+    assert!(rt; fault_of(rt.alloc(), text) == Some(TextFault { line, kind }));
+}
+
+/// Whether a file of three states has all of them in its set, and the equal pairs in its relation.
+fn has_all_states(file: &TypeFile) -> bool
+    requires { file.now.table.states ≡ 3 }
+{
+    let mut is_same = true;
+    for s in 0..3 {
+        is_same &= file.reach.has(s);
+        for t in 0..3 {
+            is_same &= file.relation.has(s, t) == (s == t);
+        }
+    }
+    is_same
+}
+
+/// Whether a file of two operations has these conflicts: with update in place of the two different
+/// ones, and with deferred update of each with itself.
+fn has_conflicts(file: &TypeFile) -> bool
+    requires { length file.now.table.ops ≡ 2 }
+{
+    let mut is_same = true;
+    for p in 0..2 {
+        for q in 0..2 {
+            is_same &= file.undo.conflicts(p, q) == (p != q);
+            is_same &= file.intentions.conflicts(p, q) == (p == q);
+        }
+    }
+    is_same
+}
+
+/// That this is the file of the counter.
+fn is_counter(rt: &impl Abort, file: &TypeFile) {
+    types::assert_parts(rt, &file.table, "counter", &types::COUNTER);
+    assert!(rt; file.table.states() == 3 && has_all_states(file));
+    assert!(rt; file.table.op_count() == 2 && has_conflicts(file));
 }
 
 #[test]
 fn reads_the_counter(rt: HostRuntime) -> Result<(), Fail> {
     let text = counter_text(rt.alloc())?;
-    let file = read_type(rt.alloc(), &text)?;
-    types::assert_parts(&rt, &file.table, "counter", &types::COUNTER);
-    assert_eq!(rt; file.table.states(), 3);
-    assert_eq!(rt; file.table.op_count(), 2);
-    for s in 0..3 {
-        assert!(rt; file.reach.has(s));
-        for t in 0..3 {
-            assert!(rt; file.relation.has(s, t) == (s == t));
-        }
-    }
-    for p in 0..2 {
-        for q in 0..2 {
-            assert!(rt; file.undo.conflicts(p, q) == (p != q));
-            assert!(rt; file.intentions.conflicts(p, q) == (p == q));
-        }
+    is_counter(&rt, &read_type(rt.alloc(), &text)?);
+    Ok(())
+}
+
+/// That the counter with each of these lines has its fault.
+fn have_faults(
+    rt: &(impl Abort + AllocGlobal),
+    rows: &[(usize, &[u8], usize, FaultKind)],
+) -> Result<(), Fail> {
+    for (place, bytes, line, kind) in rows {
+        let text = counter_with(rt.alloc(), *place, bytes)?;
+        has_fault(rt, &text, *line, *kind);
     }
     Ok(())
 }
 
 #[test]
 fn names_each_fault_and_its_line(rt: HostRuntime) -> Result<(), Fail> {
-    for (place, bytes, line, kind) in FAULTS {
-        let text = counter_with(rt.alloc(), place, bytes)?;
-        has_fault(&rt, &text, line, kind);
-    }
-    Ok(())
+    have_faults(&rt, &FAULTS)
 }
 
 /// The bytes of the longest comment.
 static LONG: [u8; 200] = [b'#'; 200];
 
+/// The counter's text behind a comment of 200 bytes and these.
+fn commented(alloc: Global, more: &[u8]) -> Result<Vec<u8>, AllocError> {
+    let mut text = LONG.to_vec(alloc)?;
+    text.extend_from_slice(more)?;
+    text.push(b'\n')?;
+    text.extend_from_slice(&counter_text(alloc)?)?;
+    Ok(text)
+}
+
 #[test]
 fn comments_have_200_bytes_at_most(rt: HostRuntime) -> Result<(), Fail> {
-    let mut text = LONG.to_vec(rt.alloc())?;
-    text.push(b'\n')?;
-    text.extend_from_slice(&counter_text(rt.alloc())?)?;
-    assert!(rt; read_type(rt.alloc(), &text).is_ok());
-    text.insert(0, b'#')?;
+    assert!(rt; fault_of(rt.alloc(), &commented(rt.alloc(), b"")?) == None);
+    let text = commented(rt.alloc(), b"#")?;
     has_fault(&rt, &text, 1, FaultKind::LineTooLong);
     Ok(())
 }
 
-/// Each beginning of the counter's text, and the text with each byte replaced by one that isn't ASCII.
+/// Each beginning of the counter's text has a fault: what is missing, or that a line has no end.
 #[test]
-fn beginnings_and_other_bytes_have_their_faults(rt: HostRuntime) -> Result<(), Fail> {
+fn beginnings_have_their_faults(rt: HostRuntime) -> Result<(), Fail> {
     let text = counter_text(rt.alloc())?;
-    assert_eq!(rt; text.len(), 188);
+    assert!(rt; text.len() == 188);
     let mut line = 1usize;
     let mut kind = FaultKind::Missing;
-    for place in 0..text.len() {
+    for (place, byte) in text.iter().enumerate() {
         has_fault(&rt, &text[..place], line, kind);
-        let mut other = text.to_vec(rt.alloc())?;
-        other[place] = 128;
-        has_fault(&rt, &other, line, FaultKind::NotAscii);
-        (line, kind) = if text[place] == b'\n' {
-            (line.wrapping_add(1), FaultKind::Missing)
-        } else {
-            (line, FaultKind::Unterminated)
-        };
+        kind = FaultKind::Unterminated;
+        if *byte == b'\n' {
+            line = line.wrapping_add(1);
+            kind = FaultKind::Missing;
+        }
     }
-    assert_eq!(rt; line, 15);
+    assert!(rt; line == 15);
+    Ok(())
+}
+
+/// The text with each byte replaced by one that isn't ASCII has a fault in that byte's line.
+#[test]
+fn other_bytes_have_their_faults(rt: HostRuntime) -> Result<(), Fail> {
+    let mut text = counter_text(rt.alloc())?;
+    let mut line = 1usize;
+    for place in 0..text.len() {
+        let byte = text[place];
+        text[place] = 128;
+        has_fault(&rt, &text, line, FaultKind::NotAscii);
+        text[place] = byte;
+        if byte == b'\n' {
+            line = line.wrapping_add(1);
+        }
+    }
+    assert!(rt; line == 15);
     Ok(())
 }
 
@@ -204,7 +261,7 @@ fn full_text(alloc: Global, ops: u32) -> Result<String, AllocError> {
     for s in 0..1024u32 {
         for k in 0..ops {
             let next = (s + k % 64) % 1024;
-            write!(text, "step {s} {k} {next}\n")?;
+            add_step(&mut text, s, k, next)?;
         }
     }
     text.push_str("end\n")?;
@@ -218,18 +275,27 @@ pub fn largest_table(alloc: Global) -> Result<TypeTable, Fail> {
     Ok(file.table)
 }
 
-#[test]
-fn reads_the_largest_table(rt: HostRuntime) -> Result<(), Fail> {
-    let table = largest_table(rt.alloc())?;
-    assert_eq!(rt; table.states(), 1024);
-    assert_eq!(rt; table.op_count(), 64);
-    assert_eq!(rt; table.initial(), 1023);
+/// Whether each operation of a table of 1,024 states and 64 operations leads as many states on as its
+/// number says, in a circle.
+fn is_circle(table: &TypeTable) -> bool
+    requires states { table.now.states ≡ 1024 }
+    requires operations { length table.now.ops ≡ 64 }
+{
+    let mut is_same = true;
     for s in 0..1024 {
         for k in 0..64 {
             let next = (s + u16::from(k)) % 1024;
-            assert!(rt; table.next(s, k) == Some(next));
+            is_same &= table.next(s, k) == Some(next);
         }
     }
+    is_same
+}
+
+#[test]
+fn reads_the_largest_table(rt: HostRuntime) -> Result<(), Fail> {
+    let table = largest_table(rt.alloc())?;
+    assert!(rt; table.initial() == 1023);
+    assert!(rt; table.states() == 1024 && table.op_count() == 64 && is_circle(&table));
     Ok(())
 }
 

@@ -1,5 +1,6 @@
 //! Names, operations, tables, and sets of states and of conflicts.
 
+use crate::tests::printed::are_printed;
 use std::alloc::Global;
 use std::collections::HashSet;
 use std::process::Abort;
@@ -63,18 +64,31 @@ pub fn assert_parts(rt: &impl Abort, table: &TypeTable, name: &str, parts: &Part
     let (states, initial, ops, steps) = *parts;
     assert!(rt; table.name().as_bytes() == name.as_bytes());
     assert!(rt; (table.states() == states) & (table.initial() == initial));
-    assert!(rt; (table.ops().len() == ops.len()) & (usize::from(table.op_count()) == ops.len()));
+    assert!(rt; has_ops(table, ops));
+    assert!(rt; has_steps(table, steps));
+}
+
+/// Whether these are the operations of a table.
+fn has_ops(table: &TypeTable, ops: &[(&str, &str)]) -> bool {
+    let mut is_same = usize::from(table.op_count()) == ops.len();
+    is_same &= table.ops().len() == ops.len();
     for (op, (call, reply)) in table.ops().iter().zip(ops) {
-        assert!(rt;
-            (op.call.as_bytes() == call.as_bytes()) & (op.reply.as_bytes() == reply.as_bytes())
-        );
+        is_same &= op.call.as_bytes() == call.as_bytes();
+        is_same &= op.reply.as_bytes() == reply.as_bytes();
     }
+    is_same
+}
+
+/// Whether these are its steps, state by state.
+fn has_steps(table: &TypeTable, steps: &[Option<u16>]) -> bool {
+    let mut is_same = true;
     let mut steps = steps.iter();
     for s in 0..table.states() {
         for k in 0..table.op_count() {
-            assert!(rt; steps.next() == Some(&table.next(s, k)), "at {s} {k}");
+            is_same &= steps.next() == Some(&table.next(s, k));
         }
     }
+    is_same
 }
 
 /// Texts, and which of them are names.
@@ -94,58 +108,114 @@ static NAMES: [(&str, bool); 13] = [
     ("`", false),
 ];
 
+/// Whether a text makes a name of its bytes, or none, from a `str` and from bytes alike.
+fn makes_name(text: &str, is_name: bool) -> bool {
+    let name = Name::new(text);
+    let is_same = name == Name::from_bytes(text.as_bytes());
+    match name {
+        Some(name) => is_same & is_name & (name.as_bytes() == text.as_bytes()),
+        None => is_same & !is_name,
+    }
+}
+
+/// That each of these texts makes a name, or none.
+fn make_names(rt: &impl Abort, rows: &[(&str, bool)]) {
+    for (text, is_name) in rows {
+        assert!(rt; makes_name(text, *is_name));
+    }
+}
+
 #[test]
 fn names_are_of_few_bytes(rt: HostRuntime) {
-    for (text, is_name) in NAMES {
-        let name = Name::new(text);
-        assert!(rt; name == Name::from_bytes(text.as_bytes()));
-        assert!(rt; name.is_some() == is_name, "at {text}");
-        if let Some(name) = name {
-            assert!(rt; name.as_bytes() == text.as_bytes());
-        }
+    make_names(&rt, &NAMES);
+}
+
+/// Operations, and whether they are in the set of the first.
+static IN_SET: [(&str, &str, bool); 3] = [
+    ("deq", "a", true),
+    ("deq", "b", false),
+    ("enq", "a", false),
+];
+
+/// That each of these operations is in a set, or not.
+fn are_in(rt: &impl Abort, ops: &HashSet<Op>, rows: &[(&str, &str, bool)]) -> Result<(), Fail> {
+    for (call, reply, is_there) in rows {
+        let op = op_of(call, reply)?;
+        assert!(rt; ops.contains(&op) == *is_there);
     }
+    Ok(())
 }
 
 #[test]
 fn operations_are_found_by_their_bytes(rt: HostRuntime) -> Result<(), Fail> {
     let mut ops = HashSet::new(rt.alloc());
     ops.insert(op_of("deq", "a")?)?;
-    for (call, reply, is_there) in [("deq", "a", true), ("deq", "b", false), ("enq", "a", false)] {
-        assert!(rt; ops.contains(&op_of(call, reply)?) == is_there);
-    }
-    Ok(())
+    are_in(&rt, &ops, &IN_SET)
+}
+
+/// The table of these parts.
+pub fn good_table(alloc: Global, name: &str, parts: &Parts) -> Result<TypeTable, Fail> {
+    Ok(table_of(alloc, name, parts)??)
 }
 
 #[test]
 fn counter_and_its_copy_have_their_parts(rt: HostRuntime) -> Result<(), Fail> {
-    let table = table_of(rt.alloc(), "counter", &COUNTER)??;
+    let table = good_table(rt.alloc(), "counter", &COUNTER)?;
     assert_parts(&rt, &table, "counter", &COUNTER);
     assert_parts(&rt, &table.copy(rt.alloc())?, "counter", &COUNTER);
     Ok(())
 }
 
+/// A state, operations that are run from it in turn, and where they lead.
+static RUNS: [(u16, &[u8], Option<u16>); 5] = [
+    (1, &[], Some(1)),
+    (0, &[0, 0], Some(2)),
+    (0, &[0, 0, 1, 1, 0], Some(1)),
+    (0, &[0, 0, 0], None),
+    (0, &[1, 0], None),
+];
+
+/// That each of these runs leads there.
+fn runs_lead(rt: &impl Abort, table: &TypeTable, rows: &[(u16, &[u8], Option<u16>)]) {
+    for (s, ops, wanted) in rows {
+        assert!(rt; *s < table.states() && ops.iter().all(|k| *k < table.op_count()));
+        assert!(rt; table.run(*s, ops) == *wanted);
+    }
+}
+
 #[test]
 fn counter_runs(rt: HostRuntime) -> Result<(), Fail> {
-    let table = table_of(rt.alloc(), "counter", &COUNTER)??;
-    assert_eq!(rt; table.states(), 3);
-    assert_eq!(rt; table.op_count(), 2);
-    assert!(rt; (table.run(1, &[]) == Some(1)) & (table.run(0, &[0, 0]) == Some(2)));
-    assert!(rt; table.run(0, &[0, 0, 1, 1, 0]) == Some(1));
-    assert!(rt; (table.run(0, &[0, 0, 0]) == None) & (table.run(0, &[1, 0]) == None));
+    let table = good_table(rt.alloc(), "counter", &COUNTER)?;
+    runs_lead(&rt, &table, &RUNS);
     Ok(())
+}
+
+/// Names of calls, and their first operations in the queue.
+static FIRSTS: [(&str, Option<u8>); 3] = [("enq", Some(0)), ("deq", Some(1)), ("ok", None)];
+
+/// That each of these calls has this first operation.
+fn have_first(rt: &impl Abort, table: &TypeTable, rows: &[(&str, Option<u8>)]) {
+    for (name, first) in rows {
+        assert!(rt; table.first_op(name) == *first);
+    }
+}
+
+/// Operations of the queue, and whether they are of one call.
+static CALLS: [(u8, u8, bool); 4] = [(1, 2, true), (2, 1, true), (0, 0, true), (0, 1, false)];
+
+/// That each two of these operations are of one call, or not.
+fn are_of_one_call(rt: &impl Abort, table: &TypeTable, rows: &[(u8, u8, bool)]) {
+    for (k, c, is_same) in rows {
+        assert!(rt; *k < table.op_count() && *c < table.op_count());
+        assert!(rt; table.same_call(*k, *c) == *is_same);
+    }
 }
 
 #[test]
 fn calls_have_a_first_operation(rt: HostRuntime) -> Result<(), Fail> {
-    let queue = table_of(rt.alloc(), "queue", &QUEUE)??;
-    for (name, first) in [("enq", Some(0)), ("deq", Some(1)), ("ok", None)] {
-        assert!(rt; queue.first_op(name) == first);
-    }
-    for (k, c, is_same) in [(1, 2, true), (2, 1, true), (0, 0, true), (0, 1, false)] {
-        assert!(rt;
-            k < queue.op_count() && c < queue.op_count() && queue.same_call(k, c) == is_same
-        );
-    }
+    let queue = good_table(rt.alloc(), "queue", &QUEUE)?;
+    have_first(&rt, &queue, &FIRSTS);
+    are_of_one_call(&rt, &queue, &CALLS);
     Ok(())
 }
 
@@ -183,13 +253,21 @@ static FAULTS: [(Parts, Option<TableError>); 12] = [
     ),
 ];
 
-#[test]
-fn faults_come_in_order(rt: HostRuntime) -> Result<(), Fail> {
-    for (parts, fault) in &FAULTS {
+/// That each of these parts have their fault.
+fn have_faults(
+    rt: &(impl Abort + AllocGlobal),
+    rows: &[(Parts, Option<TableError>)],
+) -> Result<(), Fail> {
+    for (parts, fault) in rows {
         let made = table_of(rt.alloc(), "made", parts)?;
         assert!(rt; made.err() == *fault);
     }
     Ok(())
+}
+
+#[test]
+fn faults_come_in_order(rt: HostRuntime) -> Result<(), Fail> {
+    have_faults(&rt, &FAULTS)
 }
 
 #[test]
@@ -217,35 +295,53 @@ static PAIRS: [(u8, u8, bool); 6] = [
     (63, 62, false),
 ];
 
-#[test]
-fn conflicts_have_a_direction(rt: HostRuntime) {
-    let mut table = ConflictTable::new(64);
-    for (p, q, _) in PAIRS {
-        assert!(rt; p < table.ops() && q < table.ops() && !table.conflicts(p, q));
+/// Whether two operations, if they are ones, conflict.
+fn conflicts_at(table: &ConflictTable, p: u8, q: u8) -> bool {
+    p < table.ops() && q < table.ops() && table.conflicts(p, q)
+}
+
+/// Whether two operations, if they are ones, conflict by the row of the first.
+fn is_in_row(table: &ConflictTable, p: u8, q: u8) -> bool {
+    p < table.ops() && q < 64 && table.row(p) >> q & 1 == 1
+}
+
+/// That each two of these operations conflict, or not, where there are 64.
+fn conflict_as_told(rt: &impl Abort, table: &ConflictTable, rows: &[(u8, u8, bool)]) {
+    assert!(rt; table.ops() == 64);
+    for (p, q, is_there) in rows {
+        assert!(rt; conflicts_at(table, *p, *q) == *is_there);
+        assert!(rt; is_in_row(table, *p, *q) == *is_there);
     }
-    table.set(0, 0);
-    table.set(63, 63);
-    table.set(63, 0);
-    let copy = table.copy();
-    for (p, q, is_there) in PAIRS {
-        assert!(rt; p < copy.ops() && q < copy.ops() && copy.conflicts(p, q) == is_there);
+}
+
+/// That no two of them conflict.
+fn never_conflict(rt: &impl Abort, table: &ConflictTable, rows: &[(u8, u8, bool)]) {
+    for (p, q, _) in rows {
+        assert!(rt; !conflicts_at(table, *p, *q));
     }
-    assert!(rt; copy.ops() == 64);
 }
 
 #[test]
+fn conflicts_have_a_direction(rt: HostRuntime) {
+    let mut table = ConflictTable::new(64);
+    never_conflict(&rt, &table, &PAIRS);
+    table.set(0, 0);
+    table.set(63, 63);
+    table.set(63, 0);
+    conflict_as_told(&rt, &table.copy(), &PAIRS);
+}
+
+static KINDS: [(Kind, &str); 2] = [(Kind::Undo, "undo"), (Kind::Intentions, "intentions")];
+
+static ERRORS: [(TableError, &str); 4] = [
+    (TableError::BadCount, "BadCount"),
+    (TableError::BadInitial, "BadInitial"),
+    (TableError::BadStep, "BadStep"),
+    (TableError::TwiceOp, "TwiceOp"),
+];
+
+#[test]
 fn words_are_printed(rt: HostRuntime) -> Result<(), Fail> {
-    for (kind, word) in [(Kind::Undo, "undo"), (Kind::Intentions, "intentions")] {
-        assert!(rt; kind.to_string(rt.alloc())?.as_str() == word);
-    }
-    let errors = [
-        (TableError::BadCount, "BadCount"),
-        (TableError::BadInitial, "BadInitial"),
-        (TableError::BadStep, "BadStep"),
-        (TableError::TwiceOp, "TwiceOp"),
-    ];
-    for (error, word) in errors {
-        assert!(rt; error.to_string(rt.alloc())?.as_str() == word);
-    }
-    Ok(())
+    are_printed(&rt, &KINDS)?;
+    are_printed(&rt, &ERRORS)
 }

@@ -2,6 +2,7 @@
 
 use command_words::{Task, Topic, VERSION, WordFault, read_words};
 use std::alloc::Global;
+use std::process::Abort;
 
 /// A task's command, the words that it has, and its items.
 type Parts = (
@@ -79,15 +80,24 @@ static TASKS: [(&[&str], Parts); 14] = [
     (&["-V"], ("version", "colock 0.1.0\n", "", &[])),
 ];
 
+/// Whether the words ask for the task of these parts.
+fn asks_for(alloc: Global, words: &[&str], parts: &Parts) -> bool {
+    match read_words(alloc, words) {
+        Ok(task) => has_parts(&task, parts),
+        Err(_) => false,
+    }
+}
+
+/// That each of these words ask for their task.
+fn ask_for_tasks(rt: &(impl Abort + AllocGlobal), rows: &[(&[&str], Parts)]) {
+    for (words, parts) in rows {
+        assert!(rt; asks_for(rt.alloc(), words, parts));
+    }
+}
+
 #[test]
 fn reads_tasks(rt: HostRuntime) {
-    for (words, wanted) in TASKS {
-        let task = read_words(rt.alloc(), words);
-        assert!(rt;
-            matches!(&task, Ok(task) if has_parts(task, &wanted)),
-            "at {words:?}"
-        );
-    }
+    ask_for_tasks(&rt, &TASKS);
 }
 
 /// Words that ask for no task.
@@ -128,11 +138,20 @@ fn usage_of(alloc: Global, words: &[&str]) -> String {
     }
 }
 
+/// That each of these words ask for no task.
+fn are_refused(rt: &(impl Abort + AllocGlobal), rows: &[&[&str]]) {
+    for words in rows {
+        assert!(rt; !usage_of(rt.alloc(), words).is_empty());
+    }
+}
+
 #[test]
 fn refuses_other_words(rt: HostRuntime) {
-    for words in REFUSED {
-        assert!(rt; !usage_of(rt.alloc(), words).is_empty(), "at {words:?}");
-    }
+    are_refused(&rt, &REFUSED);
+}
+
+#[test]
+fn usage_names_what_is_missing(rt: HostRuntime) {
     let text = usage_of(rt.alloc(), &["check", "undo"]);
     assert!(rt; text.contains("Usage: colock check <KIND> <FILE>"));
 }
@@ -147,9 +166,14 @@ static HELP: [(&[&str], Topic); 6] = [
     (&["tables", "-h"], Topic::Tables),
 ];
 
-#[test]
-fn options_for_help_have_its_text(rt: HostRuntime) {
-    for (words, topic) in HELP {
+/// That each of these words are answered with their text.
+fn have_texts(rt: &(impl Abort + AllocGlobal), rows: &[(&[&str], Topic)]) {
+    for (words, topic) in rows {
         assert!(rt; usage_of(rt.alloc(), words).as_str() == topic.text());
     }
+}
+
+#[test]
+fn options_for_help_have_its_text(rt: HostRuntime) {
+    have_texts(&rt, &HELP);
 }

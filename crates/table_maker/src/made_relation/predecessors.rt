@@ -7,7 +7,7 @@ use type_table::TypeTable;
 /// The states from which each operation of a table leads to each state.
 #[derive(Drop)]
 pub struct Predecessors {
-    /// A list for each state and operation: that of state t and operation k stands at `t * ops + k`.
+    /// A list for each state and operation: that of state t and operation k is at `t * ops + k`.
     lists: Vec<Vec<u16>>,
     states: u16,
     ops: u8,

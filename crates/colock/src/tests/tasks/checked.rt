@@ -2,10 +2,11 @@
 
 use super::changed;
 use super::types::COUNTER;
+use crate::tests::printed::are_printed;
 use std::process::Abort;
 use std::test::Fail;
 use table_checker::{
-    CheckRefusal, check, check_parallel, one_answer, strong_yes_covers, yes_covers,
+    CheckRefusal, CheckedType, check, check_parallel, one_answer, strong_yes_covers, yes_covers,
 };
 use table_maker::MakeError;
 use type_table::{ConflictTable, Kind};
@@ -15,50 +16,70 @@ use type_text::{Sink, TypeFile, read_type, write_type};
 fn is_file<R: Abort + AllocGlobal>(rt: &R, file: &TypeFile, text: &[u8]) {
     let mut out = Sink::new(Vec::new(rt.alloc()));
     assert!(rt; write_type(file, &mut out).is_ok());
-    assert_eq!(rt; out.into_inner().as_slice(), text);
+    assert!(rt; out.into_inner().as_slice() == text);
 }
 
-/// Which pairs conflict, where there are two operations.
-fn rows_of(conflicts: &ConflictTable) -> Option<[[bool; 2]; 2]> {
-    if conflicts.ops() != 2 {
-        return None;
-    }
-    Some([
-        [conflicts.conflicts(0, 0), conflicts.conflicts(0, 1)],
-        [conflicts.conflicts(1, 0), conflicts.conflicts(1, 1)],
-    ])
+/// Whether these are the conflicts of two operations, of which each conflicts with itself alone.
+fn are_of_two_alone(conflicts: &ConflictTable) -> bool {
+    conflicts.ops() == 2
+        && conflicts.conflicts(0, 0)
+        && !conflicts.conflicts(0, 1)
+        && !conflicts.conflicts(1, 0)
+        && conflicts.conflicts(1, 1)
+}
+
+/// That this is the counter, accepted for deferred update.
+fn is_counter<R: Abort + AllocGlobal>(rt: &R, checked: &CheckedType) {
+    assert!(rt; checked.kind() == Kind::Intentions);
+    assert!(rt; checked.is_strong());
+    assert!(rt; checked.table().name().as_bytes() == b"counter".as_slice());
+    assert!(rt; are_of_two_alone(checked.conflicts()));
+    is_file(rt, checked.file(), COUNTER.as_bytes());
 }
 
 #[test]
 fn accepted_counter_has_its_parts(rt: HostRuntime) -> Result<(), Fail> {
     let file = read_type(rt.alloc(), COUNTER.as_bytes())?;
-    let checked = check(file, Kind::Intentions).ok().ok_or("refused")?;
-    assert_eq!(rt; checked.kind(), Kind::Intentions);
-    assert!(rt; checked.is_strong());
-    assert_eq!(rt; checked.table().name().as_bytes(), b"counter".as_slice());
-    assert_eq!(rt;
-        rows_of(checked.conflicts()),
-        Some([[true, false], [false, true]])
-    );
-    is_file(&rt, checked.file(), COUNTER.as_bytes());
+    match check(file, Kind::Intentions) {
+        Ok(checked) => is_counter(&rt, &checked),
+        Err(_) => Err("refused")?,
+    }
+    Ok(())
+}
+
+/// The conflicts of the counter.
+const PAIRS: &str =
+    "conflict undo 0 1\nconflict undo 1 0\nconflict intentions 0 0\nconflict intentions 1 1\n";
+
+/// That a text comes back with this refusal.
+fn comes_back<R: Abort + AllocGlobal>(
+    rt: &R,
+    text: &[u8],
+    checked: Result<CheckedType, (TypeFile, CheckRefusal)>,
+    wanted: CheckRefusal,
+) -> Result<(), Fail> {
+    let Err((file, refusal)) = checked else {
+        return Err("accepted")?;
+    };
+    assert!(rt; refusal == wanted);
+    is_file(rt, &file, text);
     Ok(())
 }
 
 #[test]
-fn refused_counters_come_back(rt: HostRuntime) -> Result<(), Fail> {
-    let pairs =
-        "conflict undo 0 1\nconflict undo 1 0\nconflict intentions 0 0\nconflict intentions 1 1\n";
-    let text = changed(rt.alloc(), COUNTER, pairs, b"conflict intentions 1 1\n")?;
+fn refused_counter_comes_back(rt: HostRuntime) -> Result<(), Fail> {
+    let text = changed(rt.alloc(), COUNTER, PAIRS, b"conflict intentions 1 1\n")?;
     let checked = check(read_type(rt.alloc(), &text)?, Kind::Intentions);
-    let (file, refusal) = checked.err().ok_or("accepted")?;
-    assert_eq!(rt; refusal, CheckRefusal::NotCommuting { p: 0, q: 0, s: 1 });
-    is_file(&rt, &file, &text);
-    let text = changed(rt.alloc(), COUNTER, pairs, b"conflict undo 1 0\n")?;
+    let wanted = CheckRefusal::NotCommuting { p: 0, q: 0, s: 1 };
+    comes_back(&rt, &text, checked, wanted)
+}
+
+#[test]
+fn counter_refused_in_parallel_comes_back(rt: HostRuntime) -> Result<(), Fail> {
+    let text = changed(rt.alloc(), COUNTER, PAIRS, b"conflict undo 1 0\n")?;
     let checked = check_parallel(&rt, read_type(rt.alloc(), &text)?, Kind::Undo);
-    let (file, refusal) = checked.err().ok_or("accepted")?;
-    assert_eq!(rt; refusal, CheckRefusal::NotCommuting { p: 0, q: 1, s: 2 });
-    is_file(&rt, &file, &text);
-    Ok(())
+    let wanted = CheckRefusal::NotCommuting { p: 0, q: 1, s: 2 };
+    comes_back(&rt, &text, checked, wanted)
 }
 
 /// Refusals, and how they are printed.
@@ -91,13 +112,8 @@ static ERRORS: [(MakeError, &str); 3] = [
 
 #[test]
 fn faults_are_printed(rt: HostRuntime) -> Result<(), Fail> {
-    for (refusal, wanted) in REFUSALS {
-        assert_eq!(rt; refusal.to_string(rt.alloc())?.as_str(), wanted);
-    }
-    for (error, wanted) in ERRORS {
-        assert_eq!(rt; error.to_string(rt.alloc())?.as_str(), wanted);
-    }
-    Ok(())
+    are_printed(&rt, &REFUSALS)?;
+    are_printed(&rt, &ERRORS)
 }
 
 #[test]

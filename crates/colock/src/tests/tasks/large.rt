@@ -1,6 +1,7 @@
 //! Types of 1,024 states.
 
 use std::alloc::{AllocError, Global};
+use std::fmt::Write;
 
 /// The text of the set of ten elements, of 40 operations. State s is the set of the elements whose bit
 /// is one in s.
@@ -8,11 +9,11 @@ pub fn set_of_ten(alloc: Global) -> Result<String, AllocError> {
     let mut text = String::from_str(alloc, SET_OF_TEN)?;
     for s in 0..1024 {
         for e in 0..10 {
-            add_steps(alloc, &mut text, s, e)?;
+            add_steps(&mut text, s, e)?;
         }
     }
-    add_conflicts(alloc, &mut text, "undo", &UNDO_PAIRS)?;
-    add_conflicts(alloc, &mut text, "intentions", &INTENTIONS_PAIRS)?;
+    add_conflicts(&mut text, "conflict undo", &UNDO_PAIRS)?;
+    add_conflicts(&mut text, "conflict intentions", &INTENTIONS_PAIRS)?;
     text.push_str("end\n")?;
     Ok(text)
 }
@@ -70,32 +71,34 @@ static UNDO_PAIRS: [(u32, u32); 6] = [(0, 1), (0, 3), (1, 0), (1, 2), (2, 0), (3
 /// The same under deferred update.
 static INTENTIONS_PAIRS: [(u32, u32); 6] = [(0, 1), (0, 3), (1, 0), (1, 2), (2, 1), (3, 0)];
 
+/// Adds the line of a step.
+pub fn add_step(text: &mut String, s: u32, k: u32, t: u32) -> Result<(), AllocError> {
+    write!(text, "step {s} {k} {t}\n")?;
+    Ok(())
+}
+
+/// Adds a line of a word and two numbers.
+fn add_pair(text: &mut String, word: &str, first: u32, second: u32) -> Result<(), AllocError> {
+    write!(text, "{word} {first} {second}\n")?;
+    Ok(())
+}
+
 /// The `step` lines of a state and the operations of an element.
-fn add_steps(alloc: Global, text: &mut String, s: u32, e: u32) -> Result<(), AllocError> {
+fn add_steps(text: &mut String, s: u32, e: u32) -> Result<(), AllocError> {
     let bit = 1 << e % 10;
     let (with, without) = (s | bit, s & !bit);
     let insert = 4 * (e % 10);
     let member = if s == with { insert + 2 } else { insert + 3 };
-    let delete = insert + 1;
-    let lines = format!(in alloc;
-        "step {s} {insert} {with}\nstep {s} {delete} {without}\nstep {s} {member} {s}\n"
-    )?;
-    text.push_str(&lines)
+    add_step(text, s, insert, with)?;
+    add_step(text, s, insert + 1, without)?;
+    add_step(text, s, member, s)
 }
 
-/// The `conflict` lines of a kind.
-fn add_conflicts(
-    alloc: Global,
-    text: &mut String,
-    kind: &str,
-    pairs: &[(u32, u32)],
-) -> Result<(), AllocError> {
+/// The `conflict` lines that begin with this word.
+fn add_conflicts(text: &mut String, word: &str, pairs: &[(u32, u32)]) -> Result<(), AllocError> {
     for e in 0..10 {
         for (p, q) in pairs {
-            let requested = 4 * e + p % 4;
-            let held = 4 * e + q % 4;
-            let line = format!(in alloc; "conflict {kind} {requested} {held}\n")?;
-            text.push_str(&line)?;
+            add_pair(text, word, 4 * e + p % 4, 4 * e + q % 4)?;
         }
     }
     Ok(())
@@ -105,8 +108,7 @@ fn add_conflicts(
 fn head_of_64(alloc: Global) -> Result<String, AllocError> {
     let mut text = String::from_str(alloc, "type large\nstates 1024\ninitial 0\n")?;
     for k in 0..64 {
-        let line = format!(in alloc; "op call:{k} ok\n")?;
-        text.push_str(&line)?;
+        write!(text, "op call:{k} ok\n")?;
     }
     Ok(text)
 }
@@ -117,8 +119,7 @@ pub fn largest(alloc: Global) -> Result<String, AllocError> {
     let mut text = head_of_64(alloc)?;
     for s in 0..1024 {
         for k in 0..63 {
-            let line = format!(in alloc; "step {s} {k} {s}\n")?;
-            text.push_str(&line)?;
+            add_step(&mut text, s, k, s)?;
         }
     }
     text.push_str("step 1023 63 0\nend\n")?;
@@ -132,8 +133,7 @@ pub fn circle(alloc: Global) -> Result<String, AllocError> {
     for s in 0..1024 {
         for k in 0..64 {
             let t = (s % 1024 + k % 64) % 1024;
-            let line = format!(in alloc; "step {s} {k} {t}\n")?;
-            text.push_str(&line)?;
+            add_step(&mut text, s, k, t)?;
         }
     }
     Ok(text)
@@ -146,20 +146,17 @@ pub fn countdown(alloc: Global) -> Result<String, AllocError> {
         "type down\nstates 1024\ninitial 1023\nop down down\n",
     )?;
     for t in 0..1023 {
-        let s = t + 1;
-        let line = format!(in alloc; "step {s} 0 {t}\n")?;
-        text.push_str(&line)?;
+        add_step(&mut text, t + 1, 0, t)?;
     }
     Ok(text)
 }
 
 /// Adds the `equi` lines of all different states, or of those where the first is the smaller.
-pub fn add_pairs(alloc: Global, text: &mut String, both_ways: bool) -> Result<(), AllocError> {
+pub fn add_pairs(text: &mut String, both_ways: bool) -> Result<(), AllocError> {
     for s in 0..1024 {
         for t in 0..1024 {
             if s < t || both_ways && t < s {
-                let line = format!(in alloc; "equi {s} {t}\n")?;
-                text.push_str(&line)?;
+                add_pair(text, "equi", s, t)?;
             }
         }
     }

@@ -255,17 +255,30 @@ fn made<R: Abort + AllocGlobal + Threads + Sync>(
     }
 }
 
-#[test]
-fn makes_the_families(rt: HostRuntime) -> Result<(), Fail> {
+/// That a text is good for both kinds of recovery.
+fn is_good<R: Abort + AllocGlobal + Threads + Sync>(rt: &R, text: &str) {
     let path = "ctr2.type";
-    for (words, text) in TEXTS {
-        let text = text.as_bytes();
-        assert!(rt; made(&rt, words, "", 0)?.as_slice() == text, "{words}");
-        for kind in [Kind::Undo, Kind::Intentions] {
-            writes(&rt, Task::Check { kind, path }, text, b"yes strong\n", 0);
-        }
+    for kind in [Kind::Undo, Kind::Intentions] {
+        let task = Task::Check { kind, path };
+        writes(rt, task, text.as_bytes(), b"yes strong\n", 0);
+    }
+}
+
+/// That each of these words make their text, which is good.
+fn makes_texts<R: Abort + AllocGlobal + Threads + Sync>(
+    rt: &R,
+    rows: &[(&str, &str)],
+) -> Result<(), Fail> {
+    for (words, text) in rows {
+        assert!(rt; made(rt, words, "", 0)?.as_slice() == text.as_bytes());
+        is_good(rt, text);
     }
     Ok(())
+}
+
+#[test]
+fn makes_the_families(rt: HostRuntime) -> Result<(), Fail> {
+    makes_texts(&rt, &TEXTS)
 }
 
 #[test]
@@ -282,23 +295,38 @@ fn ops_of(text: &[u8]) -> usize {
     lines.filter(|line| line.starts_with(b"op ")).count()
 }
 
+/// That each of these words make a text that begins so, of so many operations.
+fn makes_heads<R: Abort + AllocGlobal + Threads + Sync>(
+    rt: &R,
+    rows: &[(&str, &str, usize)],
+) -> Result<(), Fail> {
+    for (words, head, ops) in rows {
+        let out = made(rt, words, "", 0)?;
+        assert!(rt; out.starts_with(head.as_bytes()));
+        assert!(rt; ops_of(&out) == *ops);
+    }
+    Ok(())
+}
+
 #[test]
 fn makes_up_to_the_limits(rt: HostRuntime) -> Result<(), Fail> {
-    for (words, head, ops) in HEADS {
-        let out = made(&rt, words, "", 0)?;
-        assert!(rt; out.starts_with(head.as_bytes()), "{words}");
-        assert_eq!(rt; ops_of(&out), ops, "{words}");
+    makes_heads(&rt, &HEADS)
+}
+
+/// That nothing is made of each of these words, and this is said.
+fn refuses<R: Abort + AllocGlobal + Threads + Sync>(
+    rt: &R,
+    rows: &[&str],
+    err: &str,
+) -> Result<(), Fail> {
+    for words in rows {
+        assert!(rt; made(rt, words, err, 2)?.is_empty());
     }
     Ok(())
 }
 
 #[test]
 fn refuses_parameters(rt: HostRuntime) -> Result<(), Fail> {
-    for words in TOO_LARGE {
-        assert!(rt; made(&rt, words, "colock: TooLarge\n", 2)?.is_empty());
-    }
-    for words in BAD {
-        assert!(rt; made(&rt, words, "colock: BadParameter\n", 2)?.is_empty());
-    }
-    Ok(())
+    refuses(&rt, &TOO_LARGE, "colock: TooLarge\n")?;
+    refuses(&rt, &BAD, "colock: BadParameter\n")
 }

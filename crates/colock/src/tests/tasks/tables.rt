@@ -73,13 +73,21 @@ conflict intentions 3 3
     (IDLE, "reach 0\n", "", MADE_EVERYWHERE),
 ];
 
-#[test]
-fn makes_tables_anew(rt: HostRuntime) -> Result<(), Fail> {
-    for (whole, old, new, made) in MADE {
+/// That of each of these texts its tables are made.
+fn makes_all<R: Abort + AllocGlobal + Threads + Sync>(
+    rt: &R,
+    rows: &[(&str, &str, &str, &str)],
+) -> Result<(), Fail> {
+    for (whole, old, new, made) in rows {
         let text = changed(rt.alloc(), whole, old, new.as_bytes())?;
-        writes(&rt, TABLES, &text, made.as_bytes(), 0);
+        writes(rt, TABLES, &text, made.as_bytes(), 0);
     }
     Ok(())
+}
+
+#[test]
+fn makes_tables_anew(rt: HostRuntime) -> Result<(), Fail> {
+    makes_all(&rt, &MADE)
 }
 
 /// That of these lines these pairs of states and these conflicts are made.
@@ -91,7 +99,7 @@ fn makes_pairs<R: Abort + AllocGlobal + Threads + Sync>(
 ) -> Result<(), Fail> {
     let mut made = String::from_str(rt.alloc(), &text)?;
     text.push_str("end\n")?;
-    add_pairs(rt.alloc(), &mut made, both_ways)?;
+    add_pairs(&mut made, both_ways)?;
     made.push_str(conflicts)?;
     made.push_str("end\n")?;
     writes(rt, TABLES, text.as_bytes(), made.as_bytes(), 0);

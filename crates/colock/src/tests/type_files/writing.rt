@@ -70,7 +70,7 @@ end
 # The line  above.
 ";
 
-/// What stands in place of a line of the counter's text, and what is written for it.
+/// What is put in place of a line of the counter's text, and what is written for it.
 static LINES: [(usize, &[u8], &[u8]); 6] = [
     (14, b"end\n", b"end\n"),
     // Comments and spaces.
@@ -101,23 +101,35 @@ fn written(alloc: Global, file: &TypeFile) -> Result<Vec<u8>, OutFault> {
     Ok(out.into_inner())
 }
 
+/// That a file is written so.
+fn is_written(rt: &(impl Abort + AllocGlobal), file: &TypeFile, wanted: &[u8]) -> Result<(), Fail> {
+    assert!(rt; written(rt.alloc(), file)?.as_slice() == wanted);
+    Ok(())
+}
+
 /// That the file of a text, and a copy of it, are written so.
 fn is_written_as(rt: &(impl Abort + AllocGlobal), text: &[u8], wanted: &[u8]) -> Result<(), Fail> {
     let file = read_type(rt.alloc(), text)?;
-    assert!(rt; written(rt.alloc(), &file)?.as_slice() == wanted);
-    let copy = file.copy(rt.alloc())?;
-    assert!(rt; written(rt.alloc(), &copy)?.as_slice() == wanted);
+    is_written(rt, &file, wanted)?;
+    is_written(rt, &file.copy(rt.alloc())?, wanted)
+}
+
+/// That the counter with each of these lines is written so.
+fn are_written(
+    rt: &(impl Abort + AllocGlobal),
+    rows: &[(usize, &[u8], &[u8])],
+) -> Result<(), Fail> {
+    for (line, bytes, wanted) in rows {
+        let text = counter_with(rt.alloc(), *line, bytes)?;
+        let wanted = counter_with(rt.alloc(), *line, wanted)?;
+        is_written_as(rt, &text, &wanted)?;
+    }
     Ok(())
 }
 
 #[test]
 fn lines_are_written_canonically(rt: HostRuntime) -> Result<(), Fail> {
-    for (line, bytes, wanted) in LINES {
-        let text = counter_with(rt.alloc(), line, bytes)?;
-        let wanted = counter_with(rt.alloc(), line, wanted)?;
-        is_written_as(&rt, &text, &wanted)?;
-    }
-    Ok(())
+    are_written(&rt, &LINES)
 }
 
 #[test]
@@ -129,17 +141,17 @@ fn texts_are_written_canonically(rt: HostRuntime) -> Result<(), Fail> {
     Ok(())
 }
 
+/// That a writer with room for one line, which ends so, has it and stops the text by this fault.
+fn stops(rt: &(impl Abort + AllocGlobal), file: &TypeFile, at_end: AtEnd, fault: OutFault) {
+    let mut out = narrow_sink(rt.alloc(), 3, 13, at_end);
+    assert!(rt; write_type(file, &mut out) == Err(fault));
+    assert!(rt; out.into_inner().held.as_slice() == b"type counter\n".as_slice());
+}
+
 #[test]
 fn a_fault_stops_the_text(rt: HostRuntime) -> Result<(), Fail> {
-    let text = counter_text(rt.alloc())?;
-    let file = read_type(rt.alloc(), &text)?;
-    for (at_end, fault) in [
-        (AtEnd::Fails, OutFault::Device),
-        (AtEnd::TakesNothing, OutFault::WroteNothing),
-    ] {
-        let mut out = narrow_sink(rt.alloc(), 3, 13, at_end);
-        assert!(rt; write_type(&file, &mut out) == Err(fault));
-        assert!(rt; out.into_inner().held.as_slice() == b"type counter\n".as_slice());
-    }
+    let file = read_type(rt.alloc(), &counter_text(rt.alloc())?)?;
+    stops(&rt, &file, AtEnd::Fails, OutFault::Device);
+    stops(&rt, &file, AtEnd::TakesNothing, OutFault::WroteNothing);
     Ok(())
 }

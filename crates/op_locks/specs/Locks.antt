@@ -1,0 +1,47 @@
+-- What a list of held operations means, and who of its transactions keeps another from an operation.
+use Rattle.std.specs.Prelude.{◌≡◌, ℕ, ◌-◌, ◌<◌, List, filter, length, Bool, not, ◌&&◌, ◌==◌, Option, All}
+use Rattle.std.specs.Int.{bit_at}
+use Rattle.std.specs.List.{find, list_any}
+use Rattle.std.specs.Option.{option_map}
+use Rattle.type_table.specs.ConflictTable.{conflicts}
+use Rattle.object_trait.specs.Strike.{keep_first}
+use Rattle.op_locks.specs.declared.held.Held.{Held}
+
+-- what is held, in order of holding, and for how many more there is room
+pub record Locks : Type 0 where
+  pub held : List Held
+  pub room : ℕ
+
+-- t holds it
+abbrev pub is_by : ℕ → Held → Bool
+is_by t e = e.by == t
+
+-- another than t holds it, and k, requested, conflicts with it
+abbrev pub blocks : List (List Bool) → ℕ → ℕ → Held → Bool
+blocks rows t k e = not (is_by t e) && conflicts rows k e.op
+
+-- the holder of the earliest that does
+abbrev pub blocker : List (List Bool) → ℕ → ℕ → List Held → Option ℕ
+blocker rows t k held = option_map (λ e. e.by) (find (blocks rows t k) held)
+
+-- t holds an operation
+abbrev pub holds : ℕ → List Held → Bool
+holds t held = list_any (is_by t) held
+
+-- how many operations t holds
+abbrev pub count_of : ℕ → List Held → ℕ
+count_of t held = length (filter (is_by t) held)
+
+-- what others than t hold
+abbrev pub without : ℕ → List Held → List Held
+without t held = filter (λ e. not (is_by t e)) held
+
+-- what is held, but for the last m of what t holds
+abbrev pub without_last : ℕ → ℕ → List Held → List Held
+without_last t m held = keep_first (is_by t) (count_of t held - m) held
+
+-- ---- as a word of 64 bits
+
+-- each held operation has a bit in the word, which is set
+abbrev pub HasBits : ℕ → List Held → Type 0
+HasBits word held = All (λ e. (e.op < 64) × (bit_at word e.op ≡ 1)) held

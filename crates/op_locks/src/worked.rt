@@ -1,0 +1,40 @@
+//! Worked examples of the definitions: each function does nothing, and its contract is the example.
+
+ghost use Rattle.std.specs.Prelude.{◌≡◌, true, false, [], ◌∷◌, Some, None};
+ghost use Rattle.type_table.specs.Examples.{forward_pairs};
+ghost use Rattle.op_locks.specs.Locks.{blocker, holds, count_of, without, without_last};
+ghost use Rattle.op_locks.specs.Examples.{hold, three_held, one_pair};
+
+pub fn the_earliest_blocks()
+    ensures first { blocker forward_pairs 6 0 three_held ≡ Some 4 }
+    ensures later { blocker forward_pairs 6 1 three_held ≡ Some 5 }
+    ensures nobody { blocker forward_pairs 6 1 (hold 4 0 ∷ []) ≡ None }
+{}
+
+pub fn own_operations_do_not_block()
+    ensures alone { blocker forward_pairs 5 1 (hold 5 1 ∷ []) ≡ None }
+    ensures passed { blocker forward_pairs 5 1 three_held ≡ Some 4 }
+{}
+
+pub fn requested_against_held()
+    ensures requested { blocker one_pair 6 0 (hold 4 1 ∷ []) ≡ Some 4 }
+    ensures exchanged { blocker one_pair 6 1 (hold 4 0 ∷ []) ≡ None }
+{}
+
+pub fn three_are_held()
+    ensures some { holds 4 three_held ≡ true }
+    ensures none { holds 6 three_held ≡ false }
+    ensures two { count_of 4 three_held ≡ 2 }
+{}
+
+pub fn others_stay_in_order()
+    ensures one { without 5 three_held ≡ hold 4 0 ∷ hold 4 1 ∷ [] }
+    ensures two { without 4 three_held ≡ hold 5 1 ∷ [] }
+    ensures none { without 6 three_held ≡ three_held }
+{}
+
+pub fn the_last_are_taken_out()
+    ensures none { without_last 4 0 three_held ≡ three_held }
+    ensures one { without_last 4 1 three_held ≡ hold 4 0 ∷ hold 5 1 ∷ [] }
+    ensures two { without_last 4 2 three_held ≡ hold 5 1 ∷ [] }
+{}

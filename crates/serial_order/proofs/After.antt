@@ -1,0 +1,95 @@
+-- What a history says after one more event.
+use Rattle.std.proofs.Common.{◌≡◌, ℕ, suc, ◌<◌, Bool, true, false, not, ◌&&◌, ◌||◌, ◌==◌, nat_lt, List, [], ◌∷◌, ◌++◌, refl, sym, ap, ◌∙◌, inl, inr, append-nil, arith}
+use Rattle.std.proofs.lemmas.Bool.{cases_Bool, eqb-true, false≢true}
+use Rattle.std.proofs.lemmas.Bool.Decides.{nat_tests}
+use Rattle.object_trait.specs.Object.{Object}
+use Rattle.object_trait.specs.declared.event.EventKind.{EventKind}
+use Rattle.object_trait.specs.declared.event.EventKind.TheVariants as kind
+use Rattle.object_trait.specs.declared.event.EventKind.TheVariants.{Begin, Op, Busy, Commit, Abort, Rollback}
+use Rattle.serial_order.specs.Operations.{is_among}
+use Rattle.serial_order.specs.History.{Seen, is_open}
+use Rattle.serial_order.specs.Machine.{May}
+use Rattle.serial_order.specs.After.{after, SeenAfter, AreInRun, TransactionsInRun, is_open_after}
+use Rattle.serial_order.proofs.Events.{seen_after, seen-snoc}
+use Rattle.serial_order.proofs.Lists.{eqb-sym, is_among-snoc}
+use Rattle.serial_order.proofs.Runs.{transactions_in_run}
+
+-- what is seen after an event is told by its kind
+of_kind : (s : Seen) (happened : EventKind) → seen_after s happened ≡ after s happened
+of_kind s (Begin t) = rw (append-nil s.committed, append-nil s.aborted) refl
+of_kind s (Op t x k) = rw (append-nil s.committed, append-nil s.aborted) refl
+of_kind s (Busy t x c u) = rw (append-nil s.committed, append-nil s.aborted) refl
+of_kind s (kind.None t x c) = rw (append-nil s.committed, append-nil s.aborted) refl
+of_kind s (Commit t) = rw (append-nil s.aborted) refl
+of_kind s (Abort t) = rw (append-nil s.committed) refl
+of_kind s (Rollback t n) = rw (append-nil s.committed, append-nil s.aborted) refl
+
+pub seen_after_one : SeenAfter
+seen_after_one = λ H e. seen-snoc H e ∙ of_kind _ e.kind
+
+pub are_in_run : TransactionsInRun
+are_in_run = transactions_in_run
+
+-- ---- who is open
+
+-- the next number is none of some that are all less
+fresh_among : (ts : List ℕ) (n : ℕ) → ((t : ℕ) → is_among ts t ≡ true → t < n) → is_among ts n ≡ false
+fresh_among ts n less =
+    elim (cases_Bool (is_among ts n)) [
+      | inl inside ↦ let below = less n inside in absurd (omega (arith, below))
+      | inr outside ↦ outside
+    ]
+
+-- a begin
+open-begin : (s : Seen) (u : ℕ) → AreInRun s → is_open (record s { begun = suc s.begun }) u ≡ (u == s.begun || is_open s u)
+open-begin s u known =
+    elim (cases_Bool (u == s.begun)) [
+      | inl is ↦
+          rw (is, eqb-true u s.begun is, fresh_among s.committed s.begun known.committed_began, fresh_among s.aborted s.begun known.aborted_began)
+          (grind (arith, nat_tests))
+      | inr other ↦ rw other (ap (λ b. b && (not (is_among s.committed u) && not (is_among s.aborted u))) (below other))
+    ]
+  where
+    below : (u == s.begun) ≡ false → nat_lt u (suc s.begun) ≡ nat_lt u s.begun
+    below other = grind (arith, nat_tests, other)
+
+-- what is left of three tests where one is joined by a fourth
+pick-first : (a b c d : Bool) → (a && (not (b || d) && not c)) ≡ (not d && (a && (not b && not c)))
+pick-first true true c true = refl
+pick-first true true c false = refl
+pick-first true false true true = refl
+pick-first true false true false = refl
+pick-first true false false true = refl
+pick-first true false false false = refl
+pick-first false b c true = refl
+pick-first false b c false = refl
+
+pick-second : (a b c d : Bool) → (a && (not b && not (c || d))) ≡ (not d && (a && (not b && not c)))
+pick-second true true c true = refl
+pick-second true true c false = refl
+pick-second true false true true = refl
+pick-second true false true false = refl
+pick-second true false false true = refl
+pick-second true false false false = refl
+pick-second false b c true = refl
+pick-second false b c false = refl
+
+-- a commit
+open-commit : (s : Seen) (t u : ℕ) → is_open (record s { committed = s.committed ++ t ∷ [] }) u ≡ (not (u == t) && is_open s u)
+open-commit s t u =
+    rw (is_among-snoc s.committed t u, eqb-sym t u) (pick-first (nat_lt u s.begun) (is_among s.committed u) (is_among s.aborted u) (u == t))
+
+-- an abort
+open-abort : (s : Seen) (t u : ℕ) → is_open (after s (Abort t)) u ≡ (not (u == t) && is_open s u)
+open-abort s t u =
+    rw (is_among-snoc s.aborted t u, eqb-sym t u) (pick-second (nat_lt u s.begun) (is_among s.committed u) (is_among s.aborted u) (u == t))
+
+-- any event
+pub open-after : (objects : List Object) (s : Seen) (happened : EventKind) → AreInRun s → May objects s happened → (u : ℕ) → is_open (after s happened) u ≡ is_open_after s happened u
+open-after objects s (Begin t) known may u = rw may (open-begin s u known)
+open-after objects s (Op t x k) known may u = refl
+open-after objects s (Busy t x c v) known may u = refl
+open-after objects s (kind.None t x c) known may u = refl
+open-after objects s (Commit t) known may u = open-commit s t u
+open-after objects s (Abort t) known may u = open-abort s t u
+open-after objects s (Rollback t n) known may u = refl
