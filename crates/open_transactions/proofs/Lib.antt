@@ -1,0 +1,5 @@
+pub mod Looked
+pub mod Ended
+pub mod Counts
+pub mod Rows
+pub mod Calls

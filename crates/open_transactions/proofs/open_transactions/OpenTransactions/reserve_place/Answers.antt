@@ -1,0 +1,21 @@
+use Rattle.std.proofs.lemmas.Result.{on_ok_weaker}
+use Rattle.std.proofs.Common.{Some, refl, ap, ◌∙◌, arith}
+use Rattle.open_transactions.proofs.Calls.{set-known, set-room}
+use Rattle.open_transactions.proofs.Rows.{rows-same}
+use Rattle.open_transactions.proofs.open_transactions.OpenTransactions.reserve_place.Goals as goal
+
+pub invariant_of-self : goal.invariant_of-self
+invariant_of-self c =
+    set-known c.self.inside.slots.items c.self.inside.slot_of.items c.self.invariant c.args.self.now.rows (ap (λ a. a.rows) c.self.view_is) c.args.t c.index.result.now c.requires c.index.ensures
+    c.index_mut.result.now _ c.index_mut.ensures.value refl
+
+pub returns-clause-rows : goal.returns-clause-rows
+returns-clause-rows c =
+    rows-same c.self.inside.slots.items c.self.inside.slot_of.items c.index.result.now c.index_mut.result.now _ c.index_mut.ensures.value
+    (ap (λ items. Some (record { worker = c.index_mut.result.now.worker; places = items })) c.reserve.ensures.items)
+    ∙ ap (λ a. a.rows) c.self.view_is
+
+pub returns-clause-room : goal.returns-clause-room
+returns-clause-room c =
+    rw (set-room c.self.inside.slots.items c.self.inside.slot_of.items c.self.invariant c.args.self.now.rows (ap (λ a. a.rows) c.self.view_is) c.args.t c.index.result.now c.requires c.index.ensures (record { number = c.index_mut.result.now.number; worker = c.index_mut.result.now.worker; places = c.reserve.new.self }))
+    (on_ok_weaker c.reserve.result (λ room. omega (arith, room)) c.reserve.ensures.ok)

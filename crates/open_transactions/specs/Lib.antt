@@ -1,0 +1,3 @@
+pub mod Transactions
+pub mod Slots
+pub mod Examples

@@ -1,0 +1,174 @@
+ghost use Rattle.std.specs.Prelude.{◌≡◌, ◌+◌, ◌<◌, ◌≤◌, true, [], ◌∷◌, ◌++◌, length, None, Some, OnOk, slice_index, slice_set};
+
+use smallvec::SmallVec;
+use std::alloc::{AllocError, Global};
+use std::marker::Model;
+
+/// In place of a slot's index: the transaction ended.
+const ENDED: u16 = u16::MAX;
+
+/// What is kept of a transaction while it is open.
+#[derive(Drop)]
+struct OpenTransaction {
+    number: u32,
+    worker: u8,
+    places: SmallVec<u8, 16>,
+}
+
+/// The transactions of a store, numbered 0, 1, 2, .. as they begin. At most 1,024 are open at once.
+///
+/// Contracts see a row for each that began: its worker and the places of its operations where it is open, and
+/// nothing where it ended. They also see for how many begins and places there is room.
+#[derive(Drop)]
+pub struct OpenTransactions {
+    // for each that began, the index of its slot, or `ENDED`
+    slot_of: Vec<u16>,
+    // the open ones, without gaps
+    slots: Vec<OpenTransaction>,
+}
+
+impl Model for OpenTransactions {
+    ghost use Rattle.std.specs.Prelude.{◌-◌, min, vec_len, vec_capacity};
+    ghost use Rattle.open_transactions.specs.Transactions.{Transactions};
+
+    ghost Value = { Transactions };
+
+    ghost use Rattle.open_transactions.specs.Slots.{rows_of, rooms_of, AreSlots};
+
+    ghost view = { λ a. record {
+      rows = rows_of a.slots.items a.slot_of.items;
+      room_to_begin = min (vec_capacity a.slot_of - vec_len a.slot_of) (vec_capacity a.slots - vec_len a.slots);
+      room_to_push = rooms_of a.slots.items a.slot_of.items;
+    } };
+
+    ghost invariant = { λ a. AreSlots a.slots.items a.slot_of.items };
+}
+
+impl OpenTransactions {
+    ghost use Rattle.open_transactions.specs.Transactions.{row, is_open, count_open, worker_of, places_of, begun_by, pushed, kept, changed};
+
+    /// None yet. It takes no memory.
+    pub fn new(alloc: Global) -> OpenTransactions
+        ensures { result.rows ≡ [] }
+    {
+        OpenTransactions {
+            slot_of: Vec::new(alloc),
+            slots: Vec::new(alloc),
+        }
+    }
+
+    /// How many began, which is the number of the next.
+    pub fn begun(&self) -> u32
+        ensures { result ≡ length self.now.rows }
+    {
+        self.slot_of.len() as u32
+    }
+
+    /// How many are open.
+    pub fn open_count(&self) -> u32
+        ensures exact { result ≡ count_open self.now.rows }
+        ensures few { result ≤ 1024 }
+    {
+        self.slots.len() as u32
+    }
+
+    /// Whether t began and hasn't ended.
+    pub fn is_open(&self, t: u32) -> bool
+        ensures { result ≡ is_open self.now.rows t }
+    {
+        let t = t as usize;
+        t < self.slot_of.len() && self.slot_of[t] != ENDED
+    }
+
+    /// The worker that began t.
+    pub fn worker(&self, t: u32) -> u8
+        requires { is_open self.now.rows t ≡ true }
+        ensures { result ≡ worker_of (row self.now.rows t) }
+    {
+        let slot = self.slot_of[t as usize] as usize;
+        self.slots[slot].worker
+    }
+
+    /// The places of the operations of t that live, in order of execution.
+    pub fn places(&self, t: u32) -> &[u8]
+        requires { is_open self.now.rows t ≡ true }
+        ensures { result.now ≡ places_of (row self.now.rows t) }
+    {
+        let slot = self.slot_of[t as usize] as usize;
+        self.slots[slot].places.as_slice()
+    }
+
+    /// Makes room for one more begin.
+    pub fn reserve_begin(&mut self) -> Result<(), AllocError>
+        ensures rows { self.new.rows ≡ self.old.rows }
+        ensures room { OnOk result (0 < self.new.room_to_begin) }
+    {
+        self.slot_of.reserve(1)?;
+        self.slots.reserve(1)
+    }
+
+    /// Begins a transaction of this worker, and answers its number. It takes no memory.
+    pub fn begin(&mut self, worker: u8) -> u32
+        requires room { 0 < self.old.room_to_begin }
+        requires few { count_open self.old.rows < 1024 }
+        requires fits { length self.old.rows < 4294967295 }
+        ensures number { result ≡ length self.old.rows }
+        ensures rows { self.new.rows ≡ self.old.rows ++ Some (begun_by worker) ∷ [] }
+        ensures count { count_open self.new.rows ≡ count_open self.old.rows + 1 }
+    {
+        let number = self.slot_of.len() as u32;
+        let slot = self.slots.len() as u16;
+        let places = SmallVec::new(*self.slot_of.allocator());
+        self.slots.push_reserved(OpenTransaction {
+            number,
+            worker,
+            places,
+        });
+        self.slot_of.push_reserved(slot);
+        number
+    }
+
+    /// Makes room for one more place of t.
+    pub fn reserve_place(&mut self, t: u32) -> Result<(), AllocError>
+        requires { is_open self.old.rows t ≡ true }
+        ensures rows { self.new.rows ≡ self.old.rows }
+        ensures room { OnOk result (0 < slice_index self.new.room_to_push t) }
+    {
+        let slot = self.slot_of[t as usize] as usize;
+        self.slots[slot].places.reserve(1)
+    }
+
+    /// One more operation of t, at the place x. It takes no memory.
+    pub fn push_place(&mut self, t: u32, x: u8)
+        requires still_open { is_open self.old.rows t ≡ true }
+        requires room { 0 < slice_index self.old.room_to_push t }
+        ensures { self.new.rows ≡ changed self.old.rows t (pushed x) }
+    {
+        let slot = self.slot_of[t as usize] as usize;
+        self.slots[slot].places.push_reserved(x);
+    }
+
+    /// Keeps the first n operations of t, or all where it has fewer. It takes no memory.
+    pub fn keep_places(&mut self, t: u32, n: u32)
+        requires { is_open self.old.rows t ≡ true }
+        ensures { self.new.rows ≡ changed self.old.rows t (kept n) }
+    {
+        let slot = self.slot_of[t as usize] as usize;
+        self.slots[slot].places.truncate(n as usize);
+    }
+
+    /// Ends t. It takes no memory.
+    pub fn end(&mut self, t: u32)
+        requires { is_open self.old.rows t ≡ true }
+        ensures rows { self.new.rows ≡ slice_set self.old.rows t None }
+        ensures count { count_open self.new.rows + 1 ≡ count_open self.old.rows }
+    {
+        let slot = self.slot_of[t as usize];
+        // the transaction in the last slot goes to the slot of t
+        let last = self.slots.len() - 1;
+        let moved = self.slots[last].number;
+        self.slot_of[moved as usize] = slot;
+        self.slot_of[t as usize] = ENDED;
+        self.slots.swap_remove(slot as usize);
+    }
+}
