@@ -2,6 +2,7 @@
 
 mod histories;
 mod lines;
+mod locks;
 mod memory_source;
 mod objects;
 mod printed;
@@ -9,6 +10,7 @@ mod relations;
 mod sinks;
 mod source;
 mod tasks;
+mod transactions;
 mod type_files;
 mod types;
 mod words;

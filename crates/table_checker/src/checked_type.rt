@@ -26,6 +26,7 @@ impl Model for CheckedType {
 
 impl CheckedType {
     ghost use Rattle.table_checker.specs.Checked.{IsChecked, IsStrong};
+    ghost use Rattle.type_table.specs.ConflictTable.{IsSquare};
     ghost use Rattle.type_text.specs.TypeFile.{conflicts_of};
 
     /// What the checker tested, as a value.
@@ -58,11 +59,15 @@ impl CheckedType {
         &self.file.table
     }
 
-    /// The conflict table of its kind.
+    /// The conflict table of its kind, which is of the table's operations.
     pub fn conflicts(&self) -> &ConflictTable
-        ensures { result.now ≡ conflicts_of self.now.kind self.now.file }
+        ensures exact { result.now ≡ conflicts_of self.now.kind self.now.file }
+        ensures fits { IsSquare (length self.now.file.table.ops) result.now }
     {
-        self.file.conflicts(self.kind)
+        let conflicts = self.file.conflicts(self.kind);
+        // for its clause that the table is square
+        conflicts.ops();
+        conflicts
     }
 
     /// Whether the stronger condition holds: for update in place, where each pair outside the

@@ -1,0 +1,58 @@
+use Rattle.std.proofs.Common.{◌≡◌, not, eqb, All, drop, sym, ap, subst, ◌∙◌}
+use Rattle.std.proofs.lemmas.List.Elements.{All-filter}
+use Rattle.type_table.specs.Table.{Table}
+use Rattle.table_checker.specs.Checked.{Checked}
+use Rattle.object_trait.specs.Meaning.{Meaning}
+use Rattle.object_trait.specs.Steps.{IsCommit}
+use Rattle.intentions_manager.specs.Walk.{carried, FitsTable}
+use Rattle.intentions_manager.specs.declared.views.View.{View}
+use Rattle.intentions_manager.proofs.Keeping.{meant}
+use Rattle.intentions_manager.proofs.Committing.{CommitLaws, IsCommitted, committed, committed-commits, committed-kept}
+use Rattle.intentions_manager.proofs.manager.IntentionsManagerRecovery.commit.Goals as goal
+
+pub carry-requires-clause-states : goal.carry-requires-clause-states
+carry-requires-clause-states c =
+    let inside = c.self.inside in
+    let T : Table = inside.checked.value.file.table in
+    let table : c.table.result.now ≡ T = c.table.ensures ∙ ap (λ (x : Checked). x.file.table) c.deref.ensures in
+    subst (λ x. All (FitsTable x) c.drop_view.new.views.items) (sym table)
+    (subst (λ V. All (FitsTable T) V) (sym c.drop_view.ensures) (All-filter (λ (v : View). not (eqb v.by c.args.t)) (FitsTable T) inside.views.items c.self.invariant.fit))
+
+-- the laws that are called
+laws : goal.After-cut_from → CommitLaws
+laws c = record {
+  along = c.runs_along.ensures;
+  extends = c.equi_extends.ensures;
+  inside = c.ends_inside.ensures;
+  within = c.ends_within.ensures;
+  opens = c.opens_commute.ensures;
+  none = c.keeps_none.ensures;
+  parts = c.keeps_parts.ensures;
+  first = c.keeps_first.ensures;
+  others = c.keeps_others.ensures;
+  sound_after = c.sound_after_commit.ensures;
+}
+
+-- what was done
+done : (c : goal.After-cut_from) → IsCommitted (meant c.self.inside) c.self.inside.views.items c.args.t c.place_of_last-from.result c.seen_by-view.result c.cut_from.new.log.items c.carry.new.views.items
+done c =
+    let inside = c.self.inside in
+    let T : Table = inside.checked.value.file.table in
+    let table : c.table.result.now ≡ T = c.table.ensures ∙ ap (λ (x : Checked). x.file.table) c.deref.ensures in
+    let part = drop c.place_of_last-from.result inside.log.items in
+    record {
+      seen = c.seen_by-view.ensures;
+      counted = c.place_of_last-from.ensures.counted;
+      cut = c.cut_from.ensures;
+      on = c.carry.ensures.exact ∙ ap (λ x. carried x c.args.t part c.drop_view.new.views.items) table ∙ ap (carried T c.args.t part) c.drop_view.ensures;
+      fit = subst (λ x. All (FitsTable x) c.carry.new.views.items) table c.carry.ensures.states;
+    }
+
+pub invariant_of-self : goal.invariant_of-self
+invariant_of-self c =
+    committed-kept (laws c) c.self.invariant (done c)
+
+pub returns : goal.returns
+returns c =
+    subst (λ (old : Meaning). IsCommit old c.args.t (committed (meant c.self.inside) c.seen_by-view.result c.cut_from.new.log.items)) c.self.view_is
+    (committed-commits (laws c) c.self.invariant (done c))

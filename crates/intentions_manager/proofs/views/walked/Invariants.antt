@@ -1,0 +1,10 @@
+use Rattle.std.proofs.Common.{◌≡◌, ◌<◌, drop}
+use Rattle.intentions_manager.specs.Walk.{walked}
+use Rattle.intentions_manager.proofs.views.walked.Given as goal
+
+-- what is left of the walk ends where all of it does
+abbrev pub invariant-loop-i : goal.invariant-loop-i
+invariant-loop-i l = record {
+  inside : l.state < l.table.states;
+  rest : walked l.table l.t l.state (drop l.i l.log.items) ≡ walked l.table l.t l.s (drop l.from l.log.items);
+}

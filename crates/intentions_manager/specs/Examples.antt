@@ -1,0 +1,15 @@
+-- The counter of two under deferred update, at 1: one transaction has counted up and another down.
+use Rattle.std.specs.Prelude.{ℕ, List, [], ◌∷◌}
+use Rattle.object_trait.specs.Examples.{held}
+use Rattle.object_trait.specs.declared.log_entry.LogEntry.{LogEntry}
+use Rattle.intentions_manager.specs.declared.views.View.{View}
+
+-- what t sees after so many entries
+abbrev pub view : ℕ → ℕ → ℕ → View
+view t state count = record { by = t; state = state; count = count }
+
+abbrev pub two_views : List View
+two_views = view 1 2 1 ∷ view 2 0 1 ∷ []
+
+abbrev pub up_and_down : List LogEntry
+up_and_down = held 1 0 ∷ held 2 1 ∷ []

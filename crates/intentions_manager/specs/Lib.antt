@@ -1,0 +1,4 @@
+pub mod Views
+pub mod Walk
+pub mod Kept
+pub mod Examples

@@ -1,0 +1,11 @@
+//! Deferred update: an object whose transactions see their own operations alone until they commit.
+#![tactic(auto)]
+
+mod entries;
+mod manager;
+mod views;
+pub mod worked;
+mod wrong_kind;
+
+pub use manager::IntentionsManager;
+pub use wrong_kind::WrongKind;

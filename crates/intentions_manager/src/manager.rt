@@ -1,0 +1,175 @@
+ghost use Rattle.std.specs.Prelude.{◌≡◌, ◌↔◌, IsOk, IfOk, IfErr};
+ghost use Rattle.type_table.specs.declared.kind.Kind.TheVariants.{Intentions};
+ghost use Rattle.object_trait.specs.Steps.{IsFresh};
+
+use crate::entries::{cut_from, place_of_last, take_out};
+use crate::views::{View, carry, drop_view, place_of, put_view, seen_at, seen_by, stepped, walked};
+use crate::wrong_kind::WrongKind;
+use object_trait::{
+    LogEntry, Recovery, checked_is_covered, fresh_is_sound, keeps_first, keeps_none, keeps_others,
+    keeps_parts, opens_commute, sound_after_apply, sound_after_commit, sound_after_strike,
+};
+use std::alloc::{AllocError, Global};
+use std::marker::Model;
+use std::sync::Arc;
+use table_checker::CheckedType;
+use type_table::{Kind, ends_inside, ends_within, equi_extends, runs_along, steps_within};
+
+/// An object with deferred update. Its state is that of the committed transactions, and each open
+/// transaction sees this state after its own operations alone.
+///
+/// Beside the log it keeps one state for each transaction that is open here. `legal` and `apply` take
+/// no longer than a scan of these. `commit`, `abort` and `strike` go through the log from the back, and
+/// only as far as the transaction's entries reach; a commit steps each of the other states by each of
+/// these entries.
+#[derive(Drop)]
+pub struct IntentionsManager {
+    checked: Arc<CheckedType>,
+    base: u16,
+    log: Vec<LogEntry>,
+    views: Vec<View>,
+}
+
+impl Model for IntentionsManager {
+    ghost use Rattle.object_trait.specs.Meaning.{Meaning};
+    ghost use Rattle.intentions_manager.specs.Kept.{IsKept};
+
+    ghost Value = { Meaning };
+
+    ghost view = { λ a. record { checked = a.checked.value; base = a.base; log = a.log.items } };
+
+    ghost invariant = { λ a. IsKept (record { checked = a.checked.value; base = a.base; log = a.log.items }) a.views.items };
+}
+
+impl IntentionsManager {
+    /// A new object of this type, which takes no memory.
+    ///
+    /// # Errors
+    ///
+    /// The type was accepted for another kind of recovery. It is handed back.
+    pub fn new(
+        alloc: Global,
+        checked: Arc<CheckedType>,
+    ) -> Result<IntentionsManager, (Arc<CheckedType>, WrongKind)>
+        ensures kind { IsOk result ↔ (checked.value.kind ≡ Intentions) }
+        ensures fresh { IfOk result (λ m. IsFresh m × (m.checked ≡ checked.value)) }
+        ensures back { IfErr result (λ e. e.0 ≡ checked) }
+    {
+        if checked.kind() != Kind::Intentions {
+            return Err((checked, WrongKind));
+        }
+        checked_is_covered();
+        fresh_is_sound();
+        let base = checked.file().table.initial();
+        Ok(IntentionsManager {
+            checked,
+            base,
+            log: Vec::new(alloc),
+            views: Vec::new(alloc),
+        })
+    }
+}
+
+impl Recovery for IntentionsManager {
+    ghost meaning = { λ m. m };
+
+    fn checked(&self) -> &CheckedType {
+        &self.checked
+    }
+
+    fn state(&self) -> u16 {
+        self.base
+    }
+
+    fn legal(&self, t: u32, k: u8) -> bool {
+        let view = seen_by(&self.views, t, self.base);
+        self.checked.table().next(view.state, k).is_some()
+    }
+
+    fn apply(&mut self, t: u32, k: u8) -> Result<(), AllocError> {
+        runs_along();
+        equi_extends();
+        steps_within();
+        sound_after_apply();
+        self.log.reserve(1)?;
+        self.views.reserve(1)?;
+        let at = place_of(&self.views, t);
+        let seen = seen_at(&self.views, at, t, self.base);
+        let state = stepped(self.checked.table(), seen.state, k);
+        let view = View {
+            by: t,
+            state,
+            count: seen.count + 1,
+        };
+        put_view(&mut self.views, at, view);
+        self.log.push_reserved(LogEntry {
+            by: t,
+            op: k,
+            done: false,
+        });
+        Ok(())
+    }
+
+    fn commit(&mut self, t: u32) {
+        runs_along();
+        equi_extends();
+        ends_inside();
+        ends_within();
+        opens_commute();
+        keeps_none::<LogEntry>();
+        keeps_parts::<LogEntry>();
+        keeps_first::<LogEntry>();
+        keeps_others::<LogEntry>();
+        sound_after_commit();
+        let view = seen_by(&self.views, t, self.base);
+        let from = place_of_last(&self.log, t, view.count);
+        self.base = view.state;
+        drop_view(&mut self.views, t);
+        carry(&mut self.views, self.checked.table(), t, &self.log, from);
+        cut_from(&mut self.log, from, t);
+    }
+
+    fn abort(&mut self, t: u32) {
+        keeps_first::<LogEntry>();
+        keeps_others::<LogEntry>();
+        sound_after_strike();
+        let view = seen_by(&self.views, t, self.base);
+        take_out(&mut self.log, t, view.count);
+        drop_view(&mut self.views, t);
+    }
+
+    fn strike(&mut self, t: u32, m: u32) {
+        ends_inside();
+        ends_within();
+        keeps_first::<LogEntry>();
+        keeps_others::<LogEntry>();
+        sound_after_strike();
+        let at = place_of(&self.views, t);
+        let view = seen_at(&self.views, at, t, self.base);
+        let count = view.count - m;
+        take_out(&mut self.log, t, m);
+        if count == 0 {
+            drop_view(&mut self.views, t);
+            return;
+        }
+        let from = place_of_last(&self.log, t, count);
+        let state = walked(self.checked.table(), t, self.base, &self.log, from);
+        put_view(
+            &mut self.views,
+            at,
+            View {
+                by: t,
+                state,
+                count,
+            },
+        );
+    }
+
+    fn open_count(&self) -> u32 {
+        self.views.len() as u32
+    }
+
+    fn is_fresh(&self) -> bool {
+        self.log.is_empty() && self.base == self.checked.table().initial()
+    }
+}

@@ -1,0 +1,32 @@
+-- The least number that passes a test, found by going up.
+use Rattle.std.proofs.Common.{◌≡◌, ℕ, zero, suc, ◌<◌, ◌≤◌, Bool, true, false, Option, Some, None, refl, sym, ◌∙◌, subst, inl, inr, arith}
+use Rattle.std.proofs.lemmas.Bool.{cases_eq}
+use Rattle.serial_order.specs.Answer.{found_or, first_below}
+
+-- what is found below k is found below each larger number
+first_below-stays : (test : ℕ → Bool) (k j n : ℕ) → first_below k test ≡ Some j → k ≤ n → first_below n test ≡ Some j
+first_below-stays test k j zero found le = let same : k ≡ zero = omega (arith, le) in subst (λ m. first_below m test ≡ Some j) same found
+first_below-stays test k j (suc n) found le =
+    elim (cases_eq k (suc n)) [
+      | inl same ↦ subst (λ m. first_below m test ≡ Some j) same found
+      | inr less ↦ rw (first_below-stays test k j n found (omega (arith, le, less))) refl
+    ]
+
+-- k passes, and none below it does
+pub first_below-found : (test : ℕ → Bool) (k n : ℕ) → first_below k test ≡ None → test k ≡ true → k < n → first_below n test ≡ Some k
+first_below-found test k n none passes below =
+    let found : first_below (suc k) test ≡ Some k = rw (none, passes) refl in
+    first_below-stays test (suc k) k n found (omega (arith, below))
+
+-- what is found is below
+below_or : (n k : ℕ) (found : Option ℕ) (passes : Bool) → ((j : ℕ) → found ≡ Some j → j < n) → found_or found passes n ≡ Some k → k < suc n
+below_or n k (Some j) passes below is = let low : k < n = below k is in omega (arith, low)
+below_or n k None true below is = let same : n ≡ k = cc in omega (arith, same)
+below_or n k None false below is = cc
+
+first_below-below : (test : ℕ → Bool) (n k : ℕ) → first_below n test ≡ Some k → k < n
+first_below-below test zero k is = cc
+first_below-below test (suc n) k is = below_or n k (first_below n test) (test n) (first_below-below test n) is
+
+pub found_below : (test : ℕ → Bool) (n k : ℕ) (found : Option ℕ) → found ≡ first_below n test → found ≡ Some k → k < n
+found_below test n k found found_is is = first_below-below test n k (sym found_is ∙ is)

@@ -1,0 +1,15 @@
+//! What a store does at its objects: it answers a call at one of them, and ends or strikes
+//! operations of a transaction at all objects where it has some.
+#![tactic(auto)]
+
+mod answer;
+mod choosing;
+mod end;
+mod strike;
+
+pub use answer::Answer;
+pub use choosing::choose;
+pub use end::{abort_at, commit_at};
+pub use strike::strike_at;
+
+pub mod worked;

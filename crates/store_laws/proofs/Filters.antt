@@ -1,0 +1,109 @@
+-- Filters and strikes: of mapped lists, of lists that have none of mine, and how many they keep.
+use Rattle.std.proofs.Common.{◌≡◌, ℕ, zero, suc, ◌+◌, ◌≤◌, Bool, true, false, not, List, [], ◌∷◌, map, filter, length, drop, take, refl, sym, ap, ◌∙◌, inl, inr, arith}
+use Rattle.std.specs.Prelude.{nat_lt}
+use Rattle.std.specs.List.{list_any}
+use Rattle.std.proofs.lemmas.Bool.{cases_Bool, lt-ltb, ltb-false}
+use Rattle.std.proofs.lemmas.List.{length-map, take-append-drop, length-append}
+use Rattle.std.proofs.lemmas.List.Elements.{filter-append}
+use Rattle.object_trait.specs.Strike.{keep_first}
+
+-- ---- mapped lists
+
+-- what a filter keeps of a mapped list
+pub filter-map : {A B : Type 0} (f : A → B) (test : B → Bool) (V : List A) → filter test (map f V) ≡ map f (filter (λ a. test (f a)) V)
+filter-map f test [] = refl
+filter-map f test (a ∷ V) =
+    elim (cases_Bool (test (f a))) [
+      | inl passes ↦ rw passes (ap (λ rest. f a ∷ rest) (filter-map f test V))
+      | inr fails ↦ rw fails (filter-map f test V)
+    ]
+
+-- and how much of it
+pub count-map : {A B : Type 0} (f : A → B) (test : B → Bool) (V : List A) → length (filter test (map f V)) ≡ length (filter (λ a. test (f a)) V)
+count-map f test V = ap length (filter-map f test V) ∙ length-map (filter (λ a. test (f a)) V) f
+
+-- what a strike leaves of a mapped list
+pub keep_first-map : {A B : Type 0} (f : A → B) (mine : B → Bool) (n : ℕ) (V : List A) → keep_first mine n (map f V) ≡ map f (keep_first (λ a. mine (f a)) n V)
+keep_first-map f mine n [] = refl
+keep_first-map f mine zero (a ∷ V) =
+    elim (cases_Bool (mine (f a))) [
+      | inl is ↦ rw is (keep_first-map f mine zero V)
+      | inr isnt ↦ rw isnt (ap (λ rest. f a ∷ rest) (keep_first-map f mine zero V))
+    ]
+keep_first-map f mine (suc n) (a ∷ V) =
+    elim (cases_Bool (mine (f a))) [
+      | inl is ↦ rw is (ap (λ rest. f a ∷ rest) (keep_first-map f mine n V))
+      | inr isnt ↦ rw isnt (ap (λ rest. f a ∷ rest) (keep_first-map f mine (suc n) V))
+    ]
+
+-- ---- none of mine, and all of mine
+
+-- where there is none of mine, the others are all
+pub filter-others : {E : Type 0} (mine : E → Bool) (V : List E) → length (filter mine V) ≡ 0 → filter (λ e. not (mine e)) V ≡ V
+filter-others mine [] none = refl
+filter-others mine (e ∷ V) none =
+    elim (cases_Bool (mine e)) [
+      | inl is ↦ absurd (let some : suc (length (filter mine V)) ≡ 0 = rw is at none in omega (arith, some))
+      | inr isnt ↦ rw isnt (ap (λ rest. e ∷ rest) (filter-others mine V (rw isnt at none)))
+    ]
+
+-- a strike that keeps all of mine keeps the list
+pub keep_first-all : {E : Type 0} (mine : E → Bool) (V : List E) → keep_first mine (length (filter mine V)) V ≡ V
+keep_first-all mine [] = refl
+keep_first-all mine (e ∷ V) =
+    elim (cases_Bool (mine e)) [
+      | inl is ↦ rw is (ap (λ rest. e ∷ rest) (keep_first-all mine V))
+      | inr isnt ↦ rw isnt (ap (λ rest. e ∷ rest) (keep_first-all mine V))
+    ]
+
+-- a part that has all of mine has the same of mine
+pub mine-within : {E : Type 0} (test mine : E → Bool) (V : List E) → ((e : E) → mine e ≡ true → test e ≡ true) → filter mine (filter test V) ≡ filter mine V
+mine-within test mine [] within = refl
+mine-within test mine (e ∷ V) within =
+    elim (cases_Bool (mine e)) [
+      | inl is ↦ simp (is, within e is) (ap (λ rest. e ∷ rest) (mine-within test mine V within))
+      | inr isnt ↦ elim (cases_Bool (test e)) [
+        | inl passes ↦ simp (passes, isnt) (mine-within test mine V within)
+        | inr fails ↦ simp (fails, isnt) (mine-within test mine V within)
+      ]
+    ]
+
+-- two filters, one after the other, either way round
+pub filter-turned : {E : Type 0} (first second : E → Bool) (V : List E) → filter first (filter second V) ≡ filter second (filter first V)
+filter-turned first second [] = refl
+filter-turned first second (e ∷ V) =
+    elim (cases_Bool (first e)) [
+      | inl passes ↦ elim (cases_Bool (second e)) [
+        | inl both ↦ simp (passes, both) (ap (λ rest. e ∷ rest) (filter-turned first second V))
+        | inr fails ↦ simp (passes, fails) (filter-turned first second V)
+      ]
+      | inr fails ↦ elim (cases_Bool (second e)) [
+        | inl other ↦ simp (fails, other) (filter-turned first second V)
+        | inr neither ↦ simp (fails, neither) (filter-turned first second V)
+      ]
+    ]
+
+-- ---- how many pass
+
+-- some element passes, where a filter keeps some
+pub any-count : {E : Type 0} (test : E → Bool) (V : List E) → list_any test V ≡ nat_lt 0 (length (filter test V))
+any-count test [] = refl
+any-count test (e ∷ V) =
+    elim (cases_Bool (test e)) [
+      | inl passes ↦ rw passes (sym (lt-ltb 0 (suc (length (filter test V))) (omega arith)))
+      | inr fails ↦ rw fails (any-count test V)
+    ]
+
+-- none, where none passes
+pub count-none : {E : Type 0} (test : E → Bool) (V : List E) → list_any test V ≡ false → length (filter test V) ≡ 0
+count-none test V none = let most = ltb-false 0 (length (filter test V)) (sym (any-count test V) ∙ none) in omega (arith, most)
+
+-- of the end of a list no more than of the list
+pub count-drop : {E : Type 0} (test : E → Bool) (n : ℕ) (V : List E) → length (filter test (drop n V)) ≤ length (filter test V)
+count-drop test n V =
+    let parts : length (filter test V) ≡ length (filter test (take n V)) + length (filter test (drop n V)) =
+    ap (λ W. length (filter test W)) (sym (take-append-drop n V))
+    ∙ ap length (filter-append test (take n V) (drop n V))
+    ∙ length-append (filter test (take n V)) (filter test (drop n V))
+    in
+    omega (arith, parts)

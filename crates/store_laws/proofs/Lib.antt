@@ -1,0 +1,11 @@
+pub mod Lists
+pub mod Filters
+pub mod Words
+pub mod Objects
+pub mod Rows
+pub mod Staying
+pub mod Untouched
+pub mod Places
+pub mod Opens
+pub mod Events
+pub mod Examples

@@ -1,0 +1,135 @@
+-- What a new store keeps; and the rows of what is kept: who is open, how many are, and how many operations each has.
+use Rattle.std.proofs.Common.{◌≡◌, ℕ, suc, ◌+◌, ◌≤◌, Bool, cond, List, [], ◌∷◌, filter, length, Option, Some, None, is_some, slice_get, refl, sym, ap, ◌∙◌, inl, inr, arith}
+use Rattle.std.specs.List.{count_by, range_with_len}
+use Rattle.std.proofs.lemmas.Bool.{cases_Bool, cases_lt, le-ltb, and_left}
+use Rattle.std.proofs.lemmas.List.{length-append, length-map, get_or_past}
+use Rattle.std.proofs.lemmas.List.Sums.{sum_by-cons, count_by-le-length, length-filter}
+use Rattle.std.proofs.lemmas.Option.{none-some, get_or_from_slice_get}
+use Rattle.object_trait.specs.Laws.{CheckedIsCovered, FreshIsSound}
+use Rattle.object_trait.specs.declared.event.Event.{Event}
+use Rattle.object_trait.specs.declared.event.EventKind.{EventKind}
+use Rattle.object_trait.specs.declared.event.EventKind.TheVariants as kind
+use Rattle.object_trait.specs.declared.event.EventKind.TheVariants.{Begin, Op, Busy, Commit, Abort, Rollback}
+use Rattle.serial_order.specs.Operations.{is_by, of}
+use Rattle.serial_order.specs.History.{seen, is_open, is_begin, standing}
+use Rattle.serial_order.specs.Readings.{stays, staying_op, staying}
+use Rattle.serial_order.specs.Laws.{FreshStands, StandsAsRead}
+use Rattle.serial_order.specs.declared.entry.Entry.{Entry}
+use Rattle.open_transactions.specs.Transactions.{Row}
+use Rattle.store_laws.specs.Kept.{Keeping, IsKept}
+use Rattle.store_laws.specs.Before.{NewIsKept, row_of, RowsSayWhoIsOpen, RowsAreCounted, PlacesAreCounted, RowsAreFew, PlacesAreFew}
+use Rattle.store_laws.proofs.Lists.{element_at}
+use Rattle.store_laws.proofs.Places.{row-places}
+
+-- ---- a new store
+
+pub new_is_kept : CheckedIsCovered → FreshIsSound → FreshStands → NewIsKept
+new_is_kept covers sound stands = λ k new.
+    record {
+      run = tt;
+      objects = λ x m is.
+          let checked = new.checked x m is in
+          let fresh = new.fresh x m is in
+          record { checked = checked; sound = sound m (covers m.checked checked).0 fresh; represents = stands m x fresh };
+      lists = new.lists;
+      held = λ x held is. new.held x held is;
+      begun = ap length new.rows;
+      rows = λ t row is. absurd (none-some row (ap (λ rows. slice_get rows t) (sym new.rows) ∙ is));
+    }
+
+-- ---- who is open
+
+-- by a row that is there
+open-row : (k : Keeping) (H : List Event) (t : ℕ) (row : Option Row) → IsKept k H → slice_get k.rows t ≡ Some row → is_open (seen H) t ≡ is_some (row_of k t)
+open-row k H t row kept there = sym (kept.rows t row there).going ∙ ap is_some (sym (get_or_from_slice_get k.rows t row None there))
+
+-- a transaction that never began
+never-began : (k : Keeping) (H : List Event) (t : ℕ) → IsKept k H → length k.rows ≤ t → is_open (seen H) t ≡ is_some (row_of k t)
+never-began k H t kept past =
+    let begun = kept.begun in
+    and_left _ _ (le-ltb t (seen H).begun (omega (arith, begun, past))) ∙ ap is_some (sym (get_or_past k.rows t None past))
+
+pub rows_say_who_is_open : RowsSayWhoIsOpen
+rows_say_who_is_open k H t kept =
+    elim (cases_lt t (length k.rows)) [
+      | inl low ↦ let found = element_at k.rows t low in open-row k H t found.0 kept found.1
+      | inr past ↦ never-began k H t kept past
+    ]
+
+-- ---- how many are
+
+-- one more element is one more that passes, or none
+count-cons : {E : Type 0} (test : E → Bool) (e : E) (V : List E) → length (filter test (e ∷ V)) ≡ cond (test e) 1 0 + length (filter test V)
+count-cons test e V =
+    elim (cases_Bool (test e)) [
+      | inl passes ↦ rw passes (omega arith)
+      | inr fails ↦ rw fails (omega arith)
+    ]
+
+-- so many numbers pass as there are elements, where a number passes where the element there is something
+count-open : {X : Type 0} (rows : List (Option X)) (first : ℕ) (test : ℕ → Bool)
+    → ((i : ℕ) (row : Option X) → slice_get rows i ≡ Some row → test (first + i) ≡ is_some row)
+    → length (filter test (range_with_len first (length rows))) ≡ count_by is_some rows
+count-open [] first test same = refl
+count-open (row ∷ rows) first test same =
+    let here : test first ≡ is_some row = ap test (omega arith) ∙ same 0 row refl in
+    let rest : length (filter test (range_with_len (first + 1) (length rows))) ≡ count_by is_some rows =
+    count-open rows (first + 1) test (λ i r there. ap test (omega arith) ∙ same (suc i) r there)
+    in
+    count-cons test first (range_with_len (first + 1) (length rows))
+    ∙ ap (λ b. cond b 1 0 + length (filter test (range_with_len (first + 1) (length rows)))) here
+    ∙ ap (λ n. cond (is_some row) 1 0 + n) rest
+    ∙ sym (sum_by-cons (λ x. cond (is_some x) 1 0) row rows)
+
+pub rows_are_counted : RowsAreCounted
+rows_are_counted = λ k H kept.
+    ap (λ n. length (filter (is_open (seen H)) (range_with_len 0 n))) (sym kept.begun)
+    ∙ count-open k.rows 0 (is_open (seen H)) (λ i row there. ap (is_open (seen H)) (omega arith) ∙ sym (kept.rows i row there).going)
+
+-- ---- how many operations each has
+
+pub places_are_counted : PlacesAreCounted
+places_are_counted = λ k H t row kept there.
+    sym (ap length (row-places k H t row kept there) ∙ length-map (of t (standing H)) (λ (e : Entry). e.at))
+
+-- ---- no more than events
+
+-- a filter keeps no more than there is
+filter-few : {E : Type 0} (test : E → Bool) (V : List E) → length (filter test V) ≤ length V
+filter-few test V = let most = count_by-le-length test V in omega (arith, length-filter test V, most)
+
+pub rows_are_few : RowsAreFew
+rows_are_few = λ k H kept.
+    let few = filter-few (λ (e : Event). is_begin e.kind) H in
+    let begun = kept.begun in
+    omega (arith, few, begun)
+
+-- of one event one operation lives at most
+one-lives : (happened : EventKind) (K : List Event) → length (staying_op happened K) ≤ 1
+one-lives (Begin t) K = omega arith
+one-lives (Op t x k) K =
+    elim (cases_Bool (stays t K)) [
+      | inl is ↦ rw is (omega arith)
+      | inr isnt ↦ rw isnt (omega arith)
+    ]
+one-lives (Busy t x c u) K = omega arith
+one-lives (kind.None t x c) K = omega arith
+one-lives (Commit t) K = omega arith
+one-lives (Abort t) K = omega arith
+one-lives (Rollback t n) K = omega arith
+
+-- so no more live than there are events
+few-live : (H : List Event) → length (staying H) ≤ length H
+few-live [] = omega arith
+few-live (e ∷ K) =
+    let one = one-lives e.kind K in
+    let rest = few-live K in
+    omega (arith, length-append (staying_op e.kind K) (staying K), one, rest)
+
+pub places_are_few : StandsAsRead → PlacesAreFew
+places_are_few reads = λ k H t row kept there.
+    let own = ap length (row-places k H t row kept there) ∙ length-map (of t (standing H)) (λ (e : Entry). e.at) in
+    let most = filter-few (is_by t) (standing H) in
+    let all = ap length (reads H) in
+    let few = few-live H in
+    omega (arith, own, most, all, few)

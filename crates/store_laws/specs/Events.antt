@@ -1,0 +1,85 @@
+-- What the calls of a store change is what their events do to what is kept. Statements of their laws.
+use Rattle.std.specs.Prelude.{◌≡◌, ℕ, ◌+◌, List, [], ◌∷◌, ◌++◌, length, set, Some, None, slice_get}
+use Rattle.object_trait.specs.Object.{Object}
+use Rattle.object_trait.specs.Meaning.{Meaning}
+use Rattle.object_trait.specs.Steps.{applied, IsCommit, IsAbort, IsStrike}
+use Rattle.object_trait.specs.declared.event.Event.{Event}
+use Rattle.object_trait.specs.declared.event.EventKind.{EventKind}
+use Rattle.object_trait.specs.declared.event.EventKind.TheVariants as kind
+use Rattle.object_trait.specs.declared.event.EventKind.TheVariants.{Begin, Op, Busy, Commit, Abort, Rollback}
+use Rattle.serial_order.specs.History.{seen}
+use Rattle.serial_order.specs.Machine.{MayFollow, IsRun}
+use Rattle.serial_order.specs.Replay.{open_count}
+use Rattle.op_locks.specs.Locks.{Locks, without, without_last}
+use Rattle.op_locks.specs.declared.held.Held.{Held}
+use Rattle.object_calls.specs.Ends.{count_at, ChangesAt}
+use Rattle.store_laws.specs.Stored.{types_of}
+use Rattle.open_transactions.specs.Transactions.{Row}
+use Rattle.store_laws.specs.Kept.{Keeping, held_of, IsKept}
+use Rattle.store_laws.specs.Moves.{at_too, without_places, Moves}
+use Rattle.store_laws.specs.Before.{IsOpenRow, last_places}
+
+-- ---- each kind of event
+
+-- where nothing changed: an answer `Busy` or `None`
+abbrev pub QuietMoves : Type 0
+QuietMoves =
+    (old new : Keeping) (H : List Event) (w t x c : ℕ) → IsKept old H → new.meanings ≡ old.meanings → new.held ≡ old.held → new.rows ≡ old.rows
+    → ((u : ℕ) → Moves old new H (record { worker = w; kind = Busy t x c u })) × Moves old new H (record { worker = w; kind = kind.None t x c })
+
+-- with one more row: a transaction began
+abbrev pub BeginMoves : Type 0
+BeginMoves =
+    (old new : Keeping) (H : List Event) (w t : ℕ) → IsKept old H → new.meanings ≡ old.meanings → new.held ≡ old.held
+    → new.rows ≡ old.rows ++ Some (record { worker = w; places = [] }) ∷ [] → Moves old new H (record { worker = w; kind = Begin t })
+
+-- with one more entry and one more that is held at x, and one more place in t's row: an operation
+abbrev pub OpMoves : Type 0
+OpMoves =
+    (old new : Keeping) (H : List Event) (w t x op : ℕ) (row : Row) (m : Meaning) (held : List Held) → IsKept old H → IsOpenRow old t row
+    → slice_get old.meanings x ≡ Some m → slice_get old.held x ≡ Some held
+    → new.meanings ≡ set old.meanings x (applied m t op) → new.held ≡ set old.held x (held ++ (record { by = t; op = op }) ∷ [])
+    → new.rows ≡ set old.rows t (Some (at_too x row)) → Moves old new H (record { worker = w; kind = Op t x op })
+
+-- with this change of each object where t has operations, nothing held there by t any more, and no row of t: an end of t
+abbrev pub EndMoves : (Meaning → ℕ → Meaning → Type 0) → (ℕ → EventKind) → Type 0
+EndMoves change ends =
+    (old new : Keeping) (H : List Event) (w t : ℕ) (row : Row) (before now : List Locks) → IsKept old H → IsOpenRow old t row
+    → old.held ≡ held_of before → new.held ≡ held_of now
+    → ChangesAt row.places (λ x m n. change m t n) old.meanings new.meanings
+    → ChangesAt row.places (λ x a b. b.held ≡ without t a.held) before now
+    → new.rows ≡ set old.rows t None → Moves old new H (record { worker = w; kind = ends t })
+
+abbrev pub CommitMoves : Type 0
+CommitMoves = EndMoves IsCommit Commit
+
+abbrev pub AbortMoves : Type 0
+AbortMoves = EndMoves IsAbort Abort
+
+-- with as many entries struck at each object as are among the last n places of t, and as many given up of what it holds there: a rollback
+abbrev pub RollbackMoves : Type 0
+RollbackMoves =
+    (old new : Keeping) (H : List Event) (w t n : ℕ) (row : Row) (before now : List Locks) → IsKept old H → IsOpenRow old t row
+    → old.held ≡ held_of before → new.held ≡ held_of now
+    → ChangesAt (last_places n row.places) (λ x m k. IsStrike m t (count_at x (last_places n row.places)) k) old.meanings new.meanings
+    → ChangesAt (last_places n row.places) (λ x a b. b.held ≡ without_last t (count_at x (last_places n row.places)) a.held) before now
+    → new.rows ≡ set old.rows t (Some (without_places n row)) → Moves old new H (record { worker = w; kind = Rollback t n })
+
+-- ---- any event
+
+-- it leaves the objects' types
+abbrev pub TypesStay : Type 0
+TypesStay = (old new : Keeping) (H : List Event) (e : Event) → Moves old new H e → types_of new.meanings ≡ types_of old.meanings
+
+-- how much room it takes, for itself and for the ends of open transactions
+abbrev pub takes : EventKind → ℕ
+takes (Begin t) = 2
+takes (Commit t) = 0
+takes (Abort t) = 0
+takes _ = 1
+
+-- an event that may follow takes so much
+abbrev pub RoomAfter : Type 0
+RoomAfter =
+    (objects : List Object) (H : List Event) (e : Event) → IsRun objects H → MayFollow objects H e
+    → length (H ++ e ∷ []) + open_count (seen (H ++ e ∷ [])) ≡ length H + open_count (seen H) + takes e.kind

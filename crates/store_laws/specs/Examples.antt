@@ -1,0 +1,78 @@
+-- Small stores, worked by hand.
+use Rattle.std.specs.Prelude.{ℕ, List, [], ◌∷◌, Some, None}
+use Rattle.type_table.specs.declared.kind.Kind.TheVariants.{Undo, Intentions}
+use Rattle.table_checker.specs.Checked.{Checked, IsChecked}
+use Rattle.table_checker.specs.Examples.{counter_file}
+use Rattle.object_trait.specs.Examples as object
+use Rattle.object_trait.specs.declared.event.Event.{Event}
+use Rattle.object_trait.specs.declared.event.EventKind.TheVariants.{Begin, Op, Commit, Rollback}
+use Rattle.op_locks.specs.declared.held.Held.{Held}
+use Rattle.store_laws.specs.Stored.{Stored}
+use Rattle.open_transactions.specs.Transactions.{Row}
+use Rattle.store_laws.specs.Kept.{Keeping}
+
+-- ---- how examples are written
+
+-- the counter, update in place
+abbrev pub undo_counter : Checked
+undo_counter = record { kind = Undo; file = counter_file }
+
+-- the counter, deferred update
+abbrev pub deferred_counter : Checked
+deferred_counter = record { kind = Intentions; file = counter_file }
+
+-- the checker says yes for both
+abbrev pub AreAccepted : Type 0
+AreAccepted = IsChecked undo_counter × IsChecked deferred_counter
+
+-- an open transaction that worker 7 began
+abbrev pub by_seven : List ℕ → Row
+by_seven places = record { worker = 7; places = places }
+
+-- transaction t holds operation k
+abbrev pub hold : ℕ → ℕ → Held
+hold t k = record { by = t; op = k }
+
+-- ---- one transaction counts up at the second of two counters, and commits
+
+abbrev pub one_up : List Event
+one_up =
+    (record { worker = 7; kind = Begin 0 }) ∷ (record { worker = 7; kind = Op 0 1 0 }) ∷ (record { worker = 7; kind = Commit 0 }) ∷ []
+
+-- before it
+abbrev pub new_counters : Keeping
+new_counters = record { meanings = object.counter_at Undo 0 [] ∷ object.counter_at Intentions 0 [] ∷ []; held = [] ∷ [] ∷ []; rows = [] }
+
+-- when it began
+abbrev pub begun : Keeping
+begun = record new_counters { rows = Some (by_seven []) ∷ [] }
+
+-- when it had counted up
+abbrev pub counted : Keeping
+counted = record {
+  meanings = object.counter_at Undo 0 [] ∷ object.counter_at Intentions 0 (object.held 0 0 ∷ []) ∷ [];
+  held = [] ∷ (hold 0 0 ∷ []) ∷ [];
+  rows = Some (by_seven (1 ∷ [])) ∷ [];
+}
+
+-- when it had committed
+abbrev pub committed : Keeping
+committed = record {
+  meanings = object.counter_at Undo 0 [] ∷ object.counter_at Intentions 1 [] ∷ [];
+  held = [] ∷ [] ∷ [];
+  rows = None ∷ [];
+}
+
+-- ---- a rollback over two objects
+
+-- worker 3 begins a transaction, and worker 7 another, which counts up at each of two objects and takes the last back
+abbrev pub one_back : List Event
+one_back =
+    (record { worker = 3; kind = Begin 0 }) ∷ (record { worker = 7; kind = Begin 1 }) ∷ (record { worker = 7; kind = Op 1 0 0 })
+    ∷ (record { worker = 7; kind = Op 1 1 0 }) ∷ (record { worker = 7; kind = Rollback 1 1 }) ∷ []
+
+-- ---- as its callers see it
+
+-- the two counters with this history, and room for four events
+abbrev pub stored : List Event → Stored
+stored H = record { types = undo_counter ∷ deferred_counter ∷ []; history = H; max = 4 }

@@ -1,0 +1,76 @@
+-- What a store keeps beside its history, and how it agrees with it.
+use Rattle.std.specs.Prelude.{◌≡◌, ℕ, ◌+◌, ◌≤◌, List, map, length, Option, Some, is_some, slice_get}
+use Rattle.table_checker.specs.Checked.{IsChecked}
+use Rattle.object_trait.specs.Object.{Object, object_of}
+use Rattle.object_trait.specs.Meaning.{Meaning}
+use Rattle.object_trait.specs.Sound.{IsSound}
+use Rattle.object_trait.specs.declared.event.Event.{Event}
+use Rattle.serial_order.specs.Operations.{of}
+use Rattle.serial_order.specs.History.{Seen, seen, is_open}
+use Rattle.serial_order.specs.Machine.{IsRun}
+use Rattle.serial_order.specs.Stand.{StandsFor}
+use Rattle.serial_order.specs.Replay.{open_count}
+use Rattle.serial_order.specs.After.{beginners}
+use Rattle.serial_order.specs.Held.{held_at}
+use Rattle.serial_order.specs.declared.entry.Entry.{Entry}
+use Rattle.op_locks.specs.Locks.{Locks}
+use Rattle.op_locks.specs.declared.held.Held.{Held}
+use Rattle.open_transactions.specs.Transactions.{Row}
+use Rattle.store_laws.specs.Stored.{types_of}
+
+-- ---- what is kept
+
+-- the objects' meanings, what is held at each, and a row for each transaction that began: none where it ended
+pub record Keeping : Type 0 where
+  pub meanings : List Meaning
+  pub held : List (List Held)
+  pub rows : List (Option Row)
+
+-- what these lock lists hold
+abbrev pub held_of : List Locks → List (List Held)
+held_of locks = map (λ (l : Locks). l.held) locks
+
+-- what is kept by objects of these meanings, these lock lists and these rows
+abbrev pub keeping : List Meaning → List Locks → List (Option Row) → Keeping
+keeping meanings locks rows = record { meanings = meanings; held = held_of locks; rows = rows }
+
+-- ---- how it agrees with the history
+
+-- the operation, as it is held
+abbrev pub as_held : Entry → Held
+as_held e = record { by = e.by; op = e.op }
+
+abbrev pub objects_of : List Meaning → List Object
+objects_of ms = map object_of (types_of ms)
+
+-- the places of a transaction's operations that live
+abbrev pub places_of : ℕ → Seen → List ℕ
+places_of t s = map (λ (e : Entry). e.at) (of t s.stands)
+
+-- the object at x: the checker said yes for its type, its meaning is sound, and it represents the history
+pub record IsObject (m : Meaning) (x : ℕ) (H : List Event) : Type 0 where
+  pub checked : IsChecked m.checked
+  pub sound : IsSound m
+  pub represents : StandsFor m x H
+
+-- the row of the transaction t
+pub record IsRow (row : Option Row) (t : ℕ) (H : List Event) : Type 0 where
+  pub going : is_some row ≡ is_open (seen H) t
+  pub worker : (r : Row) → row ≡ Some r → slice_get (beginners H) t ≡ Some r.worker
+  pub places : (r : Row) → row ≡ Some r → r.places ≡ places_of t (seen H)
+
+-- all of it: the history is a run, each object represents it, each lock list is what open transactions hold there, and each row is
+-- what the history says of its transaction
+pub record IsKept (k : Keeping) (H : List Event) : Type 0 where
+  pub run : IsRun (objects_of k.meanings) H
+  pub objects : (x : ℕ) (m : Meaning) → slice_get k.meanings x ≡ Some m → IsObject m x H
+  pub lists : length k.held ≡ length k.meanings
+  pub held : (x : ℕ) (l : List Held) → slice_get k.held x ≡ Some l → l ≡ map as_held (held_at x (seen H))
+  pub begun : length k.rows ≡ (seen H).begun
+  pub rows : (t : ℕ) (row : Option Row) → slice_get k.rows t ≡ Some row → IsRow row t H
+
+-- and the history has room for the ends of open transactions, in its vector and by its limit
+pub record IsStore (k : Keeping) (H : List Event) (capacity max : ℕ) : Type 0 where
+  pub kept : IsKept k H
+  pub reserved : length H + open_count (seen H) ≤ capacity
+  pub limited : length H + open_count (seen H) ≤ max

@@ -1,0 +1,7 @@
+pub mod Stored
+pub mod Kept
+pub mod Moves
+pub mod Words
+pub mod Before
+pub mod Events
+pub mod Examples

@@ -1,0 +1,44 @@
+-- What a store means to its callers, and what its calls do.
+use Rattle.std.specs.Prelude.{◌≡◌, ℕ, List, map, ◌⊎◌, Option, Some, None, Result, Ok, Err}
+use Rattle.table_checker.specs.Checked.{Checked}
+use Rattle.object_trait.specs.Object.{Object, object_of}
+use Rattle.object_trait.specs.Meaning.{Meaning}
+use Rattle.object_trait.specs.declared.event.Event.{Event}
+use Rattle.serial_order.specs.Replay.{refusal, after_command}
+use Rattle.serial_order.specs.declared.command.Command.{Command}
+use Rattle.serial_order.specs.declared.refusal.Refusal.{Refusal}
+use Rattle.serial_order.specs.declared.refusal.Refusal.TheVariants.{NoMemory}
+
+-- the objects' types, the history, and the most events that it may have
+pub record Stored : Type 0 where
+  pub types : List Checked
+  pub history : List Event
+  pub max : ℕ
+
+-- the types of objects of these meanings
+abbrev pub types_of : List Meaning → List Checked
+types_of ms = map (λ (m : Meaning). m.checked) ms
+
+abbrev pub objects : Stored → List Object
+objects s = map object_of s.types
+
+abbrev pub refusal_of : Stored → Command → Option Refusal
+refusal_of s command = refusal (objects s) s.max s.history command
+
+-- after a worker's command: a refusal changes nothing, and nothing but the history changes
+abbrev pub after : Stored → ℕ → Command → Stored
+after s w command = record s { history = after_command (objects s) s.max s.history w command }
+
+-- why a call was refused
+abbrev pub refused : {T : Type 0} → Result T Refusal → Option Refusal
+refused (Ok x) = None
+refused (Err r) = Some r
+
+-- a call that takes no memory
+abbrev pub Steps : {T : Type 0} → Stored → ℕ → Command → Result T Refusal → Stored → Type 0
+Steps old w command result new = (refused result ≡ refusal_of old command) × (new ≡ after old w command)
+
+-- one that may want it, where it isn't refused for another reason
+abbrev pub MayStep : {T : Type 0} → Stored → ℕ → Command → Result T Refusal → Stored → Type 0
+MayStep old w command result new =
+    Steps old w command result new ⊎ ((refusal_of old command ≡ None) × (result ≡ Err NoMemory) × (new ≡ old))

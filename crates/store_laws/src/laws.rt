@@ -1,0 +1,204 @@
+//! Laws of what a store keeps: each is a function that does nothing, whose contract is the law. It
+//! calls the laws on which it depends.
+
+ghost use Rattle.store_laws.specs.Moves.{StaysKept};
+ghost use Rattle.store_laws.specs.Words.{EndsAsHeld, StrikesAsHeld, BlocksAsHeld, AnswersAsDefined};
+ghost use Rattle.store_laws.specs.Before.{NewIsKept, RowsSayWhoIsOpen, RowsAreCounted, PlacesAreCounted, RowsAreFew, PlacesAreFew, PlacesAreInside, HeldAreOperations, HoldsWhereItWorks, HasWhatIsStruck};
+ghost use Rattle.store_laws.specs.Events.{QuietMoves, BeginMoves, OpMoves, CommitMoves, AbortMoves, RollbackMoves, TypesStay, RoomAfter};
+
+use object_trait::{
+    checked_is_covered, fresh_is_sound, sound_after_apply, sound_after_commit, sound_after_strike,
+    untouched_stays,
+};
+use serial_order::{
+    allows_alike, beginners_after, blocker_is_held, fresh_stands, held_after, logs_are_counted,
+    machine_may_apply, opens_after, operations_in_run, own_after, run_goes_on, seen_after,
+    stands_as_read, stands_on, transactions_in_run,
+};
+
+/// By an event that may follow, what a store keeps goes on agreeing with its history: that it is a
+/// run, what each object represents, what is held at each, and the row of each transaction.
+pub fn stays_kept()
+    ensures { StaysKept }
+{
+    checked_is_covered();
+    sound_after_apply();
+    sound_after_commit();
+    sound_after_strike();
+    run_goes_on();
+    stands_on();
+    machine_may_apply();
+    logs_are_counted();
+    seen_after();
+    transactions_in_run();
+    held_after();
+    opens_after();
+    own_after();
+    beginners_after();
+}
+
+/// As they are held, the operations of others than a transaction are what others hold.
+#[tactic(auto, using(crate::proofs::Words::ends_as_held))]
+pub fn ends_as_held()
+    ensures { EndsAsHeld }
+{}
+
+/// As they are held, all but the last operations of a transaction are all but the last of what it
+/// holds.
+#[tactic(auto, using(crate::proofs::Words::strikes_as_held))]
+pub fn strikes_as_held()
+    ensures { StrikesAsHeld }
+{}
+
+/// What keeps a transaction from an operation, by the history, is what keeps it by the list of what
+/// is held.
+#[tactic(auto, using(crate::proofs::Words::blocks_as_held))]
+pub fn blocks_as_held()
+    ensures { BlocksAsHeld }
+{
+    blocker_is_held();
+}
+
+/// Where an object represents the history and what is held there agrees with it, a call is answered
+/// as the history defines it.
+pub fn answers_as_defined()
+    ensures { AnswersAsDefined }
+{
+    allows_alike();
+    blocks_as_held();
+}
+
+/// What a new store keeps agrees with the empty history.
+#[tactic(auto, using(crate::proofs::Opens::new_is_kept))]
+pub fn new_is_kept()
+    ensures { NewIsKept }
+{
+    checked_is_covered();
+    fresh_is_sound();
+    fresh_stands();
+}
+
+/// A transaction is open where it has a row.
+#[tactic(auto, using(crate::proofs::Opens::rows_say_who_is_open))]
+pub fn rows_say_who_is_open()
+    ensures { RowsSayWhoIsOpen }
+{}
+
+/// As many transactions are open as have a row.
+#[tactic(auto, using(crate::proofs::Opens::rows_are_counted))]
+pub fn rows_are_counted()
+    ensures { RowsAreCounted }
+{}
+
+/// As many of an open transaction's operations live as its row has places.
+#[tactic(auto, using(crate::proofs::Opens::places_are_counted))]
+pub fn places_are_counted()
+    ensures { PlacesAreCounted }
+{}
+
+/// No more transactions began than there are events.
+#[tactic(auto, using(crate::proofs::Opens::rows_are_few))]
+pub fn rows_are_few()
+    ensures { RowsAreFew }
+{}
+
+/// No more of an open transaction's operations live than there are events.
+#[tactic(auto, using(crate::proofs::Opens::places_are_few))]
+pub fn places_are_few()
+    ensures { PlacesAreFew }
+{
+    stands_as_read();
+}
+
+/// The places of an open transaction's operations are those of objects.
+#[tactic(auto, using(crate::proofs::Places::places_are_inside))]
+pub fn places_are_inside()
+    ensures { PlacesAreInside }
+{
+    operations_in_run();
+}
+
+/// What is held at an object are operations of its table.
+#[tactic(auto, using(crate::proofs::Places::held_are_operations))]
+pub fn held_are_operations()
+    ensures { HeldAreOperations }
+{
+    operations_in_run();
+}
+
+/// An open transaction holds something at each place of its operations.
+#[tactic(auto, using(crate::proofs::Places::holds_where_it_works))]
+pub fn holds_where_it_works()
+    ensures { HoldsWhereItWorks }
+{}
+
+/// Wherever its last operations are, an open transaction has as many open entries, and holds as many
+/// operations, as a rollback strikes there.
+#[tactic(auto, using(crate::proofs::Places::has_what_is_struck))]
+pub fn has_what_is_struck()
+    ensures { HasWhatIsStruck }
+{
+    logs_are_counted();
+}
+
+/// An answer `Busy` or `None` changes nothing that is kept.
+#[tactic(auto, using(crate::proofs::Events::quiet_moves))]
+pub fn quiet_moves()
+    ensures { QuietMoves }
+{}
+
+/// A begin is one more row.
+#[tactic(auto, using(crate::proofs::Events::begin_moves))]
+pub fn begin_moves()
+    ensures { BeginMoves }
+{}
+
+/// An operation is one more entry at its object, one more that is held there, and one more place in
+/// its transaction's row.
+pub fn op_moves()
+    ensures { OpMoves }
+{}
+
+/// A commit commits at each object where its transaction has operations, and gives up what it holds
+/// there. At any other object nothing changes, which is a commit too.
+pub fn commit_moves()
+    ensures { CommitMoves }
+{
+    untouched_stays();
+    logs_are_counted();
+    ends_as_held();
+}
+
+/// An abort aborts at each object where its transaction has operations, and gives up what it holds
+/// there.
+pub fn abort_moves()
+    ensures { AbortMoves }
+{
+    untouched_stays();
+    logs_are_counted();
+    ends_as_held();
+}
+
+/// A rollback strikes, and gives up, the last operations of its transaction: at each object as many as
+/// are among them.
+pub fn rollback_moves()
+    ensures { RollbackMoves }
+{
+    strikes_as_held();
+}
+
+/// An event leaves the types of the objects.
+pub fn types_stay()
+    ensures { TypesStay }
+{}
+
+/// How much of the room in the history an event takes, with the end of each open transaction: none
+/// where it ends one, two where it begins one, else one.
+#[tactic(auto, using(crate::proofs::Events::room_after))]
+pub fn room_after()
+    ensures { RoomAfter }
+{
+    seen_after();
+    transactions_in_run();
+    opens_after();
+}

@@ -1,0 +1,14 @@
+//! What a store keeps beside its history, what that says of the history, and that it goes on agreeing
+//! with it by each event.
+#![tactic(auto)]
+
+mod laws;
+
+pub use laws::{
+    abort_moves, answers_as_defined, begin_moves, blocks_as_held, commit_moves, ends_as_held,
+    has_what_is_struck, held_are_operations, holds_where_it_works, new_is_kept, op_moves,
+    places_are_counted, places_are_few, places_are_inside, quiet_moves, rollback_moves, room_after,
+    rows_are_counted, rows_are_few, rows_say_who_is_open, stays_kept, strikes_as_held, types_stay,
+};
+
+pub mod worked;

@@ -1,0 +1,113 @@
+//! Worked stores: each function does nothing, and its contract is what comes out of them.
+#![tactic(auto, unfolding(type_table::specs::Table::next))]
+
+ghost use Rattle.std.specs.Prelude.{◌≡◌, ℕ, [], ◌∷◌, Some, None, Ok, Err, take, codes};
+ghost use Rattle.store_laws.specs.Stored.{refusal_of, after, Steps, MayStep};
+ghost use Rattle.store_laws.specs.Kept.{IsRow, IsKept, IsStore};
+ghost use Rattle.store_laws.specs.Moves.{RowsMove, Moves};
+ghost use Rattle.store_laws.specs.Words.{as_event};
+ghost use Rattle.store_laws.specs.Before.{last_places};
+ghost use Rattle.store_laws.specs.Examples.{AreAccepted, by_seven, one_up, new_counters, begun, counted, committed, one_back, stored};
+
+use crate::laws::{commit_moves, op_moves, rollback_moves, stays_kept};
+use object_calls::Answer;
+use object_trait::{EventKind, checked_is_covered, fresh_is_sound};
+use serial_order::{Command, Refusal, fresh_stands};
+
+/// A new store of two counters agrees with the empty history.
+pub fn a_new_store_agrees()
+    ensures { AreAccepted → IsKept new_counters [] }
+{
+    checked_is_covered();
+    fresh_is_sound();
+    fresh_stands();
+}
+
+/// It goes on agreeing by each event: its transaction begins, counts up at the second, and commits.
+pub fn it_goes_on_agreeing()
+    ensures begun { AreAccepted → IsKept begun (take 1 one_up) }
+    ensures counted { AreAccepted → IsKept counted (take 2 one_up) }
+    ensures committed { AreAccepted → IsKept committed one_up }
+{
+    a_new_store_agrees();
+    stays_kept();
+}
+
+/// What its calls change is what its events do, by the law of each: it counts up, and then takes that
+/// back, or commits.
+pub fn its_calls_are_its_events()
+    ensures counts { AreAccepted → Moves begun counted (take 1 one_up) (record { worker = 7; kind = EventKind.Op 0 1 0 }) }
+    ensures takes_back { AreAccepted → Moves counted begun (take 2 one_up) (record { worker = 7; kind = EventKind.Rollback 0 1 }) }
+    ensures commits { AreAccepted → Moves counted committed (take 2 one_up) (record { worker = 7; kind = EventKind.Commit 0 }) }
+{
+    it_goes_on_agreeing();
+    op_moves();
+    rollback_moves();
+    commit_moves();
+}
+
+/// What is kept after one event doesn't agree with the history before it, or with that after another.
+pub fn it_agrees_with_its_own_history_alone()
+    ensures early { IsKept counted (take 1 one_up) → ⊥ }
+    ensures late { IsKept counted one_up → ⊥ }
+    ensures empty { IsKept new_counters (take 1 one_up) → ⊥ }
+{}
+
+/// A row says who began its transaction and where its operations are that live.
+pub fn a_row_says_what_its_transaction_did()
+    ensures before { IsRow (Some (by_seven (0 ∷ 1 ∷ []))) 1 (take 4 one_back) }
+    ensures after { IsRow (Some (by_seven (0 ∷ []))) 1 one_back }
+    ensures rolled_back { IsRow (Some (by_seven (0 ∷ 1 ∷ []))) 1 one_back → ⊥ }
+    ensures another_worker { IsRow (Some (by_seven [])) 0 one_back → ⊥ }
+    ensures going { IsRow None 1 one_back → ⊥ }
+    ensures ended { IsRow None 0 one_up }
+    ensures unfinished { IsRow (Some (by_seven (1 ∷ []))) 0 one_up → ⊥ }
+{}
+
+/// A rollback takes the last places from its transaction's row, and nothing from another's.
+pub fn a_rollback_takes_the_last_places()
+    ensures one { RowsMove 7 (EventKind.Rollback 1 1) (None ∷ Some (by_seven (0 ∷ 1 ∷ [])) ∷ []) (None ∷ Some (by_seven (0 ∷ [])) ∷ []) }
+    ensures both { RowsMove 7 (EventKind.Rollback 1 2) (None ∷ Some (by_seven (0 ∷ 1 ∷ [])) ∷ []) (None ∷ Some (by_seven []) ∷ []) }
+    ensures first { RowsMove 7 (EventKind.Rollback 1 1) (None ∷ Some (by_seven (0 ∷ 1 ∷ [])) ∷ []) (None ∷ Some (by_seven (1 ∷ [])) ∷ []) → ⊥ }
+    ensures ended { RowsMove 7 (EventKind.Rollback 0 1) (None ∷ []) (None ∷ []) → ⊥ }
+{}
+
+/// Room is reserved for the end of each open transaction, in the vector and by the limit.
+pub fn room_is_reserved_for_the_ends()
+    ensures enough { IsKept begun (take 1 one_up) → IsStore begun (take 1 one_up) 2 2 }
+    ensures small { IsStore begun (take 1 one_up) 1 2 → ⊥ }
+    ensures limited { IsStore begun (take 1 one_up) 2 1 → ⊥ }
+{}
+
+/// What a call does: its event, by its worker, and nothing where it is refused.
+pub fn a_call_appends_its_event()
+    ensures begins { after (stored []) 7 Command.Begin ≡ stored (take 1 one_up) }
+    ensures calls { after (stored (take 1 one_up)) 7 (Command.Call 0 1 (codes "inc:1")) ≡ stored (take 2 one_up) }
+    ensures commits { after (stored (take 2 one_up)) 7 (Command.Commit 0) ≡ stored one_up }
+    ensures refuses { refusal_of (stored one_up) (Command.Commit 0) ≡ Some Refusal.NotOpen }
+    ensures refused { after (stored one_up) 7 (Command.Commit 0) ≡ stored one_up }
+{}
+
+/// A call that takes no memory does what it should; one that may want it may also leave all as it was,
+/// and say so.
+pub fn a_call_may_want_memory()
+    ensures steps { Steps {T = ℕ} (stored []) 7 Command.Begin (Ok 0) (stored (take 1 one_up)) }
+    ensures wants { MayStep {T = ℕ} (stored []) 7 Command.Begin (Err Refusal.NoMemory) (stored []) }
+    ensures takes_none { Steps {T = ℕ} (stored []) 7 Command.Begin (Err Refusal.NoMemory) (stored []) → ⊥ }
+    ensures for_a_reason { MayStep {T = ℕ} (stored one_up) 7 (Command.Commit 0) (Err Refusal.NoMemory) (stored one_up) → ⊥ }
+{}
+
+/// The event of an answer is its transaction's, at its object, and says its call where nothing was
+/// executed.
+pub fn an_answer_is_an_event()
+    ensures reply { as_event 3 1 2 (Answer.Reply 4) ≡ EventKind.Op 3 1 4 }
+    ensures busy { as_event 3 1 2 (Answer.Busy 5) ≡ EventKind.Busy 3 1 2 5 }
+    ensures none { as_event 3 1 2 Answer.None ≡ EventKind.None 3 1 2 }
+{}
+
+/// A rollback is at the last places, in their order.
+pub fn the_last_places()
+    ensures one { last_places 1 (0 ∷ 2 ∷ 1 ∷ []) ≡ 1 ∷ [] }
+    ensures two { last_places 2 (0 ∷ 2 ∷ 1 ∷ []) ≡ 2 ∷ 1 ∷ [] }
+    ensures none { last_places 0 (0 ∷ 2 ∷ 1 ∷ []) ≡ [] }
+{}

@@ -1,0 +1,13 @@
+pub mod Lists
+pub mod Running
+pub mod Settling
+pub mod Counting
+pub mod Recounting
+pub mod Passing
+pub mod Rerunning
+pub mod Marking
+pub mod InPlace
+pub mod Keeping
+pub mod Committing
+pub mod Striking
+pub mod Applying

@@ -1,0 +1,150 @@
+-- What a manager keeps at a strike.
+use Rattle.std.proofs.Common.{◌≡◌, ◌-◌, ℕ, Bool, true, false, not, eqb, List, [], ◌∷◌, ◌++◌, length, take, drop, Some, refl, sym, ap, ◌∙◌, inl, inr, arith}
+use Rattle.std.specs.List.{filter}
+use Rattle.std.proofs.lemmas.Bool.{cases_Bool, and_parts, and_left, eqb-true}
+use Rattle.std.proofs.lemmas.List.{take-append-drop, length-take-le}
+use Rattle.type_table.specs.Run.{run, IsLegal}
+use Rattle.type_table.specs.Laws.{RunsAlong, EndsWithin}
+use Rattle.table_checker.specs.Checked.{Checked}
+use Rattle.object_trait.specs.Object.{object_of}
+use Rattle.object_trait.specs.Strike.{keep_first}
+use Rattle.object_trait.specs.Meaning.{ops_of, is_open_of, open_of}
+use Rattle.object_trait.specs.Steps.{IsSettled, IsStrike}
+use Rattle.object_trait.specs.Laws.{KeepsFirst, KeepsNone, KeepsParts, KeepsOthers, StruckLogIsLegal, SoundAfterStrike}
+use Rattle.object_trait.specs.declared.log_entry.LogEntry.{LogEntry}
+use Rattle.undo_manager.specs.Kept.{IsKept}
+use Rattle.undo_manager.specs.Log.{entries, Steps, start_of, unsettled}
+use Rattle.undo_manager.specs.Opened.{IsRecounted}
+use Rattle.undo_manager.specs.Rerun.{IsRerun}
+use Rattle.undo_manager.specs.declared.opened.Opened.{Opened}
+use Rattle.undo_manager.specs.declared.undo_entry.UndoEntry.{UndoEntry}
+use Rattle.undo_manager.proofs.Keeping.{meaning_of, recounted, IsLeft, settled-kept}
+use Rattle.undo_manager.proofs.InPlace.{sound_in, sound_out, strike_in}
+use Rattle.undo_manager.proofs.Passing.{opens, opens-split}
+use Rattle.undo_manager.proofs.Rerunning.{left_of}
+use Rattle.undo_manager.proofs.Running.{legal_there, ops-append, entries-append, steps-run, steps-join, steps-part}
+use Rattle.undo_manager.proofs.Settling.{unsettled-settled}
+
+-- ---- what a strike leaves
+
+-- where as many of mine are kept as there are, all is
+keep-all : {E : Type 0} (mine : E → Bool) (V : List E) → keep_first mine (length (filter mine V)) V ≡ V
+keep-all mine [] = refl
+keep-all mine (e ∷ V) =
+    elim (cases_Bool (mine e)) [
+      | inl is ↦ rw is (ap (λ rest. e ∷ rest) (keep-all mine V))
+      | inr isnt ↦ rw isnt (ap (λ rest. e ∷ rest) (keep-all mine V))
+    ]
+
+-- of a log put together, from whose second part on there are m to be struck
+strike-parts : KeepsNone LogEntry → KeepsParts LogEntry → (mine : LogEntry → Bool) (n : ℕ) (V W : List LogEntry) → n ≡ length (filter mine V) →
+    keep_first mine n (V ++ W) ≡ V ++ filter (λ e. not (mine e)) W
+strike-parts none parts mine n V W e =
+    let zero_left : n - length (filter mine V) ≡ 0 = omega arith in
+    parts mine n V W ∙
+    (ap (λ l. l ++ keep_first mine (n - length (filter mine V)) W) (ap (λ k. keep_first mine k V) e ∙ keep-all mine V) ∙
+    ap (λ l. V ++ l) (ap (λ k. keep_first mine k W) zero_left ∙ none mine W))
+
+-- a log in two parts
+log-parts : (place : ℕ) (log : List UndoEntry) → entries log ≡ entries (take place log) ++ entries (drop place log)
+log-parts place log = ap entries (sym (take-append-drop place log)) ∙ entries-append (take place log) (drop place log)
+
+-- behind the place from which on there are m of t, all of t's go
+strike-log : KeepsNone LogEntry → KeepsParts LogEntry → (t m place : ℕ) (log : List UndoEntry) → opens t (drop place log) ≡ m →
+    keep_first (is_open_of t) (opens t log - m) (entries log) ≡ entries (take place log) ++ left_of t (drop place log)
+strike-log none parts t m place log passed =
+    let n : ℕ = opens t log - m in
+    let count : n ≡ opens t (take place log) = omega (arith, opens-split t place log) in
+    ap (keep_first (is_open_of t) n) (log-parts place log) ∙ strike-parts none parts (is_open_of t) n (entries (take place log)) (entries (drop place log)) count
+
+-- a log in two parts, each with its steps
+log-steps : (c : Checked) (base state place : ℕ) (log : List UndoEntry) → Steps c.file.table base log state →
+    Steps c.file.table base (take place log) (start_of (drop place log) state) × Steps c.file.table (start_of (drop place log) state) (drop place log) state
+log-steps c base state place log steps = steps-part c.file.table base (take place log) (drop place log) state (rw (take-append-drop place log) steps)
+
+-- what is left there can be run from the state before that place
+pub strike-legal : RunsAlong → KeepsNone LogEntry → KeepsParts LogEntry → StruckLogIsLegal → (c : Checked) (base state : ℕ) (log : List UndoEntry) (counts : List Opened) (t m place : ℕ) →
+    IsKept c base state log counts → opens t (drop place log) ≡ m → IsLegal c.file.table (Some (start_of (drop place log) state)) (ops_of (left_of t (drop place log)))
+strike-legal along none parts legal c base state log counts t m place kept passed =
+    let front : List LogEntry = entries (take place log) in
+    let left : List LogEntry = left_of t (drop place log) in
+    let start : ℕ = start_of (drop place log) state in
+    let whole : IsLegal c.file.table (Some base) (ops_of (keep_first (is_open_of t) (opens t log - m) (entries log))) =
+    legal (meaning_of c base log) t m kept.covered kept.in_place (sound_in c.kind kept.in_place (object_of c) base (entries log) kept.sound) in
+    let split : IsLegal c.file.table (Some base) (ops_of front ++ ops_of left) = rw (strike-log none parts t m place log passed, ops-append front left) at whole in
+    let after : IsLegal c.file.table (run c.file.table (Some base) (ops_of front)) (ops_of left) = rw (along c.file.table (Some base) (ops_of front) (ops_of left)) at split in
+    legal_there c.file.table (run c.file.table (Some base) (ops_of front)) start (ops_of left)
+    (steps-run c.file.table base (take place log) start (log-steps c base state place log kept.steps).0) after
+
+-- ---- after it
+
+-- the entries of a log that was run again
+rerun-entries : KeepsNone LogEntry → KeepsParts LogEntry → (c : Checked) (t m place : ℕ) (log : List UndoEntry) (start : ℕ) (new : List UndoEntry) (end : ℕ) →
+    IsRerun c.file.table t place log start new end → opens t (drop place log) ≡ m → entries new ≡ keep_first (is_open_of t) (opens t log - m) (entries log)
+rerun-entries none parts c t m place log start new end r passed =
+    ap entries r.items ∙ (entries-append (take place log) r.rest ∙ (ap (λ l. entries (take place log) ++ l) r.left ∙ sym (strike-log none parts t m place log passed)))
+
+-- an open entry of another isn't one of t
+open-apart : (t u : ℕ) → eqb u t ≡ false → (e : LogEntry) → is_open_of u e ≡ true → is_open_of t e ≡ false
+open-apart t u differ e is =
+    let same : e.by ≡ u = eqb-true e.by u (and_parts (eqb e.by u) (not e.done) is).0 in
+    and_left (eqb e.by t) (not e.done) (rw same differ)
+
+-- the log that was run again
+struck-left : KeepsFirst LogEntry → KeepsNone LogEntry → KeepsParts LogEntry → KeepsOthers LogEntry → (c : Checked) (base state : ℕ) (log : List UndoEntry) (counts : List Opened) (t m place : ℕ)
+    (new : List UndoEntry) (end : ℕ) (new_counts : List Opened) → IsKept c base state log counts → opens t (drop place log) ≡ m →
+    IsRerun c.file.table t place log (start_of (drop place log) state) new end → IsRecounted t (opens t log - m) counts new_counts → IsLeft c base end new new_counts
+struck-left first none parts others c base state log counts t m place new end new_counts kept passed r recount =
+    let n : ℕ = opens t log - m in
+    let start : ℕ = start_of (drop place log) state in
+    let same : entries new ≡ keep_first (is_open_of t) n (entries log) = rerun-entries none parts c t m place log start new end r passed in
+    let mine : open_of t (entries new) ≡ take n (open_of t (entries log)) = ap (open_of t) same ∙ (first (is_open_of t) n (entries log)).0 in
+    record {
+      in_place = kept.in_place;
+      table = kept.table;
+      covered = kept.covered;
+      base_fits = kept.base_fits;
+      room = omega (arith, r.fewer, kept.room);
+      steps = rw r.items (steps-join c.file.table base (take place log) r.rest start end (log-steps c base state place log kept.steps).0 r.steps);
+      counted = recounted (entries log) (entries new) counts new_counts t n kept.counted recount
+          (sym (ap length mine ∙ length-take-le n (open_of t (entries log)) (omega arith)))
+          (λ u differ. ap length (ap (open_of u) same ∙ others (is_open_of t) (is_open_of u) n (entries log) (open-apart t u differ)));
+    }
+
+-- what is settled of it
+struck-settled : KeepsNone LogEntry → KeepsParts LogEntry → (c : Checked) (base : ℕ) (log : List UndoEntry) (t m place start : ℕ) (new : List UndoEntry) (end : ℕ) (new_counts : List Opened) →
+    IsLeft c base end new new_counts → opens t (drop place log) ≡ m → IsRerun c.file.table t place log start new end →
+    IsSettled (object_of c) base (keep_first (is_open_of t) (opens t log - m) (entries log)) (start_of (unsettled new) end) (entries (unsettled new))
+struck-settled none parts c base log t m place start new end new_counts left passed r =
+    rw (rerun-entries none parts c t m place log start new end r passed) at (unsettled-settled (object_of c) base new end left.steps)
+
+-- the meaning is that after a strike
+struck-is : KeepsNone LogEntry → KeepsParts LogEntry → (c : Checked) (base : ℕ) (log : List UndoEntry) (t m place start : ℕ) (new : List UndoEntry) (end : ℕ) (new_counts : List Opened) →
+    IsLeft c base end new new_counts → opens t (drop place log) ≡ m → IsRerun c.file.table t place log start new end →
+    IsStrike (meaning_of c base log) t m (meaning_of c (start_of (unsettled new) end) (unsettled new))
+struck-is none parts c base log t m place start new end new_counts left passed r = record {
+  checked = refl;
+  strike = strike_in c.kind left.in_place (object_of c) base (entries log) t (opens t log - m) (start_of (unsettled new) end) (entries (unsettled new))
+      (struck-settled none parts c base log t m place start new end new_counts left passed r);
+}
+
+-- what a strike leaves
+pub record IsStruck (c : Checked) (base : ℕ) (log : List UndoEntry) (t m : ℕ) (new : List UndoEntry) (end : ℕ) (new_counts : List Opened) : Type 0 where
+  pub kept : IsKept c (start_of (unsettled new) end) end (unsettled new) new_counts
+  pub strike : IsStrike (meaning_of c base log) t m (meaning_of c (start_of (unsettled new) end) (unsettled new))
+
+-- all is kept
+pub struck : EndsWithin → SoundAfterStrike → KeepsFirst LogEntry → KeepsNone LogEntry → KeepsParts LogEntry → KeepsOthers LogEntry →
+    (c : Checked) (base state : ℕ) (log : List UndoEntry) (counts : List Opened) (t m place : ℕ) (new : List UndoEntry) (end : ℕ) (new_counts : List Opened) →
+    IsKept c base state log counts → opens t (drop place log) ≡ m → IsRerun c.file.table t place log (start_of (drop place log) state) new end →
+    IsRecounted t (opens t log - m) counts new_counts → IsStruck c base log t m new end new_counts
+struck ends sound first none parts others c base state log counts t m place new end new_counts kept passed r recount =
+    let left = struck-left first none parts others c base state log counts t m place new end new_counts kept passed r recount in
+    let new_base : ℕ = start_of (unsettled new) end in
+    let strike = struck-is none parts c base log t m place (start_of (drop place log) state) new end new_counts left passed r in
+    record {
+      kept = settled-kept ends c base end new new_counts left
+          (sound_out c.kind kept.in_place (object_of c) new_base (entries (unsettled new))
+          (sound (meaning_of c base log) (meaning_of c new_base (unsettled new)) t (opens t log - m) kept.covered (sound_in c.kind kept.in_place (object_of c) base (entries log) kept.sound) strike));
+      strike = strike;
+    }

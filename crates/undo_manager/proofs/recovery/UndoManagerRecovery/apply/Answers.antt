@@ -1,0 +1,26 @@
+use Rattle.std.proofs.Common.{arith}
+use Rattle.undo_manager.specs.Log.{entries}
+use Rattle.undo_manager.proofs.Applying.{applied-kept}
+use Rattle.undo_manager.proofs.Keeping.{legal-next, count-length}
+use Rattle.undo_manager.proofs.recovery.UndoManagerRecovery.apply.Goals as goal
+
+pub next_state-state-requires-clause-legal : goal.next_state-state-requires-clause-legal
+next_state-state-requires-clause-legal c =
+    let m = c.self.inside in
+    let may = rw (← c.self.view_is) at c.requires in
+    rw (c.table.ensures, c.deref.ensures) (legal-next m.checked.value m.base m.state m.log.items m.opened.items c.args.t c.args.k c.self.invariant may.legal)
+
+pub append-requires-clause-fits : goal.append-requires-clause-fits
+append-requires-clause-fits c =
+    let m = c.self.inside in
+    let may = rw (← c.self.view_is) at c.requires in
+    omega (arith, count-length c.args.t (entries m.log.items) m.opened.items c.self.invariant.counted, may.room)
+
+pub invariant_of-self-2 : goal.invariant_of-self-2
+invariant_of-self-2 c =
+    let m = c.self.inside in
+    let may = rw (← c.self.view_is) at c.requires in
+    let step = rw (c.table.ensures, c.deref.ensures) at c.next_state-state.ensures in
+    rw c.in_ok-append.ensures.log
+    (applied-kept c.steps_within.ensures c.sound_after_apply.ensures m.checked.value m.base m.state m.log.items m.opened.items c.append.new.counts.items c.args.t c.args.k c.next_state-state.result
+    c.self.invariant may step c.in_ok-append.ensures.counts)

@@ -1,0 +1,5 @@
+pub mod Log
+pub mod Opened
+pub mod Kept
+pub mod Rerun
+pub mod Examples

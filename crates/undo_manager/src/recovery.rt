@@ -1,0 +1,96 @@
+//! What the object does at each call.
+
+ghost use Rattle.std.specs.Prelude.{◌≡◌, length};
+ghost use Rattle.object_trait.specs.Meaning.{open_of};
+
+use crate::log::{append, mark, place_of, settle, state_before};
+use crate::opened::{count_of, leave_count};
+use crate::stepping::{next_state, rerun};
+use crate::undo_entry::UndoEntry;
+use crate::undo_manager::UndoManager;
+use object_trait::{
+    LogEntry, Recovery, keeps_first, keeps_none, keeps_others, keeps_parts, sound_after_apply,
+    sound_after_commit, sound_after_strike, struck_log_is_legal,
+};
+use std::alloc::AllocError;
+use table_checker::CheckedType;
+use type_table::{ends_within, runs_along, steps_within};
+
+impl UndoManager {
+    /// The number of t's open entries.
+    fn count_of(&self, t: u32) -> u32
+        ensures { result ≡ length (open_of t self.now.log) }
+    {
+        count_of(&self.opened, t)
+    }
+}
+
+impl Recovery for UndoManager {
+    ghost meaning = { λ m. m };
+
+    fn checked(&self) -> &CheckedType {
+        &self.checked
+    }
+
+    fn state(&self) -> u16 {
+        self.state
+    }
+
+    fn legal(&self, _t: u32, k: u8) -> bool {
+        self.checked.table().next(self.state, k).is_some()
+    }
+
+    fn apply(&mut self, t: u32, k: u8) -> Result<(), AllocError> {
+        sound_after_apply();
+        steps_within();
+        let state = next_state(self.checked.table(), self.state, k);
+        let entry = LogEntry {
+            by: t,
+            op: k,
+            done: false,
+        };
+        let before = self.state;
+        append(&mut self.log, &mut self.opened, UndoEntry { entry, before })?;
+        self.state = state;
+        Ok(())
+    }
+
+    fn commit(&mut self, t: u32) {
+        sound_after_commit();
+        ends_within();
+        let count = count_of(&self.opened, t);
+        mark(&mut self.log, t, count);
+        leave_count(&mut self.opened, t, 0);
+        self.base = settle(&mut self.log, self.state);
+    }
+
+    fn abort(&mut self, t: u32) {
+        let count = self.count_of(t);
+        self.strike(t, count);
+    }
+
+    fn strike(&mut self, t: u32, m: u32) {
+        keeps_first::<LogEntry>();
+        keeps_none::<LogEntry>();
+        keeps_parts::<LogEntry>();
+        keeps_others::<LogEntry>();
+        runs_along();
+        ends_within();
+        struck_log_is_legal();
+        sound_after_strike();
+        let place = place_of(&self.log, t, m);
+        let start = state_before(&self.log, place, self.state);
+        let left = count_of(&self.opened, t) - m;
+        self.state = rerun(self.checked.table(), &mut self.log, place, t, start);
+        leave_count(&mut self.opened, t, left);
+        self.base = settle(&mut self.log, self.state);
+    }
+
+    fn open_count(&self) -> u32 {
+        self.opened.len() as u32
+    }
+
+    fn is_fresh(&self) -> bool {
+        self.base == self.checked.table().initial() && self.log.is_empty()
+    }
+}

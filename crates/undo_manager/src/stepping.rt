@@ -1,0 +1,50 @@
+//! Steps of a table, and the run of what a strike leaves.
+
+ghost use Rattle.std.specs.Prelude.{◌≡◌, ◌≤◌, Some, IsSome, length, drop, filter};
+ghost use Rattle.type_table.specs.Table.{IsTable, next};
+ghost use Rattle.type_table.specs.Run.{IsLegal};
+ghost use Rattle.object_trait.specs.Meaning.{ops_of};
+ghost use Rattle.undo_manager.specs.Log.{entries, stays};
+ghost use Rattle.undo_manager.specs.Rerun.{IsRerun};
+
+use crate::log::is_open_of;
+use crate::undo_entry::UndoEntry;
+use type_table::{TypeTable, steps_within};
+
+/// The next state of a state in which operation k is legal.
+pub fn next_state(table: &TypeTable, s: u16, k: u8) -> u16
+    requires table { IsTable table.now }
+    requires legal { IsSome (next table.now s k) }
+    ensures { next table.now s k ≡ Some result }
+{
+    steps_within();
+    match table.next(s, k) {
+        Some(next) => next,
+        None => unreachable!(),
+    }
+}
+
+/// Takes t's open entries at or behind a place out of the log, runs the others there again from the
+/// state before that place, and answers the state after them.
+pub fn rerun(table: &TypeTable, log: &mut Vec<UndoEntry>, place: usize, t: u32, start: u16) -> u16
+    requires table { IsTable table.now }
+    requires inside { place ≤ length log.old.items }
+    requires legal { IsLegal table.now (Some start) (ops_of (filter (stays t) (entries (drop place log.old.items)))) }
+    ensures { IsRerun table.now t place log.old.items start log.new.items result }
+{
+    let mut state = start;
+    let mut kept = place;
+    for read in place..log.len() {
+        let entry = log[read].entry;
+        if !is_open_of(entry, t) {
+            log[kept] = UndoEntry {
+                entry,
+                before: state,
+            };
+            kept += 1;
+            state = next_state(table, state, entry.op);
+        }
+    }
+    log.truncate(kept);
+    state
+}

@@ -1,0 +1,90 @@
+ghost use Rattle.std.specs.Prelude.{◌≡◌, ◌↔◌, length, IsOk, IfOk, IfErr};
+ghost use Rattle.object_trait.specs.Steps.{IsFresh};
+ghost use Rattle.undo_manager.specs.Log.{BeginsOpen};
+
+use crate::opened::Opened;
+use crate::undo_entry::UndoEntry;
+use crate::wrong_kind::WrongKind;
+use object_trait::{checked_is_covered, fresh_is_sound};
+use std::alloc::Global;
+use std::marker::Model;
+use std::sync::Arc;
+use table_checker::CheckedType;
+use type_table::Kind;
+
+/// An object with update in place.
+///
+/// An operation works on the one state. A commit leaves it as it is; an abort takes the transaction's
+/// operations out of the log, and runs what others did since the first of them again.
+#[derive(Drop)]
+pub struct UndoManager {
+    /// Its type, for which the checker said yes.
+    pub(crate) checked: Arc<CheckedType>,
+    /// The state before the log.
+    pub(crate) base: u16,
+    /// The state after it.
+    pub(crate) state: u16,
+    /// What was done since the base, oldest first.
+    pub(crate) log: Vec<UndoEntry>,
+    /// The transactions with open entries.
+    pub(crate) opened: Vec<Opened>,
+}
+
+impl Model for UndoManager {
+    ghost use Rattle.object_trait.specs.Meaning.{Meaning};
+    ghost use Rattle.undo_manager.specs.Log.{entries};
+    ghost use Rattle.undo_manager.specs.Kept.{IsKept};
+
+    ghost Value = { Meaning };
+
+    ghost view = { λ a. record { checked = a.checked.value; base = a.base; log = entries a.log.items } };
+
+    ghost invariant = { λ a. IsKept a.checked.value a.base a.state a.log.items a.opened.items };
+}
+
+impl UndoManager {
+    /// A new object of a checked type. It takes no memory.
+    ///
+    /// # Errors
+    ///
+    /// The type was checked for another kind of recovery. It is handed back.
+    pub fn new(
+        alloc: Global,
+        checked: Arc<CheckedType>,
+    ) -> Result<UndoManager, (Arc<CheckedType>, WrongKind)>
+        ensures kind { IsOk result ↔ (checked.value.kind ≡ Kind.Undo) }
+        ensures fresh { IfOk result (λ m. IsFresh m × (m.checked ≡ checked.value)) }
+        ensures back { IfErr result (λ e. e.0 ≡ checked) }
+    {
+        match checked.kind() {
+            Kind::Undo => Ok(UndoManager::fresh(alloc, checked)),
+            Kind::Intentions => Err((checked, WrongKind)),
+        }
+    }
+
+    /// The object of a type that was checked for update in place, at the initial state.
+    fn fresh(alloc: Global, checked: Arc<CheckedType>) -> UndoManager
+        requires { checked.value.kind ≡ Kind.Undo }
+        ensures fresh { IsFresh result }
+        ensures checked { result.checked ≡ checked.value }
+    {
+        checked_is_covered();
+        fresh_is_sound();
+        let initial = checked.file().table.initial();
+        UndoManager {
+            checked,
+            base: initial,
+            state: initial,
+            log: Vec::new(alloc),
+            opened: Vec::new(alloc),
+        }
+    }
+
+    /// The length of the log, which is empty or begins with an open entry.
+    pub fn log_len(&self) -> u32
+        ensures exact { result ≡ length self.now.log }
+        ensures front { BeginsOpen self.now.log }
+    {
+        self.log.len() as u32
+    }
+}
