@@ -34,14 +34,14 @@ new_is_kept covers sound stands = λ k new.
       lists = new.lists;
       held = λ x held is. new.held x held is;
       begun = ap length new.rows;
-      rows = λ t row is. absurd (none-some row (ap (λ rows. slice_get rows t) (sym new.rows) ∙ is));
+      transactions = λ t row is. absurd (none-some row (ap (λ rows. slice_get rows t) (sym new.rows) ∙ is));
     }
 
 -- ---- who is open
 
 -- by a row that is there
 open-row : (k : Keeping) (H : List Event) (t : ℕ) (row : Option Row) → IsKept k H → slice_get k.rows t ≡ Some row → is_open (seen H) t ≡ is_some (row_of k t)
-open-row k H t row kept there = sym (kept.rows t row there).going ∙ ap is_some (sym (get_or_from_slice_get k.rows t row None there))
+open-row k H t row kept there = sym (kept.transactions t row there).going ∙ ap is_some (sym (get_or_from_slice_get k.rows t row None there))
 
 -- a transaction that never began
 never-began : (k : Keeping) (H : List Event) (t : ℕ) → IsKept k H → length k.rows ≤ t → is_open (seen H) t ≡ is_some (row_of k t)
@@ -67,14 +67,14 @@ count-cons test e V =
     ]
 
 -- so many numbers pass as there are elements, where a number passes where the element there is something
-count-open : {X : Type 0} (rows : List (Option X)) (first : ℕ) (test : ℕ → Bool)
+count-open : {X : Type 0} (first : ℕ) (rows : List (Option X)) (test : ℕ → Bool)
     → ((i : ℕ) (row : Option X) → slice_get rows i ≡ Some row → test (first + i) ≡ is_some row)
     → length (filter test (range_with_len first (length rows))) ≡ count_by is_some rows
-count-open [] first test same = refl
-count-open (row ∷ rows) first test same =
+count-open first [] test same = refl
+count-open first (row ∷ rows) test same =
     let here : test first ≡ is_some row = ap test (omega arith) ∙ same 0 row refl in
     let rest : length (filter test (range_with_len (first + 1) (length rows))) ≡ count_by is_some rows =
-    count-open rows (first + 1) test (λ i r there. ap test (omega arith) ∙ same (suc i) r there)
+    count-open (first + 1) rows test (λ i r there. ap test (omega arith) ∙ same (suc i) r there)
     in
     count-cons test first (range_with_len (first + 1) (length rows))
     ∙ ap (λ b. cond b 1 0 + length (filter test (range_with_len (first + 1) (length rows)))) here
@@ -84,7 +84,7 @@ count-open (row ∷ rows) first test same =
 pub rows_are_counted : RowsAreCounted
 rows_are_counted = λ k H kept.
     ap (λ n. length (filter (is_open (seen H)) (range_with_len 0 n))) (sym kept.begun)
-    ∙ count-open k.rows 0 (is_open (seen H)) (λ i row there. ap (is_open (seen H)) (omega arith) ∙ sym (kept.rows i row there).going)
+    ∙ count-open 0 k.rows (is_open (seen H)) (λ i row there. ap (is_open (seen H)) (omega arith) ∙ sym (kept.transactions i row there).going)
 
 -- ---- how many operations each has
 

@@ -56,11 +56,11 @@ module _ (k : Keeping) (H : List Event) (t : ℕ) (row : Row) (kept : IsKept k H
 
   -- it is open
   pub open-now : is_open (seen H) t ≡ true
-  open-now = sym (kept.rows t (Some row) row-at).going
+  open-now = sym (kept.transactions t (Some row) row-at).going
 
   -- its places
   pub row-places : row.places ≡ places_of t (seen H)
-  row-places = (kept.rows t (Some row) row-at).places row refl
+  row-places = (kept.transactions t (Some row) row-at).places row refl
 
   -- how many of its operations are at x, by its row
   pub own-count : (x : ℕ) → count_at x row.places ≡ length (of t (standing_at x H))

@@ -52,7 +52,7 @@ module _ (old new : Keeping) (H : List Event) (e : Event) (known : IsKept old H)
   rows-known = record {
     begun = known.begun;
     each = λ t row there.
-        let is = known.rows t row there in
+        let is = known.transactions t row there in
         record { going = is.going; worker = is.worker; places = is.places };
   }
 
@@ -80,5 +80,5 @@ stays_kept covers applies commits strikes goes_on on may_apply counted now in_ru
       lists = moves.lists ∙ known.lists ∙ sym moves.as_many;
       held = held-stays old new H e known may moves now in_run holds;
       begun = rows.begun;
-      rows = λ t row there. row-of row t (H ++ e ∷ []) (rows.each t row there);
+      transactions = λ t row there. row-of row t (H ++ e ∷ []) (rows.each t row there);
     }

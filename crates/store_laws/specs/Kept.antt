@@ -67,7 +67,7 @@ pub record IsKept (k : Keeping) (H : List Event) : Type 0 where
   pub lists : length k.held ≡ length k.meanings
   pub held : (x : ℕ) (l : List Held) → slice_get k.held x ≡ Some l → l ≡ map as_held (held_at x (seen H))
   pub begun : length k.rows ≡ (seen H).begun
-  pub rows : (t : ℕ) (row : Option Row) → slice_get k.rows t ≡ Some row → IsRow row t H
+  pub transactions : (t : ℕ) (row : Option Row) → slice_get k.rows t ≡ Some row → IsRow row t H
 
 -- and the history has room for the ends of open transactions, in its vector and by its limit
 pub record IsStore (k : Keeping) (H : List Event) (capacity max : ℕ) : Type 0 where
