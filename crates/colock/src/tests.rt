@@ -6,6 +6,7 @@ mod locks;
 mod memory_source;
 mod objects;
 mod printed;
+mod readme;
 mod relations;
 mod sinks;
 mod source;

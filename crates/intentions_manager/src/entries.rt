@@ -6,19 +6,12 @@ ghost use Rattle.object_trait.specs.Meaning.{is_open_of, open_of};
 
 use object_trait::{LogEntry, keeps_none, keeps_parts};
 
-/// Whether an entry is an open one of t.
-pub fn is_open_of(entry: LogEntry, t: u32) -> bool
-    ensures { result ≡ is_open_of t entry }
-{
-    entry.by == t && !entry.done
-}
-
 /// How many of t's entries are left to pass, once this one is passed.
 fn left_behind(entry: LogEntry, t: u32, left: u32) -> u32
     requires { 0 < left }
     ensures { result ≡ (if is_open_of t entry then left - 1 else left) }
 {
-    if is_open_of(entry, t) { left - 1 } else { left }
+    if entry.is_open_of(t) { left - 1 } else { left }
 }
 
 /// The place from which on the log has the last `count` open entries of t.
@@ -45,7 +38,7 @@ pub fn cut_from(log: &mut Vec<LogEntry>, from: usize, t: u32)
     for i in from..log.len() {
         let entry = log[i];
         log[kept] = entry;
-        kept += usize::from(!is_open_of(entry, t));
+        kept += usize::from(!entry.is_open_of(t));
     }
     log.truncate(kept);
 }

@@ -5,7 +5,6 @@ mod entries;
 mod manager;
 mod views;
 pub mod worked;
-mod wrong_kind;
 
 pub use manager::IntentionsManager;
-pub use wrong_kind::WrongKind;
+pub use object_trait::WrongKind;

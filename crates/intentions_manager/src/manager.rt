@@ -4,10 +4,10 @@ ghost use Rattle.object_trait.specs.Steps.{IsFresh};
 
 use crate::entries::{cut_from, place_of_last, take_out};
 use crate::views::{View, carry, drop_view, place_of, put_view, seen_at, seen_by, stepped, walked};
-use crate::wrong_kind::WrongKind;
 use object_trait::{
-    LogEntry, Recovery, checked_is_covered, fresh_is_sound, keeps_first, keeps_none, keeps_others,
-    keeps_parts, opens_commute, sound_after_apply, sound_after_commit, sound_after_strike,
+    LogEntry, Recovery, WrongKind, checked_is_covered, fresh_is_sound, keeps_first, keeps_none,
+    keeps_others, keeps_parts, opens_are_counted, opens_commute, sound_after_apply,
+    sound_after_commit, sound_after_strike,
 };
 use std::alloc::{AllocError, Global};
 use std::marker::Model;
@@ -166,6 +166,7 @@ impl Recovery for IntentionsManager {
     }
 
     fn open_count(&self) -> u32 {
+        opens_are_counted();
         self.views.len() as u32
     }
 

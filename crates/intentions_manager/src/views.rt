@@ -5,7 +5,6 @@ ghost use Rattle.object_trait.specs.Meaning.{is_open_of};
 ghost use Rattle.intentions_manager.specs.Views.{place_of, bare, seen_by, with_view, without_view};
 ghost use Rattle.intentions_manager.specs.Walk.{stepped, entered, walked, moved, step_view, carried, FitsTable};
 
-use crate::entries::is_open_of;
 use object_trait::LogEntry;
 use type_table::TypeTable;
 
@@ -95,7 +94,7 @@ fn entered(table: &TypeTable, t: u32, s: u16, entry: LogEntry) -> u16
     ensures exact { result ≡ entered table.now t s entry }
     ensures inside { result < table.now.states }
 {
-    if is_open_of(entry, t) {
+    if entry.is_open_of(t) {
         stepped(table, s, entry.op)
     } else {
         s
@@ -137,7 +136,7 @@ fn step_views(views: &mut Vec<View>, table: &TypeTable, t: u32, entry: LogEntry)
     ensures exact { views.new.items ≡ map (step_view table.now t entry) views.old.items }
     ensures states { All (FitsTable table.now) views.new.items }
 {
-    if is_open_of(entry, t) {
+    if entry.is_open_of(t) {
         step_all(views, table, entry.op);
     }
 }

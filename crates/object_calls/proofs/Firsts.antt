@@ -1,5 +1,6 @@
 -- The least number that passes a test, found by going up.
-use Rattle.std.proofs.Common.{◌≡◌, ℕ, zero, suc, ◌<◌, ◌≤◌, Bool, true, false, Option, Some, None, refl, sym, ◌∙◌, subst, inl, inr, arith}
+use Rattle.std.proofs.Common.{◌≡◌, ℕ, zero, suc, ◌<◌, ◌≤◌, Bool, true, false, Option, Some, None, refl, sym, ap, ◌∙◌, subst, inl, inr, arith}
+use Rattle.std.specs.Option.{option_or}
 use Rattle.std.proofs.lemmas.Bool.{cases_eq}
 use Rattle.serial_order.specs.Answer.{found_or, first_below}
 
@@ -10,6 +11,29 @@ first_below-stays test k j (suc n) found le =
     elim (cases_eq k (suc n)) [
       | inl same ↦ subst (λ m. first_below m test ≡ Some j) same found
       | inr less ↦ rw (first_below-stays test k j n found (omega (arith, le, less))) refl
+    ]
+
+-- what was found before is kept, and else a number that passes is found
+pub found_or_true : (found : Option ℕ) (n : ℕ) → found_or found true n ≡ option_or found (Some n)
+found_or_true (Some k) n = refl
+found_or_true None n = refl
+
+-- and one that doesn't isn't
+pub found_or_false : (found : Option ℕ) (n : ℕ) → found_or found false n ≡ found
+found_or_false (Some k) n = refl
+found_or_false None n = refl
+
+-- a stretch in which none passes changes nothing
+pub first_below-skip : (test : ℕ → Bool) (done n : ℕ) → done ≤ n → ((q : ℕ) → done ≤ q → q < n → test q ≡ false) → first_below n test ≡ first_below done test
+first_below-skip test done zero le none = let same : done ≡ zero = omega (arith, le) in ap (λ m. first_below m test) (sym same)
+first_below-skip test done (suc n) le none =
+    elim (cases_eq done (suc n)) [
+      | inl same ↦ ap (λ m. first_below m test) (sym same)
+      | inr less ↦
+          let below : done ≤ n = omega (arith, le, less) in
+          ap (λ passes. found_or (first_below n test) passes n) (none n below (omega arith))
+          ∙ found_or_false (first_below n test) n
+          ∙ first_below-skip test done n below (λ q from to. none q from (omega (arith, to)))
     ]
 
 -- k passes, and none below it does
@@ -24,9 +48,11 @@ below_or n k (Some j) passes below is = let low : k < n = below k is in omega (a
 below_or n k None true below is = let same : n ≡ k = cc in omega (arith, same)
 below_or n k None false below is = cc
 
+-- below the number that the search goes up to
 first_below-below : (test : ℕ → Bool) (n k : ℕ) → first_below n test ≡ Some k → k < n
 first_below-below test zero k is = cc
 first_below-below test (suc n) k is = below_or n k (first_below n test) (test n) (first_below-below test n) is
 
+-- also where it has a name
 pub found_below : (test : ℕ → Bool) (n k : ℕ) (found : Option ℕ) → found ≡ first_below n test → found ≡ Some k → k < n
 found_below test n k found found_is is = first_below-below test n k (sym found_is ∙ is)

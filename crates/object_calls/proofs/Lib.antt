@@ -5,3 +5,5 @@ pub mod Changes
 pub mod Ended
 pub mod Counts
 pub mod Struck
+pub mod Bits
+pub mod Searching

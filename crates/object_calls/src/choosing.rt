@@ -1,24 +1,30 @@
 //! The answer of a call at one object.
 
 ghost use Rattle.std.specs.Prelude.{◌≡◌, ◌<◌, All, length};
+ghost use Rattle.call_table.specs.Calls.{HasOperations};
 ghost use Rattle.object_calls.specs.Answers.{busy_with, answer_of};
 
 use crate::answer::Answer;
+use crate::lowest::take_lowest;
+use call_table::Call;
 use object_trait::Recovery;
 use op_locks::OpLocks;
 
-/// The answer of t's call, whose least operation is c, at this object, where this is held.
-pub fn choose<R: Recovery>(object: &R, locks: &OpLocks, t: u32, c: u8) -> Answer
-    requires call { c < length (R.meaning object.now).checked.file.table.ops }
+/// The answer of t's call at this object, where this is held.
+pub fn choose<R: Recovery>(object: &R, locks: &OpLocks, t: u32, call: Call) -> Answer
+    requires operations { HasOperations (R.meaning object.now).checked.file.table call.first call.operations }
     requires held { All (λ e. e.op < length (R.meaning object.now).checked.file.table.ops) locks.now.held }
-    ensures { result ≡ answer_of (R.meaning object.now) locks.now.held t c }
+    ensures { result ≡ answer_of (R.meaning object.now) locks.now.held t call.first }
 {
     let checked = object.checked();
-    let table = checked.table();
     let conflicts = checked.conflicts();
+    // So a word has a bit for each operation.
+    prove!(checked.table().op_count() <= 64);
     let mut first = None;
-    for k in 0..table.op_count() {
-        if table.same_call(k, c) && object.legal(t, k) {
+    let mut left = call.operations;
+    while left != 0 {
+        let k = take_lowest(&mut left);
+        if object.legal(t, k) {
             if locks.blocker(conflicts, t, k).is_none() {
                 return Answer::Reply(k);
             }

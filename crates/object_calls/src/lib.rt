@@ -5,6 +5,7 @@
 mod answer;
 mod choosing;
 mod end;
+mod lowest;
 mod strike;
 
 pub use answer::Answer;

@@ -1,3 +1,4 @@
+pub mod Counting
 pub mod Intentions
 pub mod Kept
 pub mod Lists

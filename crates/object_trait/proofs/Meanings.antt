@@ -3,7 +3,7 @@ use Rattle.std.proofs.Common.{◌≡◌, ℕ, false, eqb, List, [], ◌∷◌, �
 use Rattle.std.specs.List.{AllByRecursion}
 use Rattle.type_table.specs.Run.{IsLegal}
 use Rattle.type_table.specs.Commute.{Covers}
-use Rattle.type_table.specs.Laws.{RunsAlong}
+use Rattle.type_table.specs.Laws.{RunsAlong, EndsInside}
 use Rattle.type_table.specs.declared.kind.Kind.{Kind}
 use Rattle.type_table.specs.declared.kind.Kind.TheVariants.{Undo, Intentions}
 use Rattle.table_checker.specs.Checked.{Checked}
@@ -58,25 +58,25 @@ pub applied-sound : RunsAlong → SoundAfterApply
 applied-sound along = λ m t k covers sound may. applied_by along m.checked.kind (object m) m.base m.log t k sound may.legal may.free
 
 -- and by a commit
-committed_by : RunsAlong → ListsForward → (kind : Kind) (o : Object) → Covers kind o.table o.set o.conflicts → (base : ℕ) (log : List LogEntry) (t new_base : ℕ) (new_log : List LogEntry) →
+committed_by : RunsAlong → EndsInside → ListsForward → (kind : Kind) (o : Object) → Covers kind o.table o.set o.conflicts → (base : ℕ) (log : List LogEntry) (t new_base : ℕ) (new_log : List LogEntry) →
     IsSoundBy kind o base log → IsCommitBy kind o base log t new_base new_log → IsSoundBy kind o new_base new_log
-committed_by along forward Undo o covers base log t new_base new_log sound commit = undo-committed along o covers base log t new_base new_log sound commit
-committed_by along forward Intentions o covers base log t new_base new_log sound commit = intentions-committed along forward o covers base log t new_base new_log sound commit
+committed_by along ends forward Undo o covers base log t new_base new_log sound commit = undo-committed along ends o covers base log t new_base new_log sound commit
+committed_by along ends forward Intentions o covers base log t new_base new_log sound commit = intentions-committed along forward o covers base log t new_base new_log sound commit
 
 -- the law of commits
-pub committed-sound : RunsAlong → ListsForward → SoundAfterCommit
-committed-sound along forward = λ old new t covers sound h.
+pub committed-sound : RunsAlong → EndsInside → ListsForward → SoundAfterCommit
+committed-sound along ends forward = λ old new t covers sound h.
     subst (λ (c : Checked). IsSoundBy c.kind (object_of c) new.base new.log) (sym h.checked)
-    (committed_by along forward old.checked.kind (object old) covers old.base old.log t new.base new.log sound h.commit)
+    (committed_by along ends forward old.checked.kind (object old) covers old.base old.log t new.base new.log sound h.commit)
 
 -- and by a strike
-struck_sound_by : RunsAlong → PartsSort LogEntry → StruckPart LogEntry → SortsLook LogEntry → KeepsFirst LogEntry → (kind : Kind) (o : Object) → Covers kind o.table o.set o.conflicts →
+struck_sound_by : RunsAlong → EndsInside → PartsSort LogEntry → StruckPart LogEntry → SortsLook LogEntry → KeepsFirst LogEntry → (kind : Kind) (o : Object) → Covers kind o.table o.set o.conflicts →
     (base : ℕ) (log : List LogEntry) (t n new_base : ℕ) (new_log : List LogEntry) → IsSoundBy kind o base log → IsStrikeBy kind o base log t n new_base new_log → IsSoundBy kind o new_base new_log
-struck_sound_by along parts strike sorts keeps Undo o covers base log t n new_base new_log sound h = undo-struck along parts strike sorts o covers base log t n new_base new_log sound h
-struck_sound_by along parts strike sorts keeps Intentions o covers base log t n new_base new_log sound h = intentions-struck along keeps o base log t n new_base new_log sound h
+struck_sound_by along ends parts strike sorts keeps Undo o covers base log t n new_base new_log sound h = undo-struck along ends parts strike sorts o covers base log t n new_base new_log sound h
+struck_sound_by along ends parts strike sorts keeps Intentions o covers base log t n new_base new_log sound h = intentions-struck along keeps o base log t n new_base new_log sound h
 
 -- the law of strikes and aborts
-pub struck-sound : RunsAlong → PartsSort LogEntry → StruckPart LogEntry → SortsLook LogEntry → KeepsFirst LogEntry → SoundAfterStrike
-struck-sound along parts strike sorts keeps = λ old new t n covers sound h.
+pub struck-sound : RunsAlong → EndsInside → PartsSort LogEntry → StruckPart LogEntry → SortsLook LogEntry → KeepsFirst LogEntry → SoundAfterStrike
+struck-sound along ends parts strike sorts keeps = λ old new t n covers sound h.
     subst (λ (c : Checked). IsSoundBy c.kind (object_of c) new.base new.log) (sym h.checked)
-    (struck_sound_by along parts strike sorts keeps old.checked.kind (object old) covers old.base old.log t n new.base new.log sound h.strike)
+    (struck_sound_by along ends parts strike sorts keeps old.checked.kind (object old) covers old.base old.log t n new.base new.log sound h.strike)

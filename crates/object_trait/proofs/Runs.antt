@@ -1,10 +1,9 @@
 -- Runs along lists of operations, and along the operations of logs.
-use Rattle.std.proofs.Common.{◌≡◌, ℕ, Bool, true, List, [], ◌∷◌, ◌++◌, Option, Some, None, IsSome, refl}
+use Rattle.std.proofs.Common.{◌≡◌, ℕ, List, [], ◌∷◌, ◌++◌, Option, Some, None, IsSome, refl}
 use Rattle.std.proofs.lemmas.Bool.{false≢true}
 use Rattle.std.proofs.lemmas.List.{map-append}
-use Rattle.type_table.specs.Table.{Table, next}
+use Rattle.type_table.specs.Table.{Table}
 use Rattle.type_table.specs.Run.{run, IsLegal}
-use Rattle.type_table.specs.StateSet.{IsClosed}
 use Rattle.type_table.specs.Laws.{RunsAlong}
 use Rattle.object_trait.specs.Meaning.{ops_of}
 use Rattle.object_trait.specs.declared.log_entry.LogEntry.{LogEntry}
@@ -32,15 +31,6 @@ legal_here T o t w e h = rw e h
 -- ends after a step are related as the ends from the state to which it leads
 pub related_here : (T : Table) (R : Option ℕ → Option ℕ → Type 0) (o : Option ℕ) (t : ℕ) (v w : List ℕ) → o ≡ Some t → R (run T (Some t) v) (run T (Some t) w) → R (run T o v) (run T o w)
 related_here T R o t v w e h = rw e h
-
--- a run from a state of a closed set ends in one
-pub stays_inside : (T : Table) (set : ℕ → Bool) → IsClosed T set → (w : List ℕ) (s t : ℕ) → set s ≡ true → run T (Some s) w ≡ Some t → set t ≡ true
-stays_inside T set closed [] s t member e =
-    let same : s ≡ t = cc in
-    rw same at member
-stays_inside T set closed (k ∷ w) s t member e =
-    let step = from_state T (next T s k) w (is_there (run T (next T s k) w) t e) in
-    stays_inside T set closed w step.0 t (closed s k step.0 member step.1) (rw step.1 at e)
 
 -- ---- lists put together
 

@@ -4,7 +4,7 @@ use Rattle.std.specs.List.{filter, AllByRecursion}
 use Rattle.std.proofs.lemmas.Bool.{both_ways, not-true, eqb-true, eq-eqb, cases_Bool, and_parts, and_from, or_parts, or_from, not_from_false}
 use Rattle.type_table.specs.Run.{IsLegal}
 use Rattle.type_table.specs.Commute.{CommutesBackward, Covers}
-use Rattle.type_table.specs.Laws.{RunsAlong}
+use Rattle.type_table.specs.Laws.{RunsAlong, EndsInside}
 use Rattle.type_table.specs.declared.kind.Kind.TheVariants.{Undo}
 use Rattle.object_trait.specs.Object.{Object}
 use Rattle.object_trait.specs.Strike.{keep_first}
@@ -14,7 +14,7 @@ use Rattle.object_trait.specs.Steps.{IsOfAnotherOpen, IsSettled, marked}
 use Rattle.object_trait.specs.Laws.{PartsSort, StruckPart, SortsLook}
 use Rattle.object_trait.specs.declared.log_entry.LogEntry.{LogEntry}
 use Rattle.object_trait.proofs.Lists.{each-weaker, pairs-both, pairs-push, pairs-behind, pairs-map}
-use Rattle.object_trait.proofs.Runs.{stays_inside, ops-append, front-legal, rest-legal, push-legal}
+use Rattle.object_trait.proofs.Runs.{ops-append, front-legal, rest-legal, push-legal}
 use Rattle.object_trait.proofs.Striking.{pairs-keep_first}
 
 -- ---- a further operation
@@ -47,10 +47,10 @@ undo-applied along o base log t k sound legal free =
 -- ---- settling
 
 -- update in place stays sound by a leading stretch of done entries that moves into base
-settled : RunsAlong → (o : Object) → Covers Undo o.table o.set o.conflicts → (base : ℕ) (log : List LogEntry) (new_base : ℕ) (new_log : List LogEntry) →
+settled : RunsAlong → EndsInside → (o : Object) → Covers Undo o.table o.set o.conflicts → (base : ℕ) (log : List LogEntry) (new_base : ℕ) (new_log : List LogEntry) →
     IsSoundUndo o base log → IsSettled o base log new_base new_log → IsSoundUndo o new_base new_log
-settled along o covers base log new_base new_log sound s = record {
-  inside = stays_inside o.table o.set covers.closed (ops_of s.moved) base new_base sound.inside s.reached;
+settled along ends o covers base log new_base new_log sound s = record {
+  inside = ends o.table o.set base new_base (ops_of s.moved) covers.closed sound.inside s.reached;
   legal = rest-legal along o.table (Some base) (ops_of s.moved) (ops_of new_log) new_base (rw (s.front, ops-append s.moved new_log) at sound.legal) s.reached;
   in_order = pairs-behind IsInOrder s.moved new_log (rw s.front at sound.in_order);
   locked = pairs-behind (IsLocked o) s.moved new_log (rw s.front at sound.locked);
@@ -74,9 +74,9 @@ marked-locked : (o : Object) (t : ℕ) (a b : LogEntry) → IsLocked o a b → I
 marked-locked o t a b locked = λ held other. locked (or_parts a.done (eqb a.by t) held).0 other
 
 -- update in place stays sound by a commit
-pub undo-committed : RunsAlong → (o : Object) → Covers Undo o.table o.set o.conflicts → (base : ℕ) (log : List LogEntry) (t new_base : ℕ) (new_log : List LogEntry) →
+pub undo-committed : RunsAlong → EndsInside → (o : Object) → Covers Undo o.table o.set o.conflicts → (base : ℕ) (log : List LogEntry) (t new_base : ℕ) (new_log : List LogEntry) →
     IsSoundUndo o base log → IsSettled o base (map (marked t) log) new_base new_log → IsSoundUndo o new_base new_log
-undo-committed along o covers base log t new_base new_log sound s = settled along o covers base (map (marked t) log) new_base new_log
+undo-committed along ends o covers base log t new_base new_log sound s = settled along ends o covers base (map (marked t) log) new_base new_log
     (record {
       inside = sound.inside;
       legal = rw (ops-marked t log) sound.legal;
@@ -117,10 +117,10 @@ struck-legal along parts strike sorts o covers base log t n sound =
     front-legal along o.table (Some base) (ops_of left) (ops_of gone) (rw (ops-append left gone) at looks.0)
 
 -- update in place stays sound by a strike
-pub undo-struck : RunsAlong → PartsSort LogEntry → StruckPart LogEntry → SortsLook LogEntry → (o : Object) → Covers Undo o.table o.set o.conflicts →
+pub undo-struck : RunsAlong → EndsInside → PartsSort LogEntry → StruckPart LogEntry → SortsLook LogEntry → (o : Object) → Covers Undo o.table o.set o.conflicts →
     (base : ℕ) (log : List LogEntry) (t n new_base : ℕ) (new_log : List LogEntry) → IsSoundUndo o base log → IsSettled o base (keep_first (is_open_of t) n log) new_base new_log →
     IsSoundUndo o new_base new_log
-undo-struck along parts strike sorts o covers base log t n new_base new_log sound s = settled along o covers base (keep_first (is_open_of t) n log) new_base new_log
+undo-struck along ends parts strike sorts o covers base log t n new_base new_log sound s = settled along ends o covers base (keep_first (is_open_of t) n log) new_base new_log
     (record {
       inside = sound.inside;
       legal = struck-legal along parts strike sorts o covers base log t n sound;

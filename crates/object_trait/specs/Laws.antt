@@ -1,5 +1,6 @@
 -- Statements of laws: exchanges of neighbours, and meanings that stay sound.
-use Rattle.std.specs.Prelude.{◌≡◌, ℕ, ◌-◌, Bool, true, false, not, ◌==◌, List, [], ◌++◌, map, filter, take, drop, length, Some}
+use Rattle.std.specs.Prelude.{◌≡◌, ℕ, ◌-◌, ◌≤◌, Bool, true, false, not, ◌==◌, nat_lt, List, [], ◌++◌, map, filter, take, drop, length, Some}
+use Rattle.std.specs.List.{list_any}
 use Rattle.type_table.specs.Table.{Table}
 use Rattle.type_table.specs.Run.{run, IsLegal, Looks, AreEqui}
 use Rattle.type_table.specs.StateSet.{IsClosed}
@@ -11,7 +12,7 @@ use Rattle.object_trait.specs.Orders.{Pairs, Sorts, Parts}
 use Rattle.object_trait.specs.Strike.{keep_first}
 use Rattle.object_trait.specs.Meaning.{Meaning, object, ops_of, is_open_of, open_of}
 use Rattle.object_trait.specs.Sound.{IsSound}
-use Rattle.object_trait.specs.Steps.{IsFresh, MayApply, applied, IsCommit, Keeps}
+use Rattle.object_trait.specs.Steps.{IsFresh, open_transactions, MayApply, applied, IsCommit, Keeps}
 use Rattle.object_trait.specs.declared.log_entry.LogEntry.{LogEntry}
 
 -- ---- exchanges of neighbours
@@ -106,3 +107,9 @@ SoundAfterStrike = (old new : Meaning) (t n : ℕ) → IsCovered (object old) �
 -- a commit, a strike and an abort of a transaction without open entries may leave a meaning as it is
 abbrev pub UntouchedStays : Type 0
 UntouchedStays = (m : Meaning) (t : ℕ) → IsSound m → open_of t m.log ≡ [] → IsCommit m t m × ((n : ℕ) → Keeps m t n m)
+
+-- numbers of which none is listed twice, and that are those of the transactions with an open entry, are as many as the open transactions, and no more than the log has entries
+abbrev pub OpensAreCounted : Type 0
+OpensAreCounted =
+    (log : List LogEntry) (ts : List ℕ) → Pairs (λ a b. (b == a) ≡ false) ts → ((t : ℕ) → list_any (λ u. u == t) ts ≡ nat_lt 0 (length (open_of t log)))
+    → (length ts ≡ length (open_transactions log)) × (length ts ≤ length log)

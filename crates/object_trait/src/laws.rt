@@ -1,11 +1,11 @@
 //! Laws of exchanges of neighbours and of meanings: each is a function that does nothing, whose
 //! contract is the law. It calls the laws on which it depends.
 
-ghost use Rattle.object_trait.specs.Laws.{PartsSort, KeepsFirst, KeepsNone, KeepsParts, KeepsOthers, StruckPart, SortsLook, SortsEqui, CheckedIsCovered, StruckLogIsLegal, OpensCommute, FreshIsSound, SoundAfterApply, SoundAfterCommit, SoundAfterStrike, UntouchedStays};
+ghost use Rattle.object_trait.specs.Laws.{PartsSort, KeepsFirst, KeepsNone, KeepsParts, KeepsOthers, StruckPart, SortsLook, SortsEqui, CheckedIsCovered, StruckLogIsLegal, OpensCommute, FreshIsSound, SoundAfterApply, SoundAfterCommit, SoundAfterStrike, UntouchedStays, OpensAreCounted};
 
 use crate::log_entry::LogEntry;
 use table_checker::{strong_yes_covers, yes_covers};
-use type_table::{equi_extends, lists_forward, looks_extends, runs_along};
+use type_table::{ends_inside, equi_extends, lists_forward, looks_extends, runs_along};
 
 /// In a list of two parts, of which the elements of one may each move behind those of the other that
 /// come behind it, the first part can be moved to the end, neighbour by neighbour.
@@ -98,6 +98,7 @@ pub fn sound_after_commit()
     ensures { SoundAfterCommit }
 {
     runs_along();
+    ends_inside();
     lists_forward();
 }
 
@@ -110,9 +111,16 @@ pub fn sound_after_strike()
     struck_part::<LogEntry>();
     sorts_look::<LogEntry>();
     runs_along();
+    ends_inside();
 }
 
 /// A commit, a strike and an abort of a transaction without open entries may leave a meaning as it is.
 pub fn untouched_stays()
     ensures { UntouchedStays }
+{}
+
+/// A list that names each transaction with an open entry once, and no other, is as long as that of the
+/// open transactions, and no longer than the log.
+pub fn opens_are_counted()
+    ensures { OpensAreCounted }
 {}

@@ -6,15 +6,17 @@ mod event;
 mod laws;
 mod log_entry;
 mod recovery;
+mod wrong_kind;
 
 pub use any_object::AnyObject;
 pub use event::{Event, EventKind};
 pub use laws::{
     checked_is_covered, fresh_is_sound, keeps_first, keeps_none, keeps_others, keeps_parts,
-    opens_commute, parts_sort, sorts_equi, sorts_look, sound_after_apply, sound_after_commit,
-    sound_after_strike, struck_log_is_legal, struck_part, untouched_stays,
+    opens_are_counted, opens_commute, parts_sort, sorts_equi, sorts_look, sound_after_apply,
+    sound_after_commit, sound_after_strike, struck_log_is_legal, struck_part, untouched_stays,
 };
 pub use log_entry::LogEntry;
 pub use recovery::Recovery;
+pub use wrong_kind::WrongKind;
 
 pub mod worked;

@@ -1,3 +1,5 @@
+ghost use Rattle.std.specs.Prelude.{◌≡◌};
+
 /// An operation in an object's log.
 #[derive(Clone, Copy, Debug, PartialEq, Eq)]
 pub struct LogEntry {
@@ -7,4 +9,15 @@ pub struct LogEntry {
     pub op: u8,
     /// Whether its transaction has committed. An entry that isn't done is open.
     pub done: bool,
+}
+
+impl LogEntry {
+    ghost use Rattle.object_trait.specs.Meaning.{is_open_of};
+
+    /// Whether it is an open entry of t.
+    pub fn is_open_of(self, t: u32) -> bool
+        ensures { result ≡ is_open_of t self }
+    {
+        self.by == t && !self.done
+    }
 }

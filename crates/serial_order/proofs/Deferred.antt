@@ -3,9 +3,8 @@ use Rattle.std.proofs.Common.{◌≡◌, ℕ, Bool, true, false, ◌==◌, List,
 use Rattle.std.proofs.lemmas.Bool.{cases_Bool, false≢true, eqb-true}
 use Rattle.std.proofs.lemmas.List.{append_assoc, take-append-drop}
 use Rattle.type_table.specs.Table.{Table}
-use Rattle.type_table.specs.Run.{run}
 use Rattle.type_table.specs.Commute.{CommuteForward}
-use Rattle.type_table.specs.Laws.{RunsAlong}
+use Rattle.type_table.specs.Laws.{RunsAlong, EndsInside, LegalEnds}
 use Rattle.type_table.specs.declared.kind.Kind.TheVariants.{Intentions}
 use Rattle.type_table.specs.Lists.{ListsForward}
 use Rattle.object_trait.specs.Object.{Object, IsCovered}
@@ -18,7 +17,7 @@ use Rattle.serial_order.proofs.Facts.{IsHeldFree, IsLegalAt, held_free-commit, D
 use Rattle.serial_order.proofs.Lists.{eqb-sym, is_one-apart, is_among-neither, ops-append, serial-snoc, serial-apart, of-apart, of-more, serial-strike}
 use Rattle.serial_order.proofs.Pairs.{pairs-weaker, pairs-push, pairs-keep_first, pairs-at}
 use Rattle.serial_order.proofs.Chosen.{from_chosen}
-use Rattle.serial_order.proofs.Legal.{some_state, run-inside, starts_inside, legal-front, legal-behind, legal-after}
+use Rattle.serial_order.proofs.Legal.{legal-front, legal-behind, legal-after}
 
 -- ---- views
 
@@ -120,13 +119,13 @@ module _ (o : Object) (C : List ℕ) (V : List Entry) (covered : IsCovered o) (k
       rw (a.is, b.is) at (pairs-at Commuting V a.element b.element never_both pairs a.inside b.inside a.passes b.passes)
 
   -- what u sees after the commit of t is legal
-  view_after : RunsAlong → ListsForward → DeferredFacts o C V → IsLegalAt o (ops (serial (C ++ t ∷ []) V ++ of u V))
-  view_after along forward facts =
+  view_after : RunsAlong → EndsInside → LegalEnds → ListsForward → DeferredFacts o C V → IsLegalAt o (ops (serial (C ++ t ∷ []) V ++ of u V))
+  view_after along inside ends forward facts =
       let T = o.table in
       let begin : Option ℕ = Some o.table.initial in
       let before = ops (serial C V) in
-      let reached = some_state (run T begin before) facts.serial_legal in
-      let member = run-inside T o.set covered.closed begin before (starts_inside o.set o.table.initial covered.begins_inside) reached.0 reached.1 in
+      let reached = ends T begin before facts.serial_legal in
+      let member = inside T o.set o.table.initial reached.0 before covered.closed covered.begins_inside reached.1 in
       let t_legal = legal-behind along T begin before (ops (of t V)) reached.0 reached.1 (rw (ops-append (serial C V) (of t V)) at (facts.views_legal t t_pending)) in
       let u_legal = legal-behind along T begin before (ops (of u V)) reached.0 reached.1 (rw (ops-append (serial C V) (of u V)) at (facts.views_legal u u_pending)) in
       let joined = forward T o.set reached.0 (ops (of t V)) (ops (of u V)) covered.closed member (lists_commute facts.locked) t_legal u_legal in
@@ -136,11 +135,11 @@ module _ (o : Object) (C : List ℕ) (V : List Entry) (covered : IsCovered o) (k
       rw whole (legal-after along T begin before (ops (of t V) ++ ops (of u V)) reached.0 reached.1 joined.0)
 
 -- and by a commit
-pub deferred_commit : RunsAlong → ListsForward → DeferredCommit
-deferred_commit along forward = λ o C V t covered kind uncommitted facts. record {
+pub deferred_commit : RunsAlong → EndsInside → LegalEnds → ListsForward → DeferredCommit
+deferred_commit along inside ends forward = λ o C V t covered kind uncommitted facts. record {
   locked = pairs-weaker (held_free-commit o C t) V facts.locked;
   serial_legal = rw (serial-snoc C t V) (facts.views_legal t uncommitted);
   views_legal = λ u pending.
       let neither = is_among-neither C t u pending in
-      view_after o C V covered kind t u uncommitted neither.0 neither.1 along forward facts;
+      view_after o C V covered kind t u uncommitted neither.0 neither.1 along inside ends forward facts;
 }

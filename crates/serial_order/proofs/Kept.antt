@@ -4,7 +4,7 @@ use Rattle.std.proofs.lemmas.Bool.{not_from_true, true_from_ne_false, true≢fal
 use Rattle.std.proofs.lemmas.List.{append-nil}
 use Rattle.type_table.specs.Commute.{CommutesBackwardBothWays, CommutesStrongly}
 use Rattle.type_table.specs.Run.{run, Looks, AreEqui}
-use Rattle.type_table.specs.Laws.{RunsAlong}
+use Rattle.type_table.specs.Laws.{RunsAlong, EndsInside, LegalEnds}
 use Rattle.type_table.specs.declared.kind.Kind.{Kind}
 use Rattle.type_table.specs.declared.kind.Kind.TheVariants.{Undo, Intentions}
 use Rattle.type_table.specs.Lists.{ListsForward}
@@ -48,7 +48,7 @@ idle_none_pending objects H x run idle = filter-none _ (standing_at x H)
 
 -- ---- the serial order
 
-module _ (along : RunsAlong) (parts : PartsSort Entry) (struck : StruckPart Entry) (look : SortsLook Entry) (equi : SortsEqui Entry) (forward : ListsForward)
+module _ (along : RunsAlong) (inside : EndsInside) (ends : LegalEnds) (parts : PartsSort Entry) (struck : StruckPart Entry) (look : SortsLook Entry) (equi : SortsEqui Entry) (forward : ListsForward)
     (objects : List Object) (H : List Event) (covered : AreCovered objects) (going : IsRun objects H) where
   -- update in place: commit order is legal, and the view's end looks like its end
   in_commit_order : (x : ℕ) (o : Object) → slice_get objects x ≡ Some o → o.kind ≡ Undo
@@ -71,7 +71,7 @@ module _ (along : RunsAlong) (parts : PartsSort Entry) (struck : StruckPart Entr
   serial_is_legal x o there = ⊎_elim
       (λ (undo : o.kind ≡ Undo). legal-front along o.table (Some o.table.initial) (ops (serial_at x H)) (ops (pending_at x H))
       (rw (ops-append (serial_at x H) (pending_at x H)) at ((in_commit_order x o there undo).0)))
-      (λ (deferred : o.kind ≡ Intentions). (deferred_in_run along forward objects H x o covered going there deferred).serial_legal)
+      (λ (deferred : o.kind ≡ Intentions). (deferred_in_run along inside ends forward objects H x o covered going there deferred).serial_legal)
       (by_kind o.kind)
 
   -- ---- kept states
@@ -98,8 +98,8 @@ module _ (along : RunsAlong) (parts : PartsSort Entry) (struck : StruckPart Entr
       (by_kind m.checked.kind)
 
 -- the headline
-pub headline : RunsAlong → PartsSort Entry → StruckPart Entry → SortsLook Entry → SortsEqui Entry → ListsForward → Headline
-headline along parts struck look equi forward objects H covered going = record {
-  serially_legal = serial_is_legal along parts struck look equi forward objects H covered going;
-  kept = kept_agrees along parts struck look equi forward objects H covered going;
+pub headline : RunsAlong → EndsInside → LegalEnds → PartsSort Entry → StruckPart Entry → SortsLook Entry → SortsEqui Entry → ListsForward → Headline
+headline along inside ends parts struck look equi forward objects H covered going = record {
+  serially_legal = serial_is_legal along inside ends parts struck look equi forward objects H covered going;
+  kept = kept_agrees along inside ends parts struck look equi forward objects H covered going;
 }

@@ -1,31 +1,11 @@
--- Runs from a state: what is legal in front and behind, and what stays so of the states that they reach.
-use Rattle.std.proofs.Common.{◌≡◌, ℕ, Bool, true, List, [], ◌∷◌, ◌++◌, Option, Some, None, IsSome, refl, ap, ◌∙◌}
-use Rattle.std.proofs.lemmas.Bool.{false≢true}
-use Rattle.type_table.specs.Table.{Table, next}
+-- Runs from a state: what is legal in front and behind, and what stays so of their ends.
+use Rattle.std.proofs.Common.{◌≡◌, ℕ, List, [], ◌∷◌, ◌++◌, Option, Some, None, IsSome, refl, ap, ◌∙◌}
+use Rattle.type_table.specs.Table.{Table}
 use Rattle.type_table.specs.Run.{run, IsLegal, Looks, AreEqui}
-use Rattle.type_table.specs.StateSet.{IsClosed}
 use Rattle.type_table.specs.Laws.{RunsAlong}
 use Rattle.serial_order.specs.Operations.{ops}
 use Rattle.serial_order.specs.declared.entry.Entry.{Entry}
 use Rattle.serial_order.proofs.Lists.{ops-append}
-
--- ---- states
-
--- what is there is some state
-pub some_state : (from : Option ℕ) → IsSome from → (s : ℕ) × (from ≡ Some s)
-some_state None there = absurd (false≢true there)
-some_state (Some s) there = (s, refl)
-
--- a run from a state of a closed set ends in the set
-pub run-inside : (T : Table) (set : ℕ → Bool) → IsClosed T set → (from : Option ℕ) (w : List ℕ) →
-    ((s : ℕ) → from ≡ Some s → set s ≡ true) → (s : ℕ) → run T from w ≡ Some s → set s ≡ true
-run-inside T set closed from [] inside s reached = inside s reached
-run-inside T set closed None (k ∷ w) inside s reached = run-inside T set closed None w inside s reached
-run-inside T set closed (Some a) (k ∷ w) inside s reached = run-inside T set closed (next T a k) w (λ b step. closed a k b (inside a refl) step) s reached
-
--- a state of the set is whatever state it is
-pub starts_inside : (set : ℕ → Bool) (a : ℕ) → set a ≡ true → (s : ℕ) → Some a ≡ Some s → set s ≡ true
-starts_inside set a member s same = cc
 
 -- ---- what is legal
 

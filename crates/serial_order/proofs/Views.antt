@@ -2,7 +2,7 @@
 use Rattle.std.proofs.Common.{◌≡◌, ℕ, List, [], ◌∷◌, ◌++◌, Some, slice_get, true, false, ◌==◌, ◌⊎◌, inl, inr, ⊎_elim, refl, sym, subst}
 use Rattle.std.proofs.Math.Bool.{or-false}
 use Rattle.std.proofs.lemmas.List.{append-nil}
-use Rattle.type_table.specs.Laws.{RunsAlong}
+use Rattle.type_table.specs.Laws.{RunsAlong, EndsInside, LegalEnds}
 use Rattle.type_table.specs.declared.kind.Kind.{Kind}
 use Rattle.type_table.specs.declared.kind.Kind.TheVariants.{Undo, Intentions}
 use Rattle.type_table.specs.Lists.{ListsForward}
@@ -31,7 +31,7 @@ pub by_kind : (kind : Kind) → (kind ≡ Undo) ⊎ (kind ≡ Intentions)
 by_kind Undo = inl refl
 by_kind Intentions = inr refl
 
-module _ (along : RunsAlong) (forward : ListsForward) where
+module _ (along : RunsAlong) (inside : EndsInside) (ends : LegalEnds) (forward : ListsForward) where
   -- in a run, the facts of deferred update
   pub deferred_in_run : (objects : List Object) (H : List Event) (x : ℕ) (o : Object) → AreCovered objects → IsRun objects H
       → slice_get objects x ≡ Some o → o.kind ≡ Intentions → DeferredFacts o (commits H) (standing_at x H)
@@ -40,7 +40,7 @@ module _ (along : RunsAlong) (forward : ListsForward) where
       (record {
         op = λ C V e free legal facts. deferred_op o C V e (covered x o there) deferred free legal facts;
         strike = λ C V t n apart facts. deferred_strike along o C V t n (covered x o there) deferred apart facts;
-        commit = λ C V t apart facts. deferred_commit along forward o C V t (covered x o there) deferred apart facts;
+        commit = λ C V t apart facts. deferred_commit along inside ends forward o C V t (covered x o there) deferred apart facts;
       })
       (λ s t k legal. subst (λ (by : Kind). is_legal_after o (view by s x t) k ≡ true) deferred legal)
       (record { locked = tt; serial_legal = refl; views_legal = λ t apart. refl }) H run
@@ -50,7 +50,7 @@ still_open : (s : Seen) (t u : ℕ) → (u == t) ≡ false → is_open s u ≡ t
 still_open s t u other open_now =
     rw (is_among-snoc s.committed t u, eqb-sym t u, other, or-false (is_among s.committed u), append-nil s.aborted) open_now
 
-module _ (along : RunsAlong) (parts : PartsSort Entry) (struck : StruckPart Entry) (look : SortsLook Entry) (forward : ListsForward) where
+module _ (along : RunsAlong) (inside : EndsInside) (ends : LegalEnds) (parts : PartsSort Entry) (struck : StruckPart Entry) (look : SortsLook Entry) (forward : ListsForward) where
   -- what each open transaction sees is legal
   pub views_are_legal : ViewsAreLegal
   views_are_legal objects H x o t covered run there open_now =
@@ -58,7 +58,7 @@ module _ (along : RunsAlong) (parts : PartsSort Entry) (struck : StruckPart Entr
       ⊎_elim
       (λ (undo : o.kind ≡ Undo). subst seen_legal (sym undo) (undo_in_run along parts struck look objects H x o covered run there undo).legal)
       (λ (deferred : o.kind ≡ Intentions). subst seen_legal (sym deferred)
-      ((deferred_in_run along forward objects H x o covered run there deferred).views_legal t (open_is_uncommitted (seen H) t open_now)))
+      ((deferred_in_run along inside ends forward objects H x o covered run there deferred).views_legal t (open_is_uncommitted (seen H) t open_now)))
       (by_kind o.kind)
 
 -- and stays so by a commit

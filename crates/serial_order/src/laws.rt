@@ -8,7 +8,7 @@ ghost use Rattle.serial_order.specs.Laws.{RunIsHistory, RunGoesOn, StandsAsRead,
 
 use crate::entry::Entry;
 use object_trait::{checked_is_covered, parts_sort, sorts_equi, sorts_look, struck_part};
-use type_table::{lists_forward, runs_along};
+use type_table::{ends_inside, legal_ends, lists_forward, runs_along};
 
 /// Each run of the machine is a history.
 #[tactic(auto, using(crate::proofs::Histories::run_is_history))]
@@ -150,6 +150,8 @@ pub fn views_are_legal()
     ensures { ViewsAreLegal }
 {
     runs_along();
+    ends_inside();
+    legal_ends();
     parts_sort::<Entry>();
     struck_part::<Entry>();
     sorts_look::<Entry>();
@@ -201,6 +203,8 @@ pub fn headline()
     ensures { Headline }
 {
     runs_along();
+    ends_inside();
+    legal_ends();
     parts_sort::<Entry>();
     struck_part::<Entry>();
     sorts_look::<Entry>();

@@ -12,14 +12,14 @@ use Rattle.object_trait.specs.Object.{IsCovered, object_of}
 use Rattle.object_trait.specs.Meaning.{Meaning, ops_of, is_open_of, open_of, state_of, view_of}
 use Rattle.object_trait.specs.Sound.{IsSoundUndo}
 use Rattle.object_trait.specs.Steps.{IsLegalFor}
-use Rattle.object_trait.specs.Laws.{CheckedIsCovered, FreshIsSound}
+use Rattle.object_trait.specs.Laws.{CheckedIsCovered, FreshIsSound, OpensAreCounted}
 use Rattle.object_trait.specs.declared.log_entry.LogEntry.{LogEntry}
 use Rattle.undo_manager.specs.Kept.{IsKept}
 use Rattle.undo_manager.specs.Log.{entries, Steps, start_of, unsettled}
 use Rattle.undo_manager.specs.Opened.{count_of, IsCounted, IsRecounted}
 use Rattle.undo_manager.specs.declared.opened.Opened.{Opened}
 use Rattle.undo_manager.specs.declared.undo_entry.UndoEntry.{UndoEntry}
-use Rattle.undo_manager.proofs.Counting.{counts-length, open-length}
+use Rattle.undo_manager.proofs.Counting.{counts-length}
 use Rattle.undo_manager.proofs.InPlace.{state_in, view_in, sound_out}
 use Rattle.undo_manager.proofs.Running.{steps-run}
 use Rattle.undo_manager.proofs.Settling.{unsettled-begins, unsettled-length, unsettled-steps, unsettled-settled, unsettled-opens}
@@ -58,9 +58,9 @@ pub legal-next : (c : Checked) (base state : ℕ) (log : List UndoEntry) (counts
 legal-next c base state log counts t k kept h = legal-one c.file.table (view_of (meaning_of c base log) t) state k (view-is c base state log counts t kept) h
 
 -- there are no more counts than entries
-pub counts-fit : (c : Checked) (base state : ℕ) (log : List UndoEntry) (counts : List Opened) → IsKept c base state log counts → length counts ≤ 4294967295
-counts-fit c base state log counts kept =
-    omega (arith, counts-length (entries log) counts kept.counted, open-length (entries log), length-map log (λ (u : UndoEntry). u.entry), kept.room)
+pub counts-fit : OpensAreCounted → (c : Checked) (base state : ℕ) (log : List UndoEntry) (counts : List Opened) → IsKept c base state log counts → length counts ≤ 4294967295
+counts-fit count c base state log counts kept =
+    omega (arith, (counts-length count (entries log) counts kept.counted).1, length-map log (λ (u : UndoEntry). u.entry), kept.room)
 
 -- and none of a transaction's is more than the log's length
 pub count-length : (t : ℕ) (log : List LogEntry) (counts : List Opened) → IsCounted log counts → count_of t counts ≤ length log

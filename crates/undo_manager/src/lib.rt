@@ -8,9 +8,8 @@ mod recovery;
 mod stepping;
 mod undo_entry;
 mod undo_manager;
-mod wrong_kind;
 
+pub use object_trait::WrongKind;
 pub use undo_manager::UndoManager;
-pub use wrong_kind::WrongKind;
 
 pub mod worked;

@@ -1,21 +1,13 @@
 //! What a log goes through at a further operation, at a commit, and where it is settled.
 
 ghost use Rattle.std.specs.Prelude.{◌≡◌, ◌+◌, ◌≤◌, ◌<◌, ◌++◌, ◌∷◌, [], length, map, drop, OnOk, OnErr};
-ghost use Rattle.object_trait.specs.Meaning.{is_open_of, open_of};
+ghost use Rattle.object_trait.specs.Meaning.{open_of};
 ghost use Rattle.undo_manager.specs.Log.{entries, unsettled, marked_one, start_of};
 ghost use Rattle.undo_manager.specs.Opened.{count_of, AreListed, IsRecounted};
 
 use crate::opened::{Opened, count_one_more};
 use crate::undo_entry::UndoEntry;
-use object_trait::LogEntry;
 use std::alloc::AllocError;
-
-/// Whether an entry is an open one of t.
-pub fn is_open_of(entry: LogEntry, t: u32) -> bool
-    ensures { result ≡ is_open_of t entry }
-{
-    entry.by == t && !entry.done
-}
 
 /// Appends an entry of t, and counts it.
 ///
@@ -52,7 +44,7 @@ pub fn mark(log: &mut Vec<UndoEntry>, t: u32, count: u32)
     while left > 0 {
         place -= 1;
         let mut one = log[place];
-        if is_open_of(one.entry, t) {
+        if one.entry.is_open_of(t) {
             one.entry.done = true;
             log[place] = one;
             left -= 1;
@@ -71,7 +63,7 @@ pub fn place_of(log: &[UndoEntry], t: u32, m: u32) -> usize
     let mut place = log.len();
     while left > 0 {
         place -= 1;
-        if is_open_of(log[place].entry, t) {
+        if log[place].entry.is_open_of(t) {
             left -= 1;
         }
     }

@@ -9,8 +9,8 @@ use crate::stepping::{next_state, rerun};
 use crate::undo_entry::UndoEntry;
 use crate::undo_manager::UndoManager;
 use object_trait::{
-    LogEntry, Recovery, keeps_first, keeps_none, keeps_others, keeps_parts, sound_after_apply,
-    sound_after_commit, sound_after_strike, struck_log_is_legal,
+    LogEntry, Recovery, keeps_first, keeps_none, keeps_others, keeps_parts, opens_are_counted,
+    sound_after_apply, sound_after_commit, sound_after_strike, struck_log_is_legal,
 };
 use std::alloc::AllocError;
 use table_checker::CheckedType;
@@ -87,6 +87,7 @@ impl Recovery for UndoManager {
     }
 
     fn open_count(&self) -> u32 {
+        opens_are_counted();
         self.opened.len() as u32
     }
 

@@ -7,7 +7,6 @@ ghost use Rattle.object_trait.specs.Meaning.{ops_of};
 ghost use Rattle.undo_manager.specs.Log.{entries, stays};
 ghost use Rattle.undo_manager.specs.Rerun.{IsRerun};
 
-use crate::log::is_open_of;
 use crate::undo_entry::UndoEntry;
 use type_table::{TypeTable, steps_within};
 
@@ -36,7 +35,7 @@ pub fn rerun(table: &TypeTable, log: &mut Vec<UndoEntry>, place: usize, t: u32, 
     let mut kept = place;
     for read in place..log.len() {
         let entry = log[read].entry;
-        if !is_open_of(entry, t) {
+        if !entry.is_open_of(t) {
             log[kept] = UndoEntry {
                 entry,
                 before: state,

@@ -4,8 +4,7 @@ ghost use Rattle.undo_manager.specs.Log.{BeginsOpen};
 
 use crate::opened::Opened;
 use crate::undo_entry::UndoEntry;
-use crate::wrong_kind::WrongKind;
-use object_trait::{checked_is_covered, fresh_is_sound};
+use object_trait::{WrongKind, checked_is_covered, fresh_is_sound};
 use std::alloc::Global;
 use std::marker::Model;
 use std::sync::Arc;

@@ -1,22 +1,20 @@
 use Rattle.std.proofs.Common.{rules, ◌≡◌, ◌≤◌, length, ◌∙◌, arith}
 use Rattle.object_trait.specs.Steps.{open_transactions}
-use Rattle.intentions_manager.proofs.Counting.{count-views, open-few}
+use Rattle.intentions_manager.proofs.Counting.{count-views}
 use Rattle.intentions_manager.proofs.manager.IntentionsManagerRecovery.open_count.Goals as goal
 
--- one view for each open transaction
-counted : (c : goal.After-len) → length c.self.inside.views.items ≡ length (open_transactions c.self.inside.log.items)
+-- one view for each open transaction, and no more than entries
+counted : (c : goal.After-len) → (length c.self.inside.views.items ≡ length (open_transactions c.self.inside.log.items)) × (length c.self.inside.views.items ≤ length c.self.inside.log.items)
 counted c =
     let h = c.self.invariant in
-    let sound = rw h.deferred at h.sound in
-    count-views c.self.inside.base c.self.inside.log.items c.self.inside.views.items sound.all_open h.some h.distinct (λ u. (h.seen u).counted)
+    count-views c.opens_are_counted.ensures c.self.inside.base c.self.inside.log.items c.self.inside.views.items h.some h.distinct (λ u. (h.seen u).counted)
 
 pub overflow_cast-result : goal.overflow_cast-result
 overflow_cast-result c =
     let room = c.self.invariant.room in
-    let few = open-few c.self.inside.log.items in
-    let same = counted c in
+    let few = (counted c).1 in
     let here : c.len.result ≤ 4294967295 = omega (arith, c.len.ensures, c.self.inside.views.ok.0) in
     search rules
 
 pub returns : goal.returns
-returns c = rw (← c.self.view_is) (c.len.ensures ∙ c.self.inside.views.ok.0 ∙ counted c)
+returns c = rw (← c.self.view_is) (c.len.ensures ∙ c.self.inside.views.ok.0 ∙ (counted c).0)

@@ -1,0 +1,4 @@
+pub mod Places
+pub mod Collecting
+pub mod Tabled
+pub mod Examples

@@ -1,0 +1,104 @@
+ghost use Rattle.std.specs.Prelude.{◌≡◌};
+
+use intentions_manager::IntentionsManager;
+use object_trait::Recovery;
+use std::alloc::{AllocError, Global};
+use std::sync::Arc;
+use table_checker::CheckedType;
+use type_table::Kind;
+use undo_manager::UndoManager;
+
+/// An object of either kind of recovery. Its meaning is that of the manager inside.
+#[derive(Drop)]
+pub enum Object {
+    /// Update in place.
+    Undo(UndoManager),
+    /// Deferred update.
+    Intentions(IntentionsManager),
+}
+
+impl Object {
+    ghost use Rattle.object_trait.specs.Steps.{IsFresh};
+    ghost use Rattle.objects.specs.Object.{meaning_of};
+
+    /// A new object of a checked type, with the kind of recovery for which that was checked. It takes
+    /// no memory.
+    pub fn new(alloc: Global, checked: Arc<CheckedType>) -> Object
+        ensures fresh { IsFresh (meaning_of result) }
+        ensures checked { (meaning_of result).checked ≡ checked.value }
+    {
+        match checked.kind() {
+            Kind::Undo => Object::Undo(UndoManager::new(alloc, checked).unwrap()),
+            Kind::Intentions => Object::Intentions(IntentionsManager::new(alloc, checked).unwrap()),
+        }
+    }
+}
+
+impl Recovery for Object {
+    ghost use Rattle.objects.specs.Object.{meaning_of};
+
+    ghost meaning = { meaning_of };
+
+    fn checked(&self) -> &CheckedType {
+        match self {
+            Object::Undo(manager) => manager.checked(),
+            Object::Intentions(manager) => manager.checked(),
+        }
+    }
+
+    fn state(&self) -> u16 {
+        match self {
+            Object::Undo(manager) => manager.state(),
+            Object::Intentions(manager) => manager.state(),
+        }
+    }
+
+    fn legal(&self, t: u32, k: u8) -> bool {
+        match self {
+            Object::Undo(manager) => manager.legal(t, k),
+            Object::Intentions(manager) => manager.legal(t, k),
+        }
+    }
+
+    fn apply(&mut self, t: u32, k: u8) -> Result<(), AllocError> {
+        match self {
+            Object::Undo(manager) => manager.apply(t, k),
+            Object::Intentions(manager) => manager.apply(t, k),
+        }
+    }
+
+    fn commit(&mut self, t: u32) {
+        match self {
+            Object::Undo(manager) => manager.commit(t),
+            Object::Intentions(manager) => manager.commit(t),
+        }
+    }
+
+    fn abort(&mut self, t: u32) {
+        match self {
+            Object::Undo(manager) => manager.abort(t),
+            Object::Intentions(manager) => manager.abort(t),
+        }
+    }
+
+    fn strike(&mut self, t: u32, m: u32) {
+        match self {
+            Object::Undo(manager) => manager.strike(t, m),
+            Object::Intentions(manager) => manager.strike(t, m),
+        }
+    }
+
+    fn open_count(&self) -> u32 {
+        match self {
+            Object::Undo(manager) => manager.open_count(),
+            Object::Intentions(manager) => manager.open_count(),
+        }
+    }
+
+    fn is_fresh(&self) -> bool {
+        match self {
+            Object::Undo(manager) => manager.is_fresh(),
+            Object::Intentions(manager) => manager.is_fresh(),
+        }
+    }
+}

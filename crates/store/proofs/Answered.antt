@@ -1,0 +1,261 @@
+-- A call at an object: its answer, and what that changes.
+use Rattle.std.proofs.Common.{◌≡◌, ℕ, ◌+◌, ◌<◌, ◌≤◌, Bool, true, false, not, nat_lt, nat_le, List, [], ◌∷◌, ◌++◌, length, map, set, get_or, Option, Some, Ok, Err, slice_get, refl, sym, ap, subst, ◌∙◌, inl, inr, arith}
+use Rattle.std.specs.Option.{option_map}
+use Rattle.std.specs.Str.{bytes_eq}
+use Rattle.std.proofs.lemmas.Bool.{and_right}
+use Rattle.std.proofs.lemmas.Bool.Decides.{nat_tests}
+use Rattle.std.proofs.lemmas.List.{length-map, get_or-map}
+use Rattle.std.proofs.lemmas.List.Quantifiers.{position-Some}
+use Rattle.std.proofs.lemmas.Option.{slice_get-map, slice_get_within}
+use Rattle.type_table.specs.Table.{call_of}
+use Rattle.type_table.specs.declared.op.Op.{Op}
+use Rattle.object_trait.specs.Object.{Object, object_of}
+use Rattle.object_trait.specs.Meaning.{Meaning, object}
+use Rattle.object_trait.specs.Steps.{MayApply}
+use Rattle.object_trait.specs.declared.event.Event.{Event}
+use Rattle.object_trait.specs.declared.event.EventKind.{EventKind}
+use Rattle.serial_order.specs.History.{seen, is_open}
+use Rattle.serial_order.specs.Machine.{IsFirstOfCall, MayFollow}
+use Rattle.serial_order.specs.Answer.{event_of_call}
+use Rattle.serial_order.specs.Replay.{open_count, is_full, call_event}
+use Rattle.serial_order.specs.After.{LogsAreCounted}
+use Rattle.serial_order.specs.Laws.{AnswerMayFollow, MachineMayApply}
+use Rattle.serial_order.specs.declared.refusal.Refusal.TheVariants.{HistoryFull, NoMemory}
+use Rattle.call_table.specs.Calls.{IsCall}
+use Rattle.call_table.specs.declared.call.Call.{Call}
+use Rattle.call_table.specs.declared.call.NamedCall.{NamedCall}
+use Rattle.op_locks.specs.Locks.{Locks}
+use Rattle.op_locks.specs.declared.held.Held.{Held}
+use Rattle.object_calls.specs.Answers.{answer_of}
+use Rattle.object_calls.specs.declared.answer.Answer.{Answer}
+use Rattle.object_calls.specs.declared.answer.Answer.TheVariants as answer
+use Rattle.open_transactions.specs.Transactions as table
+use Rattle.open_transactions.specs.Transactions.{Row, row, pushed, count_open}
+use Rattle.store_laws.specs.Stored.{Stored, objects, types_of}
+use Rattle.store_laws.specs.Kept.{keeping, held_of, objects_of, IsKept}
+use Rattle.store_laws.specs.Moves.{Moves, StaysKept}
+use Rattle.store_laws.specs.Before.{RowsSayWhoIsOpen, RowsAreCounted}
+use Rattle.store_laws.specs.Words.{as_event, AnswersAsDefined}
+use Rattle.store_laws.specs.Events.{takes, QuietMoves, OpMoves, TypesStay, RoomAfter}
+use Rattle.store.specs.Calls.{Comes}
+use Rattle.store.specs.Executed.{IsExecuted}
+use Rattle.store.specs.Whole.{IsWhole}
+use Rattle.store.proofs.Stored.{stored, shown, event-whole}
+use Rattle.store.proofs.Begins.{full-then, full-else}
+use Rattle.store.proofs.Opens.{some-of, open-alike, lists-alike}
+use Rattle.store.proofs.Executed.{seen-at}
+
+-- ---- the call
+
+-- the object of a meaning
+pub object-at : (ms : List Meaning) (x : ℕ) (m : Meaning) → slice_get ms x ≡ Some m → slice_get (objects_of ms) x ≡ Some (object m)
+object-at ms x m there =
+    slice_get-map object_of (types_of ms) x
+    ∙ ap (option_map object_of) (slice_get-map (λ (n : Meaning). n.checked) ms x ∙ ap (option_map (λ (n : Meaning). n.checked)) there)
+
+-- at one place there is one thing
+pub one-at : {A : Type 0} (xs : List A) (x : ℕ) (a b : A) → slice_get xs x ≡ Some a → slice_get xs x ≡ Some b → a ≡ b
+one-at xs x a b first second = cc
+
+-- what the caller of a call at x knows
+abbrev pub IsThere : Stored → ℕ → Call → Type 0
+IsThere s x call = (o : Object) × (slice_get (objects s) x ≡ Some o) × IsCall o.table call
+
+-- an open transaction's call at the object of this meaning, where this is held
+pub record IsCalled (ms : List Meaning) (locks : List Locks) (rows : List (Option Row)) (H : List Event) (t x : ℕ) (call : Call) (m : Meaning) (held : List Held) : Type 0 where
+  pub kept : IsKept (keeping ms locks rows) H
+  pub going : is_open (seen H) t ≡ true
+  pub there : slice_get ms x ≡ Some m
+  pub list : slice_get (held_of locks) x ≡ Some held
+  pub is_call : IsCall m.checked.file.table call
+
+module _ (ms : List Meaning) (locks : List Locks) (rows : List (Option Row)) (H : List Event) (max : ℕ) (s : Stored) (x : ℕ) (call : Call)
+    (same : shown (keeping ms locks rows) H max ≡ s) (known : IsThere s x call) where
+  -- the object that the caller knows
+  known-at : slice_get (objects_of ms) x ≡ Some known.0
+  known-at = subst (λ (z : Stored). slice_get (objects z) x ≡ Some known.0) (sym same) known.1
+
+  -- is there
+  pub called-inside : (n : ℕ) → length ms ≡ n → x < n
+  called-inside n many =
+      subst (λ k. x < k) (length-map (types_of ms) object_of ∙ length-map ms (λ (m : Meaning). m.checked) ∙ many) (slice_get_within (objects_of ms) x known.0 known-at)
+
+  -- and has this call
+  pub called-at : (t : ℕ) (m : Meaning) (held : List Held) → IsKept (keeping ms locks rows) H → is_open (seen s.history) t ≡ true
+      → slice_get ms x ≡ Some m → slice_get (held_of locks) x ≡ Some held → IsCalled ms locks rows H t x call m held
+  called-at t m held kept going there list =
+      record {
+        kept = kept;
+        going = subst (λ (z : Stored). is_open (seen z.history) t ≡ true) (sym same) going;
+        there = there;
+        list = list;
+        is_call = subst (λ (z : Object). IsCall z.table call) (one-at (objects_of ms) x known.0 (object m) known-at (object-at ms x m there)) known.2;
+      }
+
+-- so for objects that mean it
+pub called-of : {A : Type 0} (meaning : A → Meaning) (objects : List A) (locks : List Locks) (rows : List (Option Row)) (H : List Event) (max : ℕ) (s : Stored) (t x : ℕ) (call : Call)
+    (o : A) (list : Locks) → shown (keeping (map meaning objects) locks rows) H max ≡ s → IsKept (keeping (map meaning objects) locks rows) H
+    → is_open (seen s.history) t ≡ true → IsThere s x call → o ≡ get_or objects x o → list ≡ get_or locks x list
+    → IsCalled (map meaning objects) locks rows H t x call (meaning o) list.held
+called-of meaning objects locks rows H max s t x call o list same kept going known is_object is_list =
+    let ms = map meaning objects in
+    let as_many : length locks ≡ length ms = lists-alike ms locks rows H (length ms) kept refl in
+    called-at ms locks rows H max s x call same known t (meaning o) list.held kept going
+    (seen-at meaning objects x o (called-inside ms locks rows H max s x call same known (length objects) (length-map objects meaning)) is_object)
+    (seen-at (λ (l : Locks). l.held) locks x list (called-inside ms locks rows H max s x call same known (length locks) (sym as_many)) is_list)
+
+-- whose transaction has a row
+pub still-open : RowsSayWhoIsOpen → (ms : List Meaning) (locks : List Locks) (rows : List (Option Row)) (H : List Event) (max : ℕ) (s : Stored) (t : ℕ)
+    → shown (keeping ms locks rows) H max ≡ s → IsKept (keeping ms locks rows) H → is_open (seen s.history) t ≡ true → table.is_open rows t ≡ true
+still-open says ms locks rows H max s t same kept going =
+    sym (open-alike says ms locks rows H t kept) ∙ subst (λ (z : Stored). is_open (seen z.history) t ≡ true) (sym same) going
+
+-- and of the least of its operations
+pub call-least : (o : Object) (call : Call) → IsCall o.table call → IsFirstOfCall o call.first
+call-least o call is =
+    let T = o.table in
+    let name = call_of T call.first in
+    let d : Op = record { call = []; reply = [] } in
+    let place = position-Some (λ (q : Op). bytes_eq q.call name) T.ops call.first d is.least in (
+      place.0,
+      λ k before. and_right (nat_lt k (length T.ops)) (bytes_eq (call_of T k) name)
+          (ap (λ n. bytes_eq n name) (get_or-map (λ (q : Op). q.call) T.ops k d [] (omega (arith, before, place.0))) ∙ place.2 k before),
+    )
+
+-- ---- room for its event
+
+-- what the test of room said
+pub room-tested : RowsAreCounted → (ms : List Meaning) (locks : List Locks) (rows : List (Option Row)) (H K : List Event) (opened max : ℕ) (has said : Bool)
+    → IsKept (keeping ms locks rows) H → opened ≡ count_open rows → K ≡ H → has ≡ nat_le (length K + opened + 1) max → has ≡ said → is_full max H 1 ≡ not said
+room-tested counted ms locks rows H K opened max has said kept exact same test says =
+    let counts : opened ≡ open_count (seen H) = exact ∙ sym (counted (keeping ms locks rows) H kept) in
+    let told : nat_le (length H + opened + 1) max ≡ said = ap (λ L. nat_le (length L + opened + 1) max) (sym same) ∙ sym test ∙ says in
+    elim said as (λ b. nat_le (length H + opened + 1) max ≡ b → is_full max H 1 ≡ not b) [
+      | true ↦ full-else H opened 1 max counts
+      | false ↦ full-then H opened 1 max counts
+    ] told
+
+-- where it isn't full there is room
+pub room-left : (H : List Event) (max : ℕ) → is_full max H 1 ≡ false → length H + open_count (seen H) + 1 ≤ max
+room-left H max room = grind (arith, nat_tests, room)
+
+-- ---- its answer
+
+module _ {ms : List Meaning} {locks : List Locks} {rows : List (Option Row)} {H : List Event} {t x : ℕ} {call : Call} {m : Meaning} {held : List Held} {a : Answer}
+    (called : IsCalled ms locks rows H t x call m held) (is_answer : a ≡ answer_of m held t call.first) where
+  -- is that of the event that the history defines
+  answer-event : AnswersAsDefined → as_event t x call.first a ≡ event_of_call (object m) (seen H) x t call.first
+  answer-event defined =
+      ap (as_event t x call.first) (is_answer ∙ ap (λ held. answer_of m held t call.first) (called.kept.held x held called.list))
+      ∙ defined m x H t call.first (called.kept.objects x m called.there).represents called.going
+
+  -- and so the event of the call
+  pub answer-defined : AnswersAsDefined → call_event (slice_get (objects_of ms) x) (seen H) x t (Some call.first) ≡ Some (as_event t x call.first a)
+  answer-defined defined = ap (λ o. call_event o (seen H) x t (Some call.first)) (object-at ms x m called.there) ∙ ap Some (sym (answer-event defined))
+
+  -- which may follow
+  pub answer-follows : AnswersAsDefined → AnswerMayFollow → (w : ℕ) → MayFollow (objects_of ms) H (record { worker = w; kind = as_event t x call.first a })
+  answer-follows defined follow w =
+      subst (λ happened. MayFollow (objects_of ms) H (record { worker = w; kind = happened })) (sym (answer-event defined))
+      (follow (objects_of ms) H x (object m) w t call.first (object-at ms x m called.there) called.going (call-least (object m) call called.is_call))
+
+  -- so that a reply may be executed
+  pub reply-may : AnswersAsDefined → AnswerMayFollow → MachineMayApply → LogsAreCounted → (k max : ℕ) → a ≡ answer.Reply k → is_full max H 1 ≡ false → max ≤ 4294967295
+      → MayApply m t k
+  reply-may defined follow machine counted k max replies room fits =
+      let represents = (called.kept.objects x m called.there).represents in
+      let log = (counted m x H represents).short in
+      let limited = room-left H max room in
+      machine (objects_of ms) H 0 t x k m called.kept.run
+      (subst (λ b. MayFollow (objects_of ms) H (record { worker = 0; kind = as_event t x call.first b })) replies (answer-follows defined follow 0))
+      (object-at ms x m called.there) represents (omega (arith, log, limited, fits))
+
+-- and is one of 64 operations
+pub reply-fits : {ms : List Meaning} {locks : List Locks} {rows : List (Option Row)} {H : List Event} {t x : ℕ} {call : Call} {m : Meaning} {held : List Held}
+    → IsCalled ms locks rows H t x call m held → (k : ℕ) → MayApply m t k → k < 64
+reply-fits {x = x} {m = m} called k may =
+    let few = (called.kept.objects x m called.there).checked.table.ops_fit in
+    let below = may.operation in
+    omega (arith, few, below)
+
+-- ---- what it changes
+
+-- a reply executes its operation, and any other answer changes nothing
+abbrev pub IsDone : Answer → ℕ → ℕ → List Meaning → List Meaning → List Locks → List Locks → List (Option Row) → List (Option Row) → Type 0
+IsDone (answer.Reply k) t x ms now locks after rows left = IsExecuted t x k ms now locks after rows left
+IsDone a t x ms now locks after rows left = (now ≡ ms) × (held_of after ≡ held_of locks) × (left ≡ rows)
+
+-- an answer that is no reply changes nothing
+pub quiet-done : (a : Answer) (t x : ℕ) (ms : List Meaning) (locks : List Locks) (rows : List (Option Row)) → ((k : ℕ) → a ≡ answer.Reply k → ⊥)
+    → IsDone a t x ms ms locks locks rows rows
+quiet-done (answer.Reply k) t x ms locks rows another = absurd (another k refl)
+quiet-done (answer.Busy u) t x ms locks rows another = (refl, refl, refl)
+quiet-done answer.None t x ms locks rows another = (refl, refl, refl)
+
+-- it takes room for one event
+answer-takes : (t x c : ℕ) (a : Answer) → takes (as_event t x c a) ≡ 1
+answer-takes t x c (answer.Reply k) = refl
+answer-takes t x c (answer.Busy u) = refl
+answer-takes t x c answer.None = refl
+
+-- its event is the last
+pub answer-last : (H K after : List Event) (w t x y c : ℕ) (a : Answer) (happened : EventKind) → after ≡ K ++ (record { worker = w; kind = happened }) ∷ [] → K ≡ H
+    → happened ≡ as_event t y c a → y ≡ x → after ≡ H ++ (record { worker = w; kind = as_event t x c a }) ∷ []
+answer-last H K after w t x y c a happened appends same is here =
+    appends
+    ∙ ap (λ L. L ++ (record { worker = w; kind = happened }) ∷ []) same
+    ∙ ap (λ k. H ++ (record { worker = w; kind = k }) ∷ []) (is ∙ ap (λ z. as_event t z c a) here)
+
+-- which is what its event does
+answer-moved : QuietMoves → OpMoves → (ms now : List Meaning) (locks lists : List Locks) (rows left : List (Option Row)) (H : List Event) (w t x c : ℕ) (a : Answer)
+    → IsKept (keeping ms locks rows) H → table.is_open rows t ≡ true → IsDone a t x ms now locks lists rows left
+    → Moves (keeping ms locks rows) (keeping now lists left) H (record { worker = w; kind = as_event t x c a })
+answer-moved quiet op ms now locks lists rows left H w t x c (answer.Reply k) kept going done =
+    let found = some-of (row rows t) going in
+    op (keeping ms locks rows) (keeping now lists left) H w t x k found.0 done.m done.list kept found.1 done.there done.held done.object done.lists
+    (done.row ∙ ap (λ r. set rows t (option_map (pushed x) r)) found.1)
+answer-moved quiet op ms now locks lists rows left H w t x c (answer.Busy u) kept going done =
+    (quiet (keeping ms locks rows) (keeping now lists left) H w t x c kept done.0 done.1 done.2).0 u
+answer-moved quiet op ms now locks lists rows left H w t x c answer.None kept going done =
+    (quiet (keeping ms locks rows) (keeping now lists left) H w t x c kept done.0 done.1 done.2).1
+
+module _ (quiet : QuietMoves) (op : OpMoves) (types : TypesStay) (ms now : List Meaning) (locks lists : List Locks) (rows left : List (Option Row)) (H after : List Event)
+    (w t x c : ℕ) (a : Answer) (kept : IsKept (keeping ms locks rows) H) (going : table.is_open rows t ≡ true) (done : IsDone a t x ms now locks lists rows left)
+    (appended : after ≡ H ++ (record { worker = w; kind = as_event t x c a }) ∷ []) where
+  -- what is kept
+  pub answer-whole : StaysKept → RoomAfter → RowsAreCounted → (calls : List (List NamedCall)) (room more max opened : ℕ) → IsWhole ms calls locks rows H room max
+      → MayFollow (objects_of ms) H (record { worker = w; kind = as_event t x c a }) → opened ≡ count_open rows → max ≤ 4294967295
+      → length H + opened + 1 ≤ more → is_full max H 1 ≡ false → IsWhole now calls lists left after more max
+  answer-whole stays room_after counted calls room more max opened whole may exact fits reserved free =
+      let takes_one = answer-takes t x c a in
+      let counts : open_count (seen H) ≡ count_open rows = counted (keeping ms locks rows) H kept in
+      let limited = room-left H max free in
+      event-whole stays room_after types ms now calls locks lists rows left H after (record { worker = w; kind = as_event t x c a }) room more max whole may
+      (answer-moved quiet op ms now locks lists rows left H w t x c a kept going done) appended (omega (arith, limited, fits))
+      (omega (arith, reserved, counts, exact, takes_one)) (omega (arith, limited, takes_one))
+
+  -- what comes of it
+  pub answer-comes : (max : ℕ) (s : Stored) → shown (keeping ms locks rows) H max ≡ s → is_full max H 1 ≡ false
+      → call_event (slice_get (objects_of ms) x) (seen H) x t (Some c) ≡ Some (as_event t x c a) → Comes s w t x c (Ok a) (shown (keeping now lists left) after max)
+  answer-comes max s same room defined =
+      let same_types : types_of now ≡ types_of ms =
+      types (keeping ms locks rows) (keeping now lists left) H (record { worker = w; kind = as_event t x c a })
+      (answer-moved quiet op ms now locks lists rows left H w t x c a kept going done) in
+      subst (λ (z : Stored). Comes z w t x c (Ok a) (shown (keeping now lists left) after max)) same
+      (room, defined, ap (λ ts. stored ts after max) same_types ∙ ap (λ K. stored (types_of ms) K max) appended)
+
+-- ---- where nothing comes of it
+
+module _ (ms : List Meaning) (locks : List Locks) (rows : List (Option Row)) (H : List Event) (max : ℕ) (s : Stored) (w t x c : ℕ)
+    (same : shown (keeping ms locks rows) H max ≡ s) where
+  -- there is no room for the event
+  pub full-comes : is_full max H 1 ≡ true → Comes s w t x c (Err HistoryFull) s
+  full-comes full = (refl, inl (subst (λ (z : Stored). is_full z.max z.history 1 ≡ true) same full, refl))
+
+  -- memory was refused
+  pub wanting-comes : (now : List Meaning) (lists : List Locks) (left : List (Option Row)) (after : List Event) → now ≡ ms → after ≡ H → is_full max H 1 ≡ false
+      → Comes s w t x c (Err NoMemory) (shown (keeping now lists left) after max)
+  wanting-comes now lists left after unchanged stays room = (
+    ap (λ ns. stored (types_of ns) after max) unchanged ∙ ap (λ K. stored (types_of ms) K max) stays ∙ same,
+    inr (subst (λ (z : Stored). is_full z.max z.history 1 ≡ false) same room, refl),
+  )

@@ -1,0 +1,142 @@
+-- The beginning of a store.
+use Rattle.std.proofs.Common.{◌≡◌, ℕ, zero, suc, ◌+◌, ◌<◌, ◌≤◌, ◌⊎◌, Bool, true, false, List, [], ◌∷◌, ◌++◌, map, length, get_or, Option, Some, None, slice_get, All, refl, sym, ap, subst, ◌∙◌, inl, inr, arith}
+use Rattle.std.specs.Option.{option_map}
+use Rattle.std.proofs.lemmas.Bool.{cases_lt}
+use Rattle.std.proofs.lemmas.List.{length-map, length-append}
+use Rattle.std.proofs.lemmas.Option.{none-some, same_Some, slice_get-map, slice_get_within, slice_get_read, get_or_from_slice_get}
+use Rattle.table_checker.specs.Checked.{Checked, IsChecked}
+use Rattle.object_trait.specs.Meaning.{Meaning}
+use Rattle.object_trait.specs.declared.event.Event.{Event}
+use Rattle.serial_order.specs.Laws.{AreChecked}
+use Rattle.call_table.specs.Calls.{IsCallTable}
+use Rattle.call_table.specs.declared.call.NamedCall.{NamedCall}
+use Rattle.op_locks.specs.Locks.{Locks}
+use Rattle.open_transactions.specs.Transactions.{Row}
+use Rattle.store_laws.specs.Stored.{types_of}
+use Rattle.store_laws.specs.Kept.{keeping, IsKept}
+use Rattle.store_laws.specs.Before.{NewIsKept}
+use Rattle.store.specs.Ends.{MayBegin}
+use Rattle.store.specs.Whole.{HasCalls, IsWhole}
+
+-- ---- elements by their places
+
+-- what a function makes of something is made of what is there
+made-of : {A B : Type 0} (f : A → B) (found : Option A) (b : B) → option_map f found ≡ Some b → (a : A) × (found ≡ Some a) × (f a ≡ b)
+made-of f None b is = absurd (none-some b is)
+made-of f (Some a) b is = (a, refl, same_Some (f a) b is)
+
+-- and so at each place of a list
+pub image-of : {A B : Type 0} (f : A → B) (xs : List A) (x : ℕ) (b : B) → slice_get (map f xs) x ≡ Some b → (a : A) × (slice_get xs x ≡ Some a) × (f a ≡ b)
+image-of f xs x b there = made-of f (slice_get xs x) b (sym (slice_get-map f xs x) ∙ there)
+
+-- what is read at a place is there in the image
+pub image-in : {A B : Type 0} (f : A → B) (xs ys : List A) (i : ℕ) (a : A) → ys ≡ xs → i < length ys → a ≡ get_or ys i a → slice_get (map f xs) i ≡ Some (f a)
+image-in f xs ys i a same inside is =
+    slice_get-map f xs i ∙ ap (option_map f) (subst (λ zs. slice_get zs i ≡ Some a) same (slice_get_read ys (length ys) i a refl inside is))
+
+-- what is in a list with one more is in the list, or is the last
+pushed-at : {A : Type 0} (xs : List A) (y : A) (x : ℕ) (z : A) → slice_get (xs ++ y ∷ []) x ≡ Some z → (slice_get xs x ≡ Some z) ⊎ ((x ≡ length xs) × (y ≡ z))
+pushed-at [] y zero z is = inr (refl, same_Some y z is)
+pushed-at [] y (suc x) z is = absurd (none-some z is)
+pushed-at (a ∷ xs) y zero z is = inl is
+pushed-at (a ∷ xs) y (suc x) z is =
+    elim (pushed-at xs y x z is) [
+      | inl before ↦ inl before
+      | inr last ↦ inr (ap suc last.0, last.1)
+    ]
+
+-- ---- what holds of the first of a list
+
+-- each of the first i is so
+abbrev pub FirstAre : {A : Type 0} → (A → Type 0) → List A → ℕ → Type 0
+FirstAre {A} P xs i = (x : ℕ) (a : A) → x < i → slice_get xs x ≡ Some a → P a
+
+-- one more is
+pub first-more : {A : Type 0} (P : A → Type 0) (xs : List A) (i : ℕ) (a : A) → FirstAre P xs i → slice_get xs i ≡ Some a → P a → FirstAre P xs (i + 1)
+first-more P xs i a before is holds x b low there =
+    elim (cases_lt x i) [
+      | inl below ↦ before x b below there
+      | inr past ↦
+          let same : x ≡ i = omega (arith, low, past) in
+          subst P (same_Some a b (sym is ∙ subst (λ y. slice_get xs y ≡ Some b) same there)) holds
+    ]
+
+-- where there are no others, each is so
+pub first-all : {A : Type 0} (P : A → Type 0) (xs : List A) (i : ℕ) → FirstAre P xs i → length xs ≤ i → (x : ℕ) (a : A) → slice_get xs x ≡ Some a → P a
+first-all P xs i first all x a there = let inside = slice_get_within xs x a there in first x a (omega (arith, inside, all)) there
+
+-- where one fails a test that each passes that is so, not all are so
+pub first-fails : {A : Type 0} (P : A → Type 0) (xs : List A) (i : ℕ) (a : A) (test : Bool) → slice_get xs i ≡ Some a → (P a → test ≡ true) → test ≡ false
+    → ((x : ℕ) (b : A) → slice_get xs x ≡ Some b → P b) → false ≡ true
+first-fails P xs i a test is passes fails all = sym fails ∙ passes (all i a is)
+
+-- ---- the calls of types
+
+-- the calls of the first i objects, whose types were accepted, with room for those of all
+pub record HasFirstCalls (ms : List Meaning) (calls : List (List NamedCall)) (capacity i : ℕ) : Type 0 where
+  pub as_many : length calls ≡ i
+  pub room : length ms ≤ capacity
+  pub checked : FirstAre (λ m. IsChecked m.checked) ms i
+  pub each : (x : ℕ) (m : Meaning) (its : List NamedCall) → slice_get ms x ≡ Some m → slice_get calls x ≡ Some its → IsCallTable m.checked.file.table its
+
+-- those of one more
+pub calls-more : (ms : List Meaning) (calls more : List (List NamedCall)) (its : List NamedCall) (capacity i : ℕ) (m : Meaning) → HasFirstCalls ms calls capacity i
+    → slice_get ms i ≡ Some m → IsChecked m.checked → IsCallTable m.checked.file.table its → more ≡ calls ++ its ∷ [] → HasFirstCalls ms more capacity (i + 1)
+calls-more ms calls more its capacity i m first is checked table pushed =
+    record {
+      as_many = ap length pushed ∙ length-append calls (its ∷ []) ∙ ap (λ n. n + 1) first.as_many;
+      room = first.room;
+      checked = first-more (λ m. IsChecked m.checked) ms i m first.checked is checked;
+      each = λ x n those there here.
+          elim (pushed-at calls its x those (ap (λ cs. slice_get cs x) (sym pushed) ∙ here)) [
+            | inl before ↦ first.each x n those there before
+            | inr last ↦
+                let same : x ≡ i = last.0 ∙ first.as_many in
+                let one : m ≡ n = same_Some m n (sym is ∙ subst (λ y. slice_get ms y ≡ Some n) same there) in
+                subst (λ ts. IsCallTable n.checked.file.table ts) last.1 (subst (λ (k : Meaning). IsCallTable k.checked.file.table its) one table)
+          ];
+    }
+
+module _ (ms : List Meaning) (calls : List (List NamedCall)) (capacity i : ℕ) (first : HasFirstCalls ms calls capacity i) (all : i ≡ length ms) where
+  -- those of all of them are their types' calls
+  pub calls-all : HasCalls (types_of ms) calls
+  calls-all =
+      record {
+        as_many = first.as_many ∙ all ∙ sym (length-map ms (λ (m : Meaning). m.checked));
+        each = λ x c its there here.
+            let found = image-of (λ (m : Meaning). m.checked) ms x c there in
+            subst (λ (k : Checked). IsCallTable k.file.table its) found.2 (first.each x found.0 its found.1 here);
+      }
+
+  -- and each type was accepted
+  pub calls-checked : AreChecked (types_of ms)
+  calls-checked x c there =
+      let found = image-of (λ (m : Meaning). m.checked) ms x c there in
+      let holds = first-all (λ m. IsChecked m.checked) ms i first.checked (omega (arith, all)) x found.0 found.1 in
+      subst IsChecked found.2 holds
+
+-- ---- a new store
+
+-- it is whole, with the empty history
+pub new-whole : NewIsKept → (ms : List Meaning) (calls : List (List NamedCall)) (locks : List Locks) (rows : List (Option Row)) (H : List Event) (capacity max : ℕ)
+    → MayBegin ms max → AreChecked (types_of ms) → HasCalls (types_of ms) calls → length locks ≡ length ms → All (λ l. l.held ≡ []) locks → rows ≡ [] → H ≡ []
+    → IsWhole ms calls locks rows H capacity max
+new-whole is_kept ms calls locks rows H capacity max may checked known as_many empty none nothing =
+    let kept : IsKept (keeping ms locks rows) [] =
+    is_kept (keeping ms locks rows) (record {
+      checked = λ x m there. checked x m.checked (slice_get-map (λ (n : Meaning). n.checked) ms x ∙ ap (option_map (λ (n : Meaning). n.checked)) there);
+      fresh = may.fresh;
+      lists = length-map locks (λ (l : Locks). l.held) ∙ as_many;
+      held = λ x held there.
+          let found = image-of (λ (l : Locks). l.held) locks x held there in
+          let inside = slice_get_within locks x found.0 found.1 in
+          sym found.2 ∙ ap (λ (l : Locks). l.held) (sym (get_or_from_slice_get locks x found.0 found.0 found.1)) ∙ empty x found.0 inside;
+      rows = none;
+    })
+    in
+    subst (λ K. IsWhole ms calls locks rows K capacity max) (sym nothing)
+    (record {
+      store = record { kept = kept; reserved = omega arith; limited = omega arith };
+      few = may.few;
+      known = known;
+    })

@@ -1,0 +1,90 @@
+-- The begin of a transaction.
+use Rattle.std.proofs.Common.{◌≡◌, ℕ, ◌+◌, ◌<◌, ◌≤◌, true, false, nat_lt, nat_le, List, [], ◌∷◌, ◌++◌, length, Option, Some, None, Ok, refl, sym, ap, subst, ◌∙◌, arith}
+use Rattle.std.proofs.lemmas.Bool.Decides.{nat_tests}
+use Rattle.object_trait.specs.Object.{Object}
+use Rattle.object_trait.specs.Meaning.{Meaning}
+use Rattle.object_trait.specs.declared.event.Event.{Event}
+use Rattle.object_trait.specs.declared.event.EventKind.TheVariants.{Begin}
+use Rattle.serial_order.specs.History.{seen, begins}
+use Rattle.serial_order.specs.Replay.{open_count, refusal, is_full}
+use Rattle.serial_order.specs.declared.command.Command.TheVariants as command
+use Rattle.serial_order.specs.declared.refusal.Refusal.TheVariants.{TooManyOpen, HistoryFull}
+use Rattle.op_locks.specs.Locks.{Locks}
+use Rattle.open_transactions.specs.Transactions.{Row, count_open, begun_by}
+use Rattle.call_table.specs.declared.call.NamedCall.{NamedCall}
+use Rattle.store_laws.specs.Stored.{Stored, Steps}
+use Rattle.store_laws.specs.Kept.{keeping, objects_of, IsKept}
+use Rattle.store_laws.specs.Moves.{Moves, StaysKept}
+use Rattle.store_laws.specs.Before.{RowsAreCounted}
+use Rattle.store_laws.specs.Events.{BeginMoves, TypesStay, RoomAfter}
+use Rattle.store.specs.Whole.{IsWhole}
+use Rattle.store.proofs.Stored.{shown, event-shown, event-whole}
+
+-- ---- whether it is refused
+
+-- a history is full exactly where there is no room
+pub full-test : (H : List Event) (opened further most : ℕ) → opened ≡ open_count (seen H) → is_full most H further ≡ nat_lt most (length H + opened + further)
+full-test H opened further most same = rw same refl
+
+-- it is full where there is no room for so many
+pub full-then : (H : List Event) (opened further most : ℕ) → opened ≡ open_count (seen H) → nat_le (length H + opened + further) most ≡ false → is_full most H further ≡ true
+full-then H opened further most same none =
+    let full : nat_lt most (length H + opened + further) ≡ true = grind (arith, nat_tests, none) in
+    full-test H opened further most same ∙ full
+
+-- and else it isn't
+pub full-else : (H : List Event) (opened further most : ℕ) → opened ≡ open_count (seen H) → nat_le (length H + opened + further) most ≡ true → is_full most H further ≡ false
+full-else H opened further most same room =
+    let full : nat_lt most (length H + opened + further) ≡ false = grind (arith, nat_tests, room) in
+    full-test H opened further most same ∙ full
+
+module _ (objects : List Object) (most : ℕ) (H : List Event) (opened : ℕ) (same : opened ≡ open_count (seen H)) where
+  -- with 1,024 open
+  pub begin-many : 1024 ≤ opened → refusal objects most H command.Begin ≡ Some TooManyOpen
+  begin-many many =
+      let test : nat_le 1024 opened ≡ true = grind (arith, nat_tests, many) in
+      rw (rw same at test) refl
+
+  -- with no room
+  pub begin-full : opened < 1024 → nat_le (length H + opened + 2) most ≡ false → refusal objects most H command.Begin ≡ Some HistoryFull
+  begin-full few none =
+      let test : nat_le 1024 opened ≡ false = grind (arith, nat_tests, few) in
+      let full : nat_lt most (length H + opened + 2) ≡ true = grind (arith, nat_tests, none) in
+      rw (rw same at test, rw same at full) refl
+
+  -- else it isn't refused
+  pub begin-unrefused : opened < 1024 → nat_le (length H + opened + 2) most ≡ true → refusal objects most H command.Begin ≡ None
+  begin-unrefused few room =
+      let test : nat_le 1024 opened ≡ false = grind (arith, nat_tests, few) in
+      let full : nat_lt most (length H + opened + 2) ≡ false = grind (arith, nat_tests, room) in
+      rw (rw same at test, rw same at full) refl
+
+-- ---- what it does
+
+-- a row is one more
+module _ (moves : BeginMoves) (ms : List Meaning) (locks : List Locks) (rows now : List (Option Row)) (H after : List Event) (w t : ℕ)
+    (kept : IsKept (keeping ms locks rows) H) (number : t ≡ length rows) (longer : now ≡ rows ++ Some (begun_by w) ∷ [])
+    (appended : after ≡ H ++ (record { worker = w; kind = Begin t }) ∷ []) where
+  -- its number is how many began
+  pub begin-number : t ≡ begins H
+  begin-number = number ∙ kept.begun
+
+  -- so it is what its event does to what is kept
+  begin-moved : Moves (keeping ms locks rows) (keeping ms locks now) H (record { worker = w; kind = Begin t })
+  begin-moved = moves (keeping ms locks rows) (keeping ms locks now) H w t kept refl refl longer
+
+  -- the store stays whole
+  pub begin-whole : StaysKept → RoomAfter → TypesStay → RowsAreCounted → (calls : List (List NamedCall)) (opened room more max : ℕ) → IsWhole ms calls locks rows H room max
+      → opened ≡ count_open rows → max ≤ 4294967295 → length H + opened + 2 ≤ more → length H + opened + 2 ≤ max → IsWhole ms calls locks now after more max
+  begin-whole stays room_after types counted calls opened room more max whole counts fits reserved limited =
+      let same : opened ≡ open_count (seen H) = counts ∙ sym (counted (keeping ms locks rows) H kept) in
+      event-whole stays room_after types ms ms calls locks locks rows now H after (record { worker = w; kind = Begin t }) room more max whole begin-number
+      begin-moved appended (omega (arith, fits, limited)) (subst (λ n. length H + n + 2 ≤ more) same reserved)
+      (subst (λ n. length H + n + 2 ≤ max) same limited)
+
+  -- and callers see the event
+  pub begin-shown : TypesStay → (max : ℕ) (s : Stored) → shown (keeping ms locks rows) H max ≡ s → refusal (objects_of ms) max H command.Begin ≡ None
+      → Steps s w command.Begin (Ok t) (shown (keeping ms locks now) after max)
+  begin-shown types max s same unrefused =
+      event-shown types ℕ (keeping ms locks rows) (keeping ms locks now) H after w max (Begin t) command.Begin t s same begin-moved appended unrefused
+      (ap (λ n. Some (Begin n)) (sym begin-number))

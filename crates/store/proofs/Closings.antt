@@ -1,0 +1,224 @@
+-- The end of a store: the aborts of its open transactions, and what they leave.
+use Rattle.std.proofs.Common.{◌≡◌, ℕ, zero, suc, ◌+◌, ◌<◌, ◌≤◌, ◌==◌, true, false, not, ◌&&◌, List, [], ◌∷◌, ◌++◌, map, filter, cond, length, Option, Some, None, is_some, slice_get, slice_index_or, refl, sym, ap, subst, ◌∙◌, inl, inr, append-nil, append_assoc, zero-add, add-one, arith}
+use Rattle.std.specs.Prelude.{if◌then◌else◌}
+use Rattle.std.specs.List.{range_with_len}
+use Rattle.std.proofs.lemmas.Bool.{cases_Bool, cases_eq, cases_lt, eq-eqb, ne_eqb, le-ltb, and_left, and_right, not_from_true}
+use Rattle.std.proofs.lemmas.List.{map-id, map-append, get_or_past}
+use Rattle.std.proofs.lemmas.List.Elements.{filter-append, recursion_from_All}
+use Rattle.std.proofs.lemmas.List.FromFn.{map-range_with_len_more}
+use Rattle.std.proofs.lemmas.Option.{none-some, get_or_from_slice_get, slice_get-get_or}
+use Rattle.object_trait.specs.Object.{Object}
+use Rattle.object_trait.specs.Meaning.{Meaning}
+use Rattle.object_trait.specs.declared.event.Event.{Event}
+use Rattle.object_trait.specs.declared.event.EventKind.TheVariants.{Abort}
+use Rattle.serial_order.specs.History.{seen, is_open}
+use Rattle.serial_order.specs.Machine.{IsRun}
+use Rattle.serial_order.specs.Stand.{IsIdle}
+use Rattle.serial_order.specs.Serial.{standing_at}
+use Rattle.serial_order.specs.Laws.{RunGoesOn}
+use Rattle.serial_order.specs.After.{SeenAfter, TransactionsInRun, OpensAfter, beginners, BeginnersAfter, IdleIsClosed}
+use Rattle.serial_order.specs.declared.command.Command.TheVariants as command
+use Rattle.serial_order.specs.declared.entry.Entry.{Entry}
+use Rattle.serial_order.specs.declared.refusal.Refusal.TheVariants.{NotOpen}
+use Rattle.op_locks.specs.Locks.{Locks}
+use Rattle.open_transactions.specs.Transactions as table
+use Rattle.open_transactions.specs.Transactions.{Row, row, worker_of}
+use Rattle.store_laws.specs.Stored.{Stored, objects, after}
+use Rattle.store_laws.specs.Kept.{Keeping, keeping, objects_of, IsKept}
+use Rattle.store.specs.Ends.{closing, closing_abort, IsHandedOut}
+use Rattle.store.proofs.Stored.{shown}
+use Rattle.store.proofs.Opens.{some-of}
+
+-- ---- what callers see
+
+-- what is kept agrees with the history that they see
+pub kept-shown : (k : Keeping) (H : List Event) (max : ℕ) (s : Stored) → shown k H max ≡ s → IsKept k H → IsKept k s.history
+kept-shown k H max s same kept = subst (λ K. IsKept k K) (ap (λ (z : Stored). z.history) same) kept
+
+-- which is a run at the objects that they see
+pub run-shown : (k : Keeping) (H : List Event) (max : ℕ) (s : Stored) → shown k H max ≡ s → IsKept k H → IsRun (objects s) s.history
+run-shown k H max s same kept = subst (λ (z : Stored). IsRun (objects z) z.history) same kept.run
+
+-- ---- one abort
+
+-- a store with the abort of t
+abbrev pub aborted_once : Stored → ℕ → Stored
+aborted_once s t = record s { history = s.history ++ closing_abort s.history t ∷ [] }
+
+-- the abort of an open transaction appends its event
+abort-appends : (s : Stored) (w t : ℕ) → is_open (seen s.history) t ≡ true
+    → after s w (command.Abort t) ≡ record s { history = s.history ++ (record { worker = w; kind = Abort t }) ∷ [] }
+abort-appends s w t going =
+    ap (λ b. record s { history = if is_some (if not b then Some NotOpen else None) then s.history else s.history ++ (record { worker = w; kind = Abort t }) ∷ [] }) going
+
+-- the worker in the row of an open transaction is the one by whose event it began
+row-worker : (ms : List Meaning) (locks : List Locks) (rows : List (Option Row)) (H : List Event) (t : ℕ) → IsKept (keeping ms locks rows) H
+    → table.is_open rows t ≡ true → closing_abort H t ≡ record { worker = worker_of (row rows t); kind = Abort t }
+row-worker ms locks rows H t kept going =
+    let found = some-of (row rows t) going in
+    elim (cases_lt t (length rows)) [
+      | inl low ↦
+          let there : slice_get rows t ≡ Some (Some found.0) = slice_get-get_or rows t None low ∙ ap Some found.1 in
+          let began = (kept.transactions t (Some found.0) there).worker found.0 refl in
+          ap (λ w. record { worker = w; kind = Abort t }) (get_or_from_slice_get (beginners H) t (found.0).worker 0 began ∙ sym (ap worker_of found.1))
+      | inr past ↦ absurd (none-some found.0 (sym (get_or_past rows t None past) ∙ found.1))
+    ]
+
+-- an abort by that worker is the abort of t at the end of a store
+pub aborts-once : (ms : List Meaning) (locks : List Locks) (rows : List (Option Row)) (s new : Stored) (w t : ℕ) → IsKept (keeping ms locks rows) s.history
+    → table.is_open rows t ≡ true → is_open (seen s.history) t ≡ true → w ≡ worker_of (row rows t) → new ≡ after s w (command.Abort t) → new ≡ aborted_once s t
+aborts-once ms locks rows s new w t kept going opened by_its_own is =
+    is ∙ abort-appends s w t opened
+    ∙ ap (λ (e : Event). record s { history = s.history ++ e ∷ [] })
+    (ap (λ v. record { worker = v; kind = Abort t }) by_its_own ∙ sym (row-worker ms locks rows s.history t kept going))
+
+-- ---- one abort after another
+
+-- the aborts of the open transactions below n
+abbrev pub closing_below : List Event → ℕ → List Event
+closing_below H n = map (closing_abort H) (filter (is_open (seen H)) (range_with_len 0 n))
+
+-- a store with the aborts of those below n
+abbrev pub closed_below : Stored → ℕ → Stored
+closed_below s n = record s { history = s.history ++ closing_below s.history n }
+
+-- one more number
+range-more : (n : ℕ) → range_with_len 0 (n + 1) ≡ range_with_len 0 n ++ n ∷ []
+range-more n =
+    sym (map-id (range_with_len 0 (n + 1))) ∙ map-range_with_len_more (λ x. x) 0 n n (zero-add n) ∙ ap (λ l. l ++ n ∷ []) (map-id (range_with_len 0 n))
+
+-- the next transaction is aborted too, where it is open
+closing-more : (H : List Event) (n : ℕ) → closing_below H (n + 1) ≡ closing_below H n ++ map (closing_abort H) (filter (is_open (seen H)) (n ∷ []))
+closing-more H n =
+    ap (λ ns. map (closing_abort H) (filter (is_open (seen H)) ns)) (range-more n)
+    ∙ ap (map (closing_abort H)) (filter-append (is_open (seen H)) (range_with_len 0 n) (n ∷ []))
+    ∙ map-append (closing_abort H) (filter (is_open (seen H)) (range_with_len 0 n)) (filter (is_open (seen H)) (n ∷ []))
+
+-- where it is open, there is one abort more
+closing-opened : (H : List Event) (n : ℕ) → is_open (seen H) n ≡ true → H ++ closing_below H (n + 1) ≡ (H ++ closing_below H n) ++ closing_abort H n ∷ []
+closing-opened H n going =
+    ap (λ es. H ++ es) (closing-more H n ∙ ap (λ b. closing_below H n ++ map (closing_abort H) (cond b (n ∷ []) [])) going)
+    ∙ sym (append_assoc H (closing_below H n) (closing_abort H n ∷ []))
+
+-- else there is none
+closing-ended : (H : List Event) (n : ℕ) → is_open (seen H) n ≡ false → H ++ closing_below H (n + 1) ≡ H ++ closing_below H n
+closing-ended H n ended =
+    ap (λ es. H ++ es) (closing-more H n ∙ ap (λ b. closing_below H n ++ map (closing_abort H) (cond b (n ∷ []) [])) ended ∙ append-nil (closing_below H n))
+
+-- ---- what is known meanwhile
+
+-- K goes on from H: it is a run in which none below n is open, the others are open where they were, and each was begun by the same worker
+pub record IsClosedBelow (objects : List Object) (H K : List Event) (n : ℕ) : Type 0 where
+  pub run : IsRun objects K
+  pub began : beginners K ≡ beginners H
+  pub closed : (t : ℕ) → t < n → is_open (seen K) t ≡ false
+  pub others : (t : ℕ) → n ≤ t → is_open (seen K) t ≡ is_open (seen H) t
+
+module _ (goes_on : RunGoesOn) (now : SeenAfter) (in_run : TransactionsInRun) (opens : OpensAfter) (began : BeginnersAfter)
+    (objects : List Object) (H : List Event) (run : IsRun objects H) where
+  -- where the next is open, with its abort
+  closed-opened : (K : List Event) (n : ℕ) → IsClosedBelow objects H K n → is_open (seen H) n ≡ true → IsClosedBelow objects H (K ++ closing_abort H n ∷ []) (n + 1)
+  closed-opened K n below going =
+      let may : is_open (seen K) n ≡ true = below.others n (omega arith) ∙ going in
+      let who : (t : ℕ) → is_open (seen (K ++ closing_abort H n ∷ [])) t ≡ (not (t == n) && is_open (seen K) t) =
+      λ t. ap (λ s. is_open s t) (now K (closing_abort H n)) ∙ (opens objects (seen K) (Abort n) (in_run objects K below.run) may).0 t
+      in
+      record {
+        run = goes_on objects K (closing_abort H n) below.run may;
+        began = (began K).1 (closing_abort H n) ∙ append-nil (beginners K) ∙ below.began;
+        closed = λ t low.
+            who t
+            ∙ elim (cases_eq t n) [
+              | inl same ↦ and_left _ _ (not_from_true _ (eq-eqb t n same))
+              | inr other ↦ and_right _ _ (below.closed t (omega (arith, low, other)))
+            ];
+        others = λ t past.
+            who t ∙ ap (λ b. not b && is_open (seen K) t) (ne_eqb t n (λ same. omega (arith, past, same))) ∙ below.others t (omega (arith, past));
+      }
+
+  -- where it isn't, as it is
+  closed-ended : (K : List Event) (n : ℕ) → IsClosedBelow objects H K n → is_open (seen H) n ≡ false → IsClosedBelow objects H K (n + 1)
+  closed-ended K n below ended =
+      record {
+        run = below.run;
+        began = below.began;
+        closed = λ t low.
+            elim (cases_eq t n) [
+              | inl same ↦ ap (is_open (seen K)) same ∙ below.others n (omega arith) ∙ ended
+              | inr other ↦ below.closed t (omega (arith, low, other))
+            ];
+        others = λ t past. below.others t (omega (arith, past));
+      }
+
+  -- so it is known at each number
+  pub closed-each : (n : ℕ) → IsClosedBelow objects H (H ++ closing_below H n) n
+  closed-each zero =
+      subst (λ K. IsClosedBelow objects H K 0) (sym (append-nil H))
+      (record { run = run; began = refl; closed = λ t low. absurd (omega (arith, low)); others = λ t past. refl })
+  closed-each (suc n) =
+      let below = closed-each n in
+      subst (λ k. IsClosedBelow objects H (H ++ closing_below H k) k) (add-one n)
+      (elim (cases_Bool (is_open (seen H) n)) [
+        | inl going ↦ subst (λ K. IsClosedBelow objects H K (n + 1)) (sym (closing-opened H n going)) (closed-opened (H ++ closing_below H n) n below going)
+        | inr ended ↦ subst (λ K. IsClosedBelow objects H K (n + 1)) (sym (closing-ended H n ended)) (closed-ended (H ++ closing_below H n) n below ended)
+      ])
+
+-- ---- a turn
+
+-- a turn leaves the store with the aborts of one more number
+turn : (objects : List Object) (s new : Stored) (n : ℕ) → IsClosedBelow objects s.history (s.history ++ closing_below s.history n) n
+    → (is_open (seen (closed_below s n).history) n ≡ true → new ≡ aborted_once (closed_below s n) n)
+    → (is_open (seen (closed_below s n).history) n ≡ false → new ≡ closed_below s n) → new ≡ closed_below s (n + 1)
+turn objects s new n below aborts stays =
+    let same = below.others n (omega arith) in
+    elim (cases_Bool (is_open (seen s.history) n)) [
+      | inl going ↦
+          aborts (same ∙ going)
+          ∙ ap (λ ws. record s { history = (s.history ++ closing_below s.history n) ++ (record { worker = slice_index_or ws n 0; kind = Abort n }) ∷ [] }) below.began
+          ∙ ap (λ K. record s { history = K }) (sym (closing-opened s.history n going))
+      | inr ended ↦ stays (same ∙ ended) ∙ ap (λ K. record s { history = K }) (sym (closing-ended s.history n ended))
+    ]
+
+-- and so of the store as the turn finds it
+pub next-turn : (objects : List Object) (s old new : Stored) (n : ℕ) → IsClosedBelow objects s.history (s.history ++ closing_below s.history n) n
+    → old ≡ closed_below s n → (is_open (seen old.history) n ≡ true → new ≡ aborted_once old n) → (is_open (seen old.history) n ≡ false → new ≡ old)
+    → new ≡ closed_below s (n + 1)
+next-turn objects s old new n below is aborts stays =
+    subst (λ z. (is_open (seen z.history) n ≡ true → new ≡ aborted_once z n) → (is_open (seen z.history) n ≡ false → new ≡ z) → new ≡ closed_below s (n + 1)) (sym is)
+    (turn objects s new n below) aborts stays
+
+-- ---- the end
+
+-- what is known when each transaction was met: the history goes on by the aborts of all that were open, and none is open
+pub record IsClosed (s : Stored) (K : List Event) : Type 0 where
+  pub whole : K ≡ s.history ++ closing s.history
+  pub run : IsRun (objects s) K
+  pub none : (t : ℕ) → is_open (seen K) t ≡ false
+
+-- none is open where each was met
+none-open : (objects : List Object) (H K : List Event) → IsClosedBelow objects H K (seen H).begun → (t : ℕ) → is_open (seen K) t ≡ false
+none-open objects H K below t =
+    elim (cases_lt t (seen H).begun) [
+      | inl low ↦ below.closed t low
+      | inr past ↦ below.others t past ∙ and_left _ _ (le-ltb t (seen H).begun past)
+    ]
+
+-- that is known after as many turns as there are rows
+pub closed-all : RunGoesOn → SeenAfter → TransactionsInRun → OpensAfter → BeginnersAfter → (s : Stored) (k : Keeping) (K : List Event) (n : ℕ)
+    → IsKept k s.history → IsRun (objects s) s.history → n ≡ length k.rows → K ≡ s.history ++ closing_below s.history n → IsClosed s K
+closed-all goes_on now in_run opens began s k K n kept run many is =
+    let whole : K ≡ s.history ++ closing s.history = is ∙ ap (λ i. s.history ++ closing_below s.history i) (many ∙ kept.begun) in
+    let below = closed-each goes_on now in_run opens began (objects s) s.history run (seen s.history).begun in
+    subst (λ J. IsClosed s J) (sym whole)
+    (record { whole = refl; run = below.run; none = none-open (objects s) s.history (s.history ++ closing s.history) below })
+
+-- no open transaction has an operation anywhere
+none-idle : (K : List Event) (x : ℕ) → ((t : ℕ) → is_open (seen K) t ≡ false) → IsIdle x K
+none-idle K x none = recursion_from_All (λ (e : Entry). is_open (seen K) e.by ≡ false) (standing_at x K) (λ k d low. none _)
+
+-- so each object is handed out with no open entry
+pub handed-out : IdleIsClosed → (ms : List Meaning) (locks : List Locks) (rows : List (Option Row)) (K : List Event) → IsKept (keeping ms locks rows) K
+    → ((t : ℕ) → is_open (seen K) t ≡ false) → (x : ℕ) (m : Meaning) → slice_get ms x ≡ Some m → IsHandedOut m x K
+handed-out closed ms locks rows K kept none x m there =
+    let its = kept.objects x m there in
+    record { object = its; closed = closed (objects_of ms) m x K kept.run its.represents (none-idle K x none) }

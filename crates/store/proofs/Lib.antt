@@ -1,0 +1,14 @@
+pub mod Steps
+pub mod Stored
+pub mod Rooms
+pub mod Begins
+pub mod Opens
+pub mod Closings
+pub mod Beginnings
+pub mod KeptStates
+pub mod Endings
+pub mod Rollbacks
+pub mod Known
+pub mod Calls
+pub mod Executed
+pub mod Answered

@@ -1,0 +1,83 @@
+-- What a store keeps, and shows to its callers, after a call.
+use Rattle.std.proofs.Common.{◌≡◌, ℕ, ◌+◌, ◌<◌, ◌≤◌, List, [], ◌∷◌, ◌++◌, length, Option, Some, None, Ok, Err, sym, ap, subst, ◌∙◌}
+use Rattle.std.proofs.lemmas.List.{length-map}
+use Rattle.table_checker.specs.Checked.{Checked}
+use Rattle.object_trait.specs.declared.event.Event.{Event}
+use Rattle.object_trait.specs.declared.event.EventKind.{EventKind}
+use Rattle.serial_order.specs.History.{seen}
+use Rattle.serial_order.specs.Machine.{MayFollow}
+use Rattle.serial_order.specs.Replay.{open_count, refusal, event_of}
+use Rattle.serial_order.specs.declared.command.Command.{Command}
+use Rattle.serial_order.specs.declared.refusal.Refusal.{Refusal}
+use Rattle.serial_order.specs.declared.refusal.Refusal.TheVariants.{NoMemory}
+use Rattle.store_laws.specs.Stored.{Stored, types_of, Steps, MayStep}
+use Rattle.store_laws.specs.Kept.{Keeping, keeping, objects_of, IsStore}
+use Rattle.store_laws.specs.Moves.{Moves, StaysKept}
+use Rattle.store_laws.specs.Events.{takes, TypesStay, RoomAfter}
+use Rattle.open_transactions.specs.Transactions.{Row}
+use Rattle.op_locks.specs.Locks.{Locks}
+use Rattle.object_trait.specs.Meaning.{Meaning}
+use Rattle.call_table.specs.declared.call.NamedCall.{NamedCall}
+use Rattle.store.specs.Whole.{HasCalls, IsWhole}
+use Rattle.store.proofs.Steps.{refused-steps, accepted-steps, wanting-steps}
+
+-- ---- what callers see
+
+abbrev pub stored : List Checked → List Event → ℕ → Stored
+stored types H max = record { types = types; history = H; max = max }
+
+abbrev pub shown : Keeping → List Event → ℕ → Stored
+shown k H max = stored (types_of k.meanings) H max
+
+-- where the call is refused
+pub refused-shown : (T : Type 0) (k : Keeping) (H : List Event) (w max : ℕ) (command : Command) (r : Refusal) (s : Stored) → shown k H max ≡ s
+    → refusal (objects_of k.meanings) max H command ≡ Some r → Steps {T = T} s w command (Err r) s
+refused-shown T k H w max command r s same reason =
+    subst (λ (z : Stored). Steps {T = T} z w command (Err r) z) same (refused-steps T (shown k H max) w command r reason)
+
+-- where memory was refused: the history has the same events
+pub wanting-shown : (T : Type 0) (k : Keeping) (H after : List Event) (w max : ℕ) (command : Command) (s : Stored) → shown k H max ≡ s
+    → refusal (objects_of k.meanings) max H command ≡ None → after ≡ H → MayStep {T = T} s w command (Err NoMemory) (shown k after max)
+wanting-shown T k H after w max command s same unrefused stays =
+    subst (λ (z : Stored). MayStep {T = T} z w command (Err NoMemory) (shown k after max)) same
+    (wanting-steps T (shown k H max) w command (shown k after max) unrefused (ap (λ K. stored (types_of k.meanings) K max) stays))
+
+-- where there is an event
+pub event-shown : TypesStay → (T : Type 0) (old new : Keeping) (H after : List Event) (w max : ℕ) (happened : EventKind) (command : Command) (x : T) (s : Stored)
+    → shown old H max ≡ s → Moves old new H (record { worker = w; kind = happened }) → after ≡ H ++ (record { worker = w; kind = happened }) ∷ []
+    → refusal (objects_of old.meanings) max H command ≡ None → event_of (objects_of old.meanings) (seen H) command ≡ Some happened
+    → Steps {T = T} s w command (Ok x) (shown new after max)
+event-shown types T old new H after w max happened command x s same moves appended unrefused makes =
+    let same_types : types_of new.meanings ≡ types_of old.meanings = types old new H (record { worker = w; kind = happened }) moves in
+    subst (λ (z : Stored). Steps {T = T} z w command (Ok x) (shown new after max)) same
+    (accepted-steps T (shown old H max) w command x happened (shown new after max) unrefused makes
+    (ap (λ ts. stored ts after max) same_types ∙ ap (λ K. stored (types_of old.meanings) K max) appended))
+
+-- ---- what is kept
+
+-- an event for which there is room
+pub event-store : StaysKept → RoomAfter → (old new : Keeping) (H after : List Event) (e : Event) (room more max : ℕ)
+    → IsStore old H room max → MayFollow (objects_of old.meanings) H e → Moves old new H e → after ≡ H ++ e ∷ [] → length H < 4294967295
+    → length H + open_count (seen H) + takes e.kind ≤ more → length H + open_count (seen H) + takes e.kind ≤ max → IsStore new after more max
+event-store stays room_after old new H after e room more max store may moves appended short reserved limited =
+    let taken = room_after (objects_of old.meanings) H e store.kept.run may in
+    subst (λ K. IsStore new K more max) (sym appended)
+    (record {
+      kept = stays old new H e store.kept may moves short;
+      reserved = subst (λ n. n ≤ more) (sym taken) reserved;
+      limited = subst (λ n. n ≤ max) (sym taken) limited;
+    })
+
+-- and so for all parts of a store
+pub event-whole : StaysKept → RoomAfter → TypesStay → (ms now : List Meaning) (calls : List (List NamedCall)) (locks lists : List Locks) (rows left : List (Option Row))
+    (H after : List Event) (e : Event) (room more max : ℕ) → IsWhole ms calls locks rows H room max → MayFollow (objects_of ms) H e
+    → Moves (keeping ms locks rows) (keeping now lists left) H e → after ≡ H ++ e ∷ [] → length H < 4294967295
+    → length H + open_count (seen H) + takes e.kind ≤ more → length H + open_count (seen H) + takes e.kind ≤ max → IsWhole now calls lists left after more max
+event-whole stays room_after types ms now calls locks lists rows left H after e room more max whole may moves appended short reserved limited =
+    let same : types_of now ≡ types_of ms = types (keeping ms locks rows) (keeping now lists left) H e moves in
+    let as_many : length now ≡ length ms = sym (length-map now (λ m. m.checked)) ∙ ap length same ∙ length-map ms (λ m. m.checked) in
+    record {
+      store = event-store stays room_after (keeping ms locks rows) (keeping now lists left) H after e room more max whole.store may moves appended short reserved limited;
+      few = subst (λ n. n ≤ 256) (sym as_many) whole.few;
+      known = subst (λ ts. HasCalls ts calls) (sym same) whole.known;
+    }

@@ -1,0 +1,7 @@
+use Rattle.std.proofs.Common.{map}
+use Rattle.object_trait.specs.Steps.{IsFresh}
+use Rattle.store.proofs.Beginnings.{FirstAre}
+use Rattle.store.proofs.parts.are_fresh.Given as goal
+
+abbrev pub invariant-loop-object : goal.invariant-loop-object
+invariant-loop-object g l = FirstAre IsFresh (map g.R.Recovery.meaning l.objects.items) l.object-index

@@ -1,0 +1,16 @@
+use Rattle.std.proofs.Common.{◌<◌, map, length, arith}
+use Rattle.std.proofs.lemmas.Bool.Decides.{nat_tests}
+use Rattle.store.proofs.Beginnings.{image-in}
+use Rattle.store.proofs.KeptStates.{kept-shown}
+use Rattle.store.proofs.store.Store.kept.Goals as goal
+
+pub returns-clause-kept : goal.returns-clause-kept
+returns-clause-kept g c =
+    let inside = c.self.inside in
+    let meaning = g.R.Recovery.meaning in
+    let object = c.in_ok-object.object.now in
+    let lookup = c.in_ok-object.ensures.lookup in
+    let low : c.args.x < length c.deref.result.now = grind (arith, nat_tests, lookup.0) in
+    kept-shown c.checked_headline.ensures (map meaning inside.objects.items) inside.locks.items inside.transactions.rows inside.history.items inside.max_events
+    c.self.invariant.store.kept c.args.self.now c.self.view_is c.runs_along.ensures c.args.x c.state.result (meaning object)
+    (image-in meaning inside.objects.items c.deref.result.now c.args.x object c.deref.ensures.value low lookup.1) c.state.ensures

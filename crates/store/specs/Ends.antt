@@ -1,0 +1,52 @@
+-- The beginning and the end of a store.
+use Rattle.std.specs.Prelude.{◌≡◌, ℕ, ◌<◌, List, [], length, map, filter, ◌≤◌, Bool, true, false, ◌&&◌, nat_lt, Some, slice_get, slice_index_or}
+use Rattle.std.specs.List.{range_with_len}
+use Rattle.object_trait.specs.Meaning.{Meaning}
+use Rattle.object_trait.specs.Steps.{IsFresh, open_transactions}
+use Rattle.object_trait.specs.declared.event.Event.{Event}
+use Rattle.object_trait.specs.declared.event.EventKind.TheVariants.{Abort}
+use Rattle.serial_order.specs.History.{seen, is_open}
+use Rattle.serial_order.specs.After.{beginners}
+use Rattle.store_laws.specs.Kept.{IsObject}
+use Rattle.store.specs.declared.refusals.NewRefusal.{NewRefusal}
+use Rattle.store.specs.declared.refusals.NewRefusal.TheVariants.{NoObjects, TooManyObjects, NotFresh, BadMax, NoMemory}
+
+-- ---- the beginning
+
+-- each object is as it was made
+abbrev pub AreFresh : List Meaning → Type 0
+AreFresh ms = (x : ℕ) (m : Meaning) → slice_get ms x ≡ Some m → IsFresh m
+
+-- a limit that a history may have
+abbrev pub is_limit : ℕ → Bool
+is_limit max = nat_lt 1 max && nat_lt max 1000001
+
+-- why no store is made of these objects, memory aside: the first reason that holds
+abbrev pub Refuses : List Meaning → ℕ → NewRefusal → Type 0
+Refuses ms max NoObjects = length ms ≡ 0
+Refuses ms max TooManyObjects = 256 < length ms
+Refuses ms max NotFresh = (0 < length ms) × (length ms ≤ 256) × (AreFresh ms → ⊥)
+Refuses ms max BadMax = (0 < length ms) × (length ms ≤ 256) × AreFresh ms × (is_limit max ≡ false)
+Refuses ms max NoMemory = (0 < length ms) × (length ms ≤ 256) × AreFresh ms × (is_limit max ≡ true)
+
+-- what a store may be made of
+pub record MayBegin (ms : List Meaning) (max : ℕ) : Type 0 where
+  pub some : 0 < length ms
+  pub few : length ms ≤ 256
+  pub fresh : AreFresh ms
+  pub limit : is_limit max ≡ true
+
+-- ---- the end
+
+-- the abort of t, by the worker that began it
+abbrev pub closing_abort : List Event → ℕ → Event
+closing_abort H t = record { worker = slice_index_or (beginners H) t 0; kind = Abort t }
+
+-- the abort of each open transaction, in ascending order of their numbers
+abbrev pub closing : List Event → List Event
+closing H = map (closing_abort H) (filter (is_open (seen H)) (range_with_len 0 (seen H).begun))
+
+-- an object that a store hands out at its end: it represents the history, and no transaction is open there
+pub record IsHandedOut (m : Meaning) (x : ℕ) (H : List Event) : Type 0 where
+  pub object : IsObject m x H
+  pub closed : open_transactions m.log ≡ []

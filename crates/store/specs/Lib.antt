@@ -1,0 +1,6 @@
+pub mod Whole
+pub mod Executed
+pub mod Calls
+pub mod Ends
+pub mod KeptState
+pub mod Examples

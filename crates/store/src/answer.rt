@@ -1,0 +1,78 @@
+//! What comes of a call at an object.
+
+ghost use Rattle.std.specs.Prelude.{◌≡◌, ℕ, true, Some, slice_get};
+ghost use Rattle.object_trait.specs.Object.{Object};
+ghost use Rattle.serial_order.specs.History.{seen, is_open};
+ghost use Rattle.call_table.specs.Calls.{IsCall};
+ghost use Rattle.store_laws.specs.Stored.{objects};
+ghost use Rattle.store_laws.specs.Words.{as_event};
+ghost use Rattle.store.specs.Calls.{Comes};
+
+use crate::executing::execute;
+use crate::room::has_room;
+use crate::store::Store;
+use call_table::Call;
+use object_calls::{Answer, choose};
+use object_trait::{Event, EventKind, Recovery};
+use serial_order::{Refusal, answer_may_follow, logs_are_counted, machine_may_apply};
+use store_laws::{
+    answers_as_defined, held_are_operations, op_moves, quiet_moves, room_after, rows_are_counted,
+    rows_say_who_is_open, stays_kept, types_stay,
+};
+
+impl<R: Recovery> Store<R> {
+    /// Answers t's call at object x, which has it.
+    pub(crate) fn answer(&mut self, w: u8, t: u32, x: u8, call: Call) -> Result<Answer, Refusal>
+        requires still_open { is_open (seen self.old.history) t ≡ true }
+        requires call { (o : Object) × (slice_get (objects self.old) x ≡ Some o) × IsCall o.table call }
+        ensures { Comes self.old w t x call.first result self.new }
+    {
+        rows_say_who_is_open();
+        rows_are_counted();
+        held_are_operations();
+        answers_as_defined();
+        answer_may_follow();
+        machine_may_apply();
+        logs_are_counted();
+        quiet_moves();
+        op_moves();
+        stays_kept();
+        room_after();
+        types_stay();
+        let opened = self.transactions.open_count();
+        if !has_room(&self.history, opened, 1, self.max_events) {
+            return Err(Refusal::HistoryFull);
+        }
+        if self.history.reserve(opened as usize + 1).is_err() {
+            return Err(Refusal::NoMemory);
+        }
+        let answer = choose(&self.objects[x as usize], &self.locks[x as usize], t, call);
+        if let Answer::Reply(k) = answer {
+            let executed = execute(
+                &mut self.objects,
+                &mut self.locks,
+                &mut self.transactions,
+                t,
+                x,
+                k,
+            );
+            if executed.is_err() {
+                return Err(Refusal::NoMemory);
+            }
+        }
+        let kind = kind_of(answer, t, u32::from(x), call.first);
+        self.history.push_reserved(Event { worker: w, kind });
+        Ok(answer)
+    }
+}
+
+/// The event of an answer of t's call c at object x.
+fn kind_of(answer: Answer, t: u32, x: u32, c: u8) -> EventKind
+    ensures { result ≡ as_event t x c answer }
+{
+    match answer {
+        Answer::Reply(k) => EventKind::Op { t, x, k },
+        Answer::Busy(u) => EventKind::Busy { t, x, c, u },
+        Answer::None => EventKind::None { t, x, c },
+    }
+}

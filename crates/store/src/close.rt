@@ -1,0 +1,58 @@
+//! The end of a store.
+
+ghost use Rattle.std.specs.Prelude.{◌≡◌, ℕ, [], ◌∷◌, ◌++◌, true, false, map, Some, slice_get};
+ghost use Rattle.object_trait.specs.Meaning.{Meaning};
+ghost use Rattle.serial_order.specs.History.{seen, is_open};
+ghost use Rattle.serial_order.specs.Machine.{IsRun};
+ghost use Rattle.store_laws.specs.Stored.{objects, types_of};
+ghost use Rattle.store.specs.Ends.{closing, closing_abort, IsHandedOut};
+
+use crate::store::Store;
+use object_trait::{Event, Recovery};
+use serial_order::{
+    beginners_after, idle_is_closed, opens_after, run_goes_on, seen_after, transactions_in_run,
+};
+use store_laws::rows_say_who_is_open;
+
+impl<R: Recovery> Store<R> {
+    /// Aborts each open transaction, in ascending order of numbers, as the worker that began it, and
+    /// hands out the history and the objects, in their order. None of them has an open entry.
+    pub fn close(mut self) -> (Vec<Event>, Vec<R>)
+        ensures history { result.0.items ≡ self.history ++ closing self.history }
+        ensures run { IsRun (objects self) result.0.items }
+        ensures types { types_of (map R.meaning result.1.items) ≡ self.types }
+        ensures objects { (x : ℕ) (m : Meaning) → slice_get (map R.meaning result.1.items) x ≡ Some m → IsHandedOut m x result.0.items }
+    {
+        run_goes_on();
+        seen_after();
+        transactions_in_run();
+        opens_after();
+        beginners_after();
+        idle_is_closed();
+        for t in 0..self.transactions.begun() {
+            self.abort_open(t);
+        }
+        let Store {
+            objects,
+            calls: _,
+            locks: _,
+            transactions: _,
+            history,
+            max_events: _,
+        } = self;
+        (history, objects)
+    }
+
+    /// Aborts t where it is open, as the worker that began it.
+    fn abort_open(&mut self, t: u32)
+        ensures aborts { is_open (seen self.old.history) t ≡ true → self.new ≡ record self.old { history = self.old.history ++ closing_abort self.old.history t ∷ [] } }
+        ensures stays { is_open (seen self.old.history) t ≡ false → self.new ≡ self.old }
+    {
+        rows_say_who_is_open();
+        if self.transactions.is_open(t) {
+            let w = self.transactions.worker(t);
+            // t is open, so it isn't refused
+            let _ = self.abort(w, t);
+        }
+    }
+}

@@ -1,0 +1,20 @@
+//! Transactions over many shared objects.
+#![tactic(auto)]
+
+mod answer;
+mod begin;
+mod call;
+mod close;
+mod ends;
+mod executing;
+mod parts;
+mod refusals;
+mod rollback;
+mod room;
+mod store;
+
+pub use object_calls::Answer;
+pub use refusals::NewRefusal;
+pub use store::Store;
+
+pub mod worked;

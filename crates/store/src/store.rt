@@ -1,0 +1,107 @@
+//! The store, and what is read of it.
+
+ghost use Rattle.std.specs.Prelude.{◌≡◌, [], map, length, nat_lt, is_some, IfOk, IfErr, IfSome};
+ghost use Rattle.serial_order.specs.Machine.{IsRun};
+ghost use Rattle.serial_order.specs.Serial.{IsSerial};
+ghost use Rattle.store_laws.specs.Stored.{objects, types_of};
+ghost use Rattle.store.specs.Ends.{MayBegin, Refuses};
+ghost use Rattle.store.specs.KeptState.{IsKeptState};
+
+use crate::parts::{Parts, parts_of};
+use crate::refusals::NewRefusal;
+use call_table::CallTable;
+use object_trait::{Event, Recovery};
+use op_locks::OpLocks;
+use open_transactions::OpenTransactions;
+use serial_order::checked_headline;
+use std::alloc::Global;
+use std::marker::Model;
+use store_laws::new_is_kept;
+use type_table::runs_along;
+
+/// Transactions over shared objects, each of which has a checked type and a way of recovering from
+/// aborts.
+///
+/// Contracts see the objects' types, the history, and the most events that it may have. A store can't
+/// be dropped: `close` is its one end.
+pub struct Store<R: Recovery> {
+    pub(crate) objects: Vec<R>,
+    // The calls of each object's type.
+    pub(crate) calls: Vec<CallTable>,
+    // What open transactions hold at each object.
+    pub(crate) locks: Vec<OpLocks>,
+    pub(crate) transactions: OpenTransactions,
+    pub(crate) history: Vec<Event>,
+    pub(crate) max_events: u32,
+}
+
+impl<R: Recovery> Model for Store<R> {
+    ghost use Rattle.std.specs.Prelude.{map, vec_capacity};
+    ghost use Rattle.store_laws.specs.Stored.{Stored, types_of};
+    ghost use Rattle.store.specs.Whole.{IsWhole};
+
+    ghost Value = { Stored };
+
+    ghost view = { λ s. record {
+      types = types_of (map R.meaning s.objects.items);
+      history = s.history.items;
+      max = s.max_events;
+    } };
+
+    ghost invariant = { λ s. IsWhole (map R.meaning s.objects.items) s.calls.items s.locks.items s.transactions.rows s.history.items (vec_capacity s.history) s.max_events };
+}
+
+impl<R: Recovery> Store<R> {
+    /// A store of these objects, whose history will have at most `max_events` events.
+    ///
+    /// # Errors
+    ///
+    /// `NoObjects`, `TooManyObjects`, `NotFresh`, `BadMax` or `NoMemory`, the first that holds. The
+    /// objects come back.
+    pub fn new(
+        alloc: Global,
+        objects: Vec<R>,
+        max_events: u32,
+    ) -> Result<Store<R>, (Vec<R>, NewRefusal)>
+        ensures made { IfOk result (λ s. MayBegin (map R.meaning objects.items) max_events
+            × (s ≡ record { types = types_of (map R.meaning objects.items); history = []; max = max_events })) }
+        ensures refused { IfErr result (λ e. Refuses (map R.meaning objects.items) max_events e.1) }
+        ensures back { IfErr result (λ e. e.0.items ≡ objects.items) }
+    {
+        new_is_kept();
+        let Parts { calls, locks } = match parts_of(alloc, &objects, max_events) {
+            Ok(parts) => parts,
+            Err(refusal) => return Err((objects, refusal)),
+        };
+        Ok(Store {
+            objects,
+            calls,
+            locks,
+            transactions: OpenTransactions::new(alloc),
+            history: Vec::new(alloc),
+            max_events,
+        })
+    }
+
+    /// The events so far, oldest first: a run of the machine, whose committed transactions, run one
+    /// after another in commit order, give the same replies.
+    pub fn history(&self) -> &[Event]
+        ensures exact { result.now ≡ self.now.history }
+        ensures run { IsRun (objects self.now) self.now.history }
+        ensures serial { IsSerial (objects self.now) self.now.history }
+    {
+        checked_headline();
+        &self.history
+    }
+
+    /// The state of the object at x, None where there is none. It agrees with the serial state.
+    pub fn kept(&self, x: u32) -> Option<u16>
+        ensures there { is_some result ≡ nat_lt x (length (objects self.now)) }
+        ensures kept { IfSome result (λ state. IsKeptState self.now x state) }
+    {
+        checked_headline();
+        runs_along();
+        let object = self.objects.get(x as usize)?;
+        Some(object.state())
+    }
+}

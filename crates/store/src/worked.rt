@@ -1,0 +1,56 @@
+//! Worked stores: each function does nothing, and its contract is what comes out of them.
+#![tactic(auto)]
+
+ghost use Rattle.std.specs.Prelude.{◌≡◌, ◌++◌, [], ◌∷◌, length, true, false, Ok};
+ghost use Rattle.store_laws.specs.Examples.{stored};
+ghost use Rattle.store.specs.Calls.{noted, Answers, unnumbered};
+ghost use Rattle.store.specs.Ends.{closing, is_limit, Refuses};
+ghost use Rattle.store.specs.Examples.{by, two_left_open};
+
+use crate::refusals::NewRefusal;
+use crate::store::Store;
+use object_calls::Answer;
+use object_trait::{EventKind, Recovery};
+use serial_order::Refusal;
+
+/// The end of a store aborts the open transactions in ascending order, each by the worker that began
+/// it.
+pub fn the_open_are_aborted_in_order()
+    ensures { closing two_left_open ≡ by 4 (EventKind.Abort 0) ∷ by 4 (EventKind.Abort 2) ∷ [] }
+{}
+
+/// A history may have 2 events at the least, and 1,000,000 at the most.
+pub fn limits_have_a_range()
+    ensures too_low { is_limit 1 ≡ false }
+    ensures least { is_limit 2 ≡ true }
+    ensures most { is_limit 1000000 ≡ true }
+    ensures too_high { is_limit 1000001 ≡ false }
+{}
+
+/// That there is no object comes before any other reason.
+pub fn no_objects_is_the_first_reason()
+    ensures { Refuses [] 1 NewRefusal.NoObjects }
+{}
+
+/// Each answer is told by its event.
+pub fn an_answer_is_told_by_its_event()
+    ensures reply { Answers (stored two_left_open) 9 0 1 0 (Ok (Answer.Reply 0)) (stored (two_left_open ++ by 9 (EventKind.Op 0 1 0) ∷ [])) }
+    ensures busy { Answers (stored two_left_open) 9 2 1 0 (Ok (Answer.Busy 0)) (stored (two_left_open ++ by 9 (EventKind.Busy 2 1 0 0) ∷ [])) }
+    ensures none { Answers (stored two_left_open) 9 2 1 1 (Ok Answer.None) (stored (two_left_open ++ by 9 (EventKind.None 2 1 1) ∷ [])) }
+{}
+
+/// A number that is that of no call is refused for the transaction first, then for the object.
+pub fn a_number_of_no_call_is_refused()
+    ensures ended { unnumbered (stored two_left_open) 1 9 ≡ Refusal.NotOpen }
+    ensures no_object { unnumbered (stored two_left_open) 2 9 ≡ Refusal.NoObject }
+    ensures no_call { unnumbered (stored two_left_open) 2 1 ≡ Refusal.NoCall }
+{}
+
+/// A store has one end, after which it isn't there: with it, how many events there were. A store that
+/// is let go in another way, or used behind it, is refused.
+pub fn a_store_is_closed<R: Recovery>(store: Store<R>) -> usize
+    ensures { result ≡ length (store.history ++ closing store.history) }
+{
+    let (history, _) = store.close();
+    history.len()
+}

@@ -1,0 +1,182 @@
+//! The commands of a run, which are the same in each program.
+
+use std::alloc::{AllocError, Global};
+
+/// One of how many transactions aborts.
+const ONE_ABORTS: u32 = 8;
+/// How many operations a transaction rolls back.
+const ROLLED_BACK: u32 = 4;
+/// Where the generator begins.
+const SEED: u32 = 2_463_534_242;
+
+/// What is asked of the store.
+#[derive(Clone, Copy)]
+pub enum Command {
+    Begin,
+    Call { t: u32, x: u32, c: u8 },
+    Commit { t: u32 },
+    Abort { t: u32 },
+    Rollback { t: u32, n: u32 },
+}
+
+/// What else happens.
+#[derive(Clone, Copy, PartialEq, Eq)]
+pub enum Mode {
+    /// Nothing.
+    Plain,
+    /// The first transaction makes one call and never ends.
+    Old,
+    /// Each transaction rolls back before its last call.
+    Rollback,
+}
+
+impl Mode {
+    /// The mode of a word.
+    pub fn of_word(word: &str) -> Option<Mode> {
+        match word.as_bytes() {
+            b"plain" => Some(Mode::Plain),
+            b"old" => Some(Mode::Old),
+            b"rollback" => Some(Mode::Rollback),
+            _ => None,
+        }
+    }
+}
+
+/// So many open transactions, each of which makes so many calls and ends.
+#[derive(Clone, Copy)]
+pub struct Workload {
+    pub objects: u32,
+    pub open: u32,
+    pub calls: u32,
+    pub mode: Mode,
+    pub commands: u32,
+}
+
+/// A generator of numbers that look random (Marsaglia's xorshift of 32 bits).
+#[derive(Clone, Copy)]
+struct Random {
+    word: u32,
+}
+
+impl Random {
+    /// A number below n, or 0 where n is 0.
+    fn below(&mut self, n: u32) -> u32 {
+        self.word ^= self.word << 13;
+        self.word ^= self.word >> 17;
+        self.word ^= self.word << 5;
+        if n == 0 { 0 } else { self.word % n }
+    }
+}
+
+/// An open transaction, and how many calls it will make.
+#[derive(Clone, Copy)]
+struct Running {
+    t: u32,
+    left: u32,
+}
+
+/// Commands that are being made.
+#[derive(Drop)]
+struct Script {
+    workload: Workload,
+    // the numbers of the calls
+    numbers: Vec<u8>,
+    random: Random,
+    begun: u32,
+    commands: Vec<Command>,
+}
+
+impl Script {
+    fn new(alloc: Global, workload: Workload, numbers: Vec<u8>) -> Script {
+        Script {
+            workload,
+            numbers,
+            random: Random { word: SEED },
+            begun: 0,
+            commands: Vec::new(alloc),
+        }
+    }
+
+    fn is_full(&self) -> bool {
+        self.commands.len() >= self.workload.commands as usize
+    }
+
+    fn begin(&mut self) -> Result<Running, AllocError> {
+        let t = self.begun;
+        self.begun = self.begun.saturating_add(1);
+        self.commands.push(Command::Begin)?;
+        Ok(Running {
+            t,
+            left: self.workload.calls,
+        })
+    }
+
+    fn call(&mut self, t: u32) -> Result<(), AllocError> {
+        let x = self.random.below(self.workload.objects);
+        let place = self.random.below(self.numbers.len().min(64) as u32);
+        let c = self.numbers.get(place as usize).copied().unwrap_or(0);
+        self.commands.push(Command::Call { t, x, c })?;
+        Ok(())
+    }
+
+    fn end(&mut self, t: u32) -> Result<(), AllocError> {
+        let aborts = self.random.below(ONE_ABORTS) == 0;
+        let command = if aborts {
+            Command::Abort { t }
+        } else {
+            Command::Commit { t }
+        };
+        self.commands.push(command)?;
+        Ok(())
+    }
+
+    /// What an open transaction does next, and what is in its place then.
+    fn turn(&mut self, running: Running) -> Result<Running, AllocError> {
+        let Running { t, left } = running;
+        if left == 0 {
+            self.end(t)?;
+            return self.begin();
+        }
+        if left == 1 && self.workload.mode == Mode::Rollback {
+            self.commands.push(Command::Rollback { t, n: ROLLED_BACK })?;
+        }
+        self.call(t)?;
+        Ok(Running { t, left: left - 1 })
+    }
+
+    /// One turn of one of the open transactions.
+    fn go_on(&mut self, open: &mut Vec<Running>) -> Result<(), AllocError> {
+        let place = self.random.below(self.workload.open) as usize;
+        if let Some(running) = open.get(place).copied() {
+            let next = self.turn(running)?;
+            if let Some(slot) = open.get_mut(place) {
+                *slot = next;
+            }
+        }
+        Ok(())
+    }
+}
+
+/// The commands of a workload, for calls of these numbers.
+pub fn commands_of(
+    alloc: Global,
+    workload: Workload,
+    numbers: Vec<u8>,
+) -> Result<Vec<Command>, AllocError> {
+    let mut script = Script::new(alloc, workload, numbers);
+    if workload.mode == Mode::Old {
+        let old = script.begin()?;
+        script.call(old.t)?;
+    }
+    let mut open = Vec::new(alloc);
+    for _ in 0..workload.open {
+        open.push(script.begin()?)?;
+    }
+    for _ in 0..workload.commands {
+        if script.is_full() {
+            break;
+        }
+        script.go_on(&mut open)?;
+    }
+    Ok(script.commands)
+}
