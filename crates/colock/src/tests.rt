@@ -1,15 +1,18 @@
 //! The tests that cross crates, and those of the crates below.
 
+mod any_objects;
+mod checked_types;
 mod histories;
 mod lines;
 mod locks;
+mod managers;
 mod memory_source;
-mod objects;
 mod printed;
 mod readme;
 mod relations;
 mod sinks;
 mod source;
+mod stores;
 mod tasks;
 mod transactions;
 mod type_files;

@@ -1,88 +1,114 @@
 -- The end of a transaction at the places that were visited.
-use Rattle.std.proofs.Common.{◌≡◌, ℕ, ◌+◌, ◌<◌, Bool, true, false, ◌==◌, List, [], ◌∷◌, length, map, set, take, get_or, All, Some, refl, sym, ap, ◌∙◌, inl, inr, arith}
+use Rattle.std.proofs.Common.{◌≡◌, ◌≢◌, ℕ, ◌+◌, ◌<◌, ◌≤◌, Bool, true, false, ◌||◌, ◌==◌, List, length, map, set, take, get_or, replicate, All, Some, refl, sym, ap, subst, ◌∙◌, inl, inr, length-set, get_or-set_same, get_or-set_other, arith}
 use Rattle.std.specs.Prelude.{slice_get}
 use Rattle.std.specs.List.{list_any}
-use Rattle.std.proofs.lemmas.Bool.{cases_Bool, false≢true}
-use Rattle.std.proofs.lemmas.List.{length-map}
-use Rattle.std.proofs.lemmas.Option.{slice_get-get_or, slice_get_read}
+use Rattle.std.proofs.lemmas.Bool.{cases_Bool, false≢true, or_left, or_right, eq-eqb, eqb-true}
+use Rattle.std.proofs.Math.Bool.{or-false}
+use Rattle.std.proofs.lemmas.List.{length-map, length-replicate, get_or-replicate}
+use Rattle.std.proofs.lemmas.List.Folds.{list_any_more}
+use Rattle.std.proofs.lemmas.Option.{slice_get_read}
 use Rattle.object_trait.specs.Meaning.{Meaning}
-use Rattle.op_locks.specs.Locks.{Locks, is_by, holds, without}
-use Rattle.op_locks.specs.declared.held.Held.{Held}
-use Rattle.object_calls.specs.Ends.{is_at, ChangesAt, HoldsAt}
-use Rattle.object_calls.proofs.Places.{next_is_at}
+use Rattle.op_locks.specs.Locks.{Locks, without}
+use Rattle.object_calls.specs.Ends.{is_at, ChangesAt}
 use Rattle.object_calls.proofs.Changes.{changes_none, changes_again, changes_now, changes_now_by}
 
--- nothing of t is held once what it held is taken out
-holds-without : (t : ℕ) (V : List Held) → holds t (without t V) ≡ false
-holds-without t [] = refl
-holds-without t (e ∷ V) =
-    elim (cases_Bool (is_by t e)) [
-      | inl mine ↦ rw mine (holds-without t V)
-      | inr other ↦ rw other (rw other (holds-without t V))
-    ]
+-- a mark says of each place whether it is among those before i
+pub record AreMarked (all : List ℕ) (i : ℕ) (visited : List Bool) : Type 0 where
+  pub each : (x : ℕ) → x < 256 → get_or visited x false ≡ list_any (λ y. y == x) (take i all)
+  pub long : 256 ≤ length visited
 
--- at these places each object's meaning was changed, and what t held there was released
-pub record IsEnded {R : Type 0} (meaning : R → Meaning) (change : Meaning → Meaning → Type 0) (t : ℕ) (places : List ℕ) (old new : List R) (old_locks new_locks : List Locks) : Type 0 where
-  pub objects : ChangesAt places (λ x m n. change m n) (map meaning old) (map meaning new)
-  pub locks : ChangesAt places (λ x a b. b.held ≡ without t a.held) old_locks new_locks
+pub marked_none : (all : List ℕ) → AreMarked all 0 (replicate 256 false)
+marked_none all = record { each = λ x low. get_or-replicate 256 x false false low; long = omega (arith, length-replicate {A = Bool} 256 false) }
+
+module _ (all : List ℕ) (i : ℕ) (i_in : i < length all) (visited : List Bool) (h : AreMarked all i visited) where
+  more : (x : ℕ) → list_any (λ y. y == x) (take (i + 1) all) ≡ (list_any (λ y. y == x) (take i all) || (get_or all i 0 == x))
+  more x = list_any_more (λ y. y == x) all i 0 i_in
+
+  -- the place at i was visited before
+  pub marked_again : is_at (take i all) (get_or all i 0) → AreMarked all (i + 1) visited
+  marked_again before =
+      record {
+        each = λ x low.
+            elim (cases_Bool (get_or all i 0 == x)) [
+              | inl same ↦
+                  let y_is : get_or all i 0 ≡ x = eqb-true (get_or all i 0) x same in
+                  let early : list_any (λ y. y == x) (take i all) ≡ true = subst (λ z. list_any (λ y. y == z) (take i all) ≡ true) y_is before in
+                  h.each x low ∙ early ∙ sym (more x ∙ or_left (list_any (λ y. y == x) (take i all)) (get_or all i 0 == x) early)
+              | inr other ↦ h.each x low ∙ sym (more x ∙ ap (λ b. list_any (λ y. y == x) (take i all) || b) other ∙ or-false (list_any (λ y. y == x) (take i all)))
+            ];
+        long = h.long;
+      }
+
+  -- it is visited now
+  pub marked_now : get_or all i 0 < 256 → AreMarked all (i + 1) (set visited (get_or all i 0) true)
+  marked_now low =
+      let y : ℕ = get_or all i 0 in
+      record {
+        each = λ x x_low.
+            elim (cases_Bool (y == x)) [
+              | inl same ↦
+                  let y_is : y ≡ x = eqb-true y x same in
+                  let written : get_or (set visited y true) y false ≡ true = get_or-set_same visited y true false (omega (arith, low, h.long)) in
+                  let now : list_any (λ z. z == x) (take (i + 1) all) ≡ true = more x ∙ or_right (list_any (λ z. z == x) (take i all)) (y == x) same in
+                  subst (λ z. get_or (set visited y true) z false ≡ true) y_is written ∙ sym now
+              | inr other ↦
+                  let apart : x ≢ y = λ is. false≢true (sym other ∙ eq-eqb y x (sym is)) in
+                  get_or-set_other visited y x true false apart ∙ h.each x x_low
+                  ∙ sym (more x ∙ ap (λ b. list_any (λ z. z == x) (take i all) || b) other ∙ or-false (list_any (λ z. z == x) (take i all)))
+            ];
+        long = omega (arith, length-set visited y true, h.long);
+      }
+
+-- of all places those before i were visited: there each object's meaning was changed, and what t held was released
+pub record IsEnded {R : Type 0} (meaning : R → Meaning) (change : Meaning → Meaning → Type 0) (t : ℕ) (all : List ℕ) (i : ℕ) (old new : List R) (old_locks new_locks : List Locks) (visited : List Bool) : Type 0 where
+  pub objects : ChangesAt (take i all) (λ x m n. change m n) (map meaning old) (map meaning new)
+  pub locks : ChangesAt (take i all) (λ x a b. b.held ≡ without t a.held) old_locks new_locks
+  pub marked : AreMarked all i visited
 
 -- before the first visit
-pub ended_none : {R : Type 0} (meaning : R → Meaning) (change : Meaning → Meaning → Type 0) (t : ℕ) (old : List R) (old_locks : List Locks) → IsEnded meaning change t [] old old old_locks old_locks
-ended_none meaning change t old old_locks =
-    record { objects = changes_none (λ x m n. change m n) (map meaning old); locks = changes_none (λ x a b. b.held ≡ without t a.held) old_locks }
+pub ended_none : {R : Type 0} (meaning : R → Meaning) (change : Meaning → Meaning → Type 0) (t : ℕ) (all : List ℕ) (old : List R) (old_locks : List Locks) →
+    IsEnded meaning change t all 0 old old old_locks old_locks (replicate 256 false)
+ended_none meaning change t all old old_locks =
+    record {
+      objects = changes_none (λ x m n. change m n) (map meaning old);
+      locks = changes_none (λ x a b. b.held ≡ without t a.held) old_locks;
+      marked = marked_none all;
+    }
 
--- the place at i comes next, where l is held
-module _ {R : Type 0} (meaning : R → Meaning) (change : Meaning → Meaning → Type 0) (t : ℕ) (places : List ℕ) (i : ℕ) (i_in : i < length places)
-    (old new : List R) (old_locks new_locks : List Locks) (h : IsEnded meaning change t (take i places) old new old_locks new_locks)
-    (as_many : length old_locks ≡ length old) (inside : All (λ x. x < length old) places)
-    (l : Locks) (is_l : l ≡ get_or new_locks (get_or places i 0) l) (any : Bool) (any_is : any ≡ holds t l.held) where
-  -- each list has it
-  y_in : get_or places i 0 < length old
-  y_in = inside i 0 i_in
-
-  y_in_new : get_or places i 0 < length new
-  y_in_new = omega (arith, y_in, h.objects.as_many, length-map old meaning, length-map new meaning)
-
-  y_in_locks : get_or places i 0 < length new_locks
-  y_in_locks = omega (arith, y_in, as_many, h.locks.as_many)
-
-  l_at : slice_get new_locks (get_or places i 0) ≡ Some l
-  l_at = slice_get_read new_locks (length new_locks) (get_or places i 0) l refl y_in_locks is_l
-
-  -- where t holds something it is the first visit
-  first_visit : any ≡ true → is_at (take i places) (get_or places i 0) → ⊥
-  first_visit some at =
-      let y : ℕ = get_or places i 0 in
-      let a : Locks = get_or old_locks y l in
-      let gone : l.held ≡ without t a.held = h.locks.changed y a l (slice_get-get_or old_locks y l (omega (arith, y_in, as_many))) l_at at in
-      false≢true (sym (holds-without t a.held) ∙ ap (holds t) (sym gone) ∙ sym any_is ∙ some)
-
-  pub ended_now : any ≡ true → (before after : R) → before ≡ get_or new (get_or places i 0) before → change (meaning before) (meaning after) →
-      (m k : Locks) → m ≡ get_or new_locks (get_or places i 0) m → k.held ≡ without t m.held →
-      IsEnded meaning change t (take (i + 1) places) old (set new (get_or places i 0) after) old_locks (set new_locks (get_or places i 0) k)
-  ended_now some before after is_before done m k is_m released =
-      let y : ℕ = get_or places i 0 in
-      let m_at : slice_get new_locks y ≡ Some m = slice_get_read new_locks (length new_locks) y m refl y_in_locks is_m in
-      let was : slice_get new y ≡ Some before = slice_get_read new (length new) y before refl y_in_new is_before in
+-- the place at i comes next
+module _ {R : Type 0} (meaning : R → Meaning) (change : Meaning → Meaning → Type 0) (t : ℕ) (all : List ℕ) (i : ℕ) (i_in : i < length all)
+    (old new : List R) (old_locks new_locks : List Locks) (visited : List Bool) (h : IsEnded meaning change t all i old new old_locks new_locks visited)
+    (low : get_or all i 0 < 256) where
+  -- it was visited
+  pub ended_again : get_or visited (get_or all i 0) false ≡ true → IsEnded meaning change t all (i + 1) old new old_locks new_locks visited
+  ended_again marked =
+      let before : is_at (take i all) (get_or all i 0) = sym (h.marked.each (get_or all i 0) low) ∙ marked in
       record {
-        objects = changes_now_by places i i_in meaning (λ x m n. change m n) old new h.objects (first_visit some) before after was done (omega (arith, y_in_new, length-map new meaning));
-        locks = changes_now places i i_in (λ x a b. b.held ≡ without t a.held) old_locks new_locks h.locks (first_visit some) m k m_at released y_in_locks;
+        objects = changes_again all i i_in (λ x m n. change m n) (map meaning old) (map meaning new) h.objects before;
+        locks = changes_again all i i_in (λ x a b. b.held ≡ without t a.held) old_locks new_locks h.locks before;
+        marked = marked_again all i i_in visited h.marked before;
       }
 
-  -- where it holds nothing it isn't
-  later_visit : HoldsAt t places old_locks → any ≡ false → is_at (take i places) (get_or places i 0)
-  later_visit each none =
-      let y : ℕ = get_or places i 0 in
-      elim (cases_Bool (list_any (λ z. z == y) (take i places))) [
-        | inl at ↦ at
-        | inr isnt ↦
-            let was : slice_get old_locks y ≡ Some l = sym (h.locks.others y (λ at. false≢true (sym isnt ∙ at))) ∙ l_at in
-            absurd (false≢true (sym none ∙ any_is ∙ each y l (next_is_at places i i_in) was))
-      ]
+  -- it wasn't
+  module _ (as_many : length old_locks ≡ length old) (inside : All (λ x. x < length old) all) (free : get_or visited (get_or all i 0) false ≡ false) where
+    y_in_new : get_or all i 0 < length new
+    y_in_new = omega (arith, inside i 0 i_in, h.objects.as_many, length-map old meaning, length-map new meaning)
 
-  pub ended_again : HoldsAt t places old_locks → any ≡ false → IsEnded meaning change t (take (i + 1) places) old new old_locks new_locks
-  ended_again each none =
-      record {
-        objects = changes_again places i i_in (λ x m n. change m n) (map meaning old) (map meaning new) h.objects (later_visit each none);
-        locks = changes_again places i i_in (λ x a b. b.held ≡ without t a.held) old_locks new_locks h.locks (later_visit each none);
-      }
+    y_in_locks : get_or all i 0 < length new_locks
+    y_in_locks = omega (arith, inside i 0 i_in, as_many, h.locks.as_many)
+
+    first : is_at (take i all) (get_or all i 0) → ⊥
+    first at = false≢true (sym free ∙ h.marked.each (get_or all i 0) low ∙ at)
+
+    pub ended_now : (before after : R) → before ≡ get_or new (get_or all i 0) before → change (meaning before) (meaning after) →
+        (l k : Locks) → l ≡ get_or new_locks (get_or all i 0) l → k.held ≡ without t l.held →
+        IsEnded meaning change t all (i + 1) old (set new (get_or all i 0) after) old_locks (set new_locks (get_or all i 0) k) (set visited (get_or all i 0) true)
+    ended_now before after is_before done l k is_l released =
+        let y : ℕ = get_or all i 0 in
+        let l_at : slice_get new_locks y ≡ Some l = slice_get_read new_locks (length new_locks) y l refl y_in_locks is_l in
+        let was : slice_get new y ≡ Some before = slice_get_read new (length new) y before refl y_in_new is_before in
+        record {
+          objects = changes_now_by all i i_in meaning (λ x m n. change m n) old new h.objects first before after was done (omega (arith, y_in_new, length-map new meaning));
+          locks = changes_now all i i_in (λ x a b. b.held ≡ without t a.held) old_locks new_locks h.locks first l k l_at released y_in_locks;
+          marked = marked_now all i i_in visited h.marked low;
+        }

@@ -16,11 +16,13 @@ pub fn commit_at<R: Recovery>(objects: &mut Vec<R>, locks: &mut Vec<OpLocks>, pl
     ensures objects { ChangesAt places.now (λ x m n. IsCommit m t n) (map R.meaning objects.old.items) (map R.meaning objects.new.items) }
     ensures locks { ChangesAt places.now (λ x a b. b.held ≡ without t a.held) locks.old.items locks.new.items }
 {
+    let mut visited = [false; 256];
     for place in places {
         let x = *place as usize;
-        if locks[x].holds(t) {
+        if !visited[x] {
             objects[x].commit(t);
             locks[x].release(t);
+            visited[x] = true;
         }
     }
 }
@@ -33,11 +35,13 @@ pub fn abort_at<R: Recovery>(objects: &mut Vec<R>, locks: &mut Vec<OpLocks>, pla
     ensures objects { ChangesAt places.now (λ x m n. IsAbort m t n) (map R.meaning objects.old.items) (map R.meaning objects.new.items) }
     ensures locks { ChangesAt places.now (λ x a b. b.held ≡ without t a.held) locks.old.items locks.new.items }
 {
+    let mut visited = [false; 256];
     for place in places {
         let x = *place as usize;
-        if locks[x].holds(t) {
+        if !visited[x] {
             objects[x].abort(t);
             locks[x].release(t);
+            visited[x] = true;
         }
     }
 }

@@ -19,7 +19,7 @@ pub enum EventKind {
     Op { t: u32, x: u32, k: u8 },
     /// Each operation of call c that was legal for t at x conflicted with an operation of another
     /// open transaction, the first of them with one of u.
-    Busy { t: u32, x: u32, c: u8, u: u32 },
+    Busy { c: u8, t: u32, x: u32, u: u32 },
     /// No operation of call c was legal for t at x.
     None { t: u32, x: u32, c: u8 },
     /// Transaction t committed.

@@ -1,9 +1,14 @@
 -- A loop that moves what stays to the front.
-use Rattle.std.proofs.Common.{◌≡◌, ℕ, zero, suc, ◌+◌, ◌-◌, ◌*◌, ◌^◌, ◌%◌, ◌<◌, ◌≤◌, Bool, true, false, List, [], ◌∷◌, ◌++◌, length, take, drop, get_or, set, bit_or, refl, sym, ap, ◌∙◌, append_assoc, arith, All}
-use Rattle.std.proofs.lemmas.List.{drop_more, drop-set-lt, take_more_set, length-set}
+use Rattle.std.proofs.Common.{◌≡◌, ℕ, zero, suc, ◌+◌, ◌-◌, ◌*◌, ◌^◌, ◌%◌, ◌<◌, ◌≤◌, Bool, true, false, not, ◌||◌, List, [], ◌∷◌, ◌++◌, length, take, drop, get_or, set, bit_or, refl, sym, ap, ◌∙◌, append_assoc, inl, inr, arith, All}
+use Rattle.std.specs.Prelude.{nat_lt}
+use Rattle.std.specs.Int.Bits.{or_zero_r}
+use Rattle.std.proofs.Math.Nat.{eq-zero-or-pos}
+use Rattle.std.proofs.lemmas.Bool.{cases_Bool, lt-ltb}
+use Rattle.std.proofs.lemmas.List.{drop_more, drop-set-lt, take_more_set, take-set, length-set}
 use Rattle.std.proofs.lemmas.List.Elements.{All-head, All-same, All-drop}
 use Rattle.object_trait.specs.Strike.{keep_first}
-use Rattle.op_locks.specs.Locks.{is_by, HasBits}
+use mir.Val.{bool_byte}
+use Rattle.op_locks.specs.Locks.{is_by, stays as does_stay, HasBits}
 use Rattle.op_locks.proofs.Words.{HasBits-push}
 use Rattle.op_locks.specs.declared.held.Held.{Held}
 
@@ -14,6 +19,10 @@ keep_first-stays mine (suc n) e V is_mine some = let less : suc n - 1 ≡ n = om
 
 keep_first-other : {E : Type 0} (mine : E → Bool) (n : ℕ) (e : E) (V : List E) → mine e ≡ false → keep_first mine n (e ∷ V) ≡ e ∷ keep_first mine n V
 keep_first-other mine n e V is_other = rw is_other refl
+
+-- one of mine that goes
+keep_first-goes : {E : Type 0} (mine : E → Bool) (e : E) (V : List E) → mine e ≡ true → keep_first mine 0 (e ∷ V) ≡ keep_first mine 0 V
+keep_first-goes mine e V is_mine = rw is_mine refl
 
 -- ys began as xs. In its first places is what stays of xs before i, where `left` of t's may stay from i on
 pub record Compacts (t first : ℕ) (xs ys : List Held) (left count word i : ℕ) : Type 0 where
@@ -63,3 +72,43 @@ module _ (t first : ℕ) (xs ys : List Held) (left count word i : ℕ) (e d : He
 
   pub Compacts-other : e.op < 64 → is_by t e ≡ false → Compacts t first xs (set ys count e) left (count + 1) (bit_or word (1 * 2 ^ e.op % 2 ^ 64)) (i + 1)
   Compacts-other below other = stays left below (keep_first-other (is_by t) left e (drop (i + 1) xs) other)
+
+  -- it goes, and is written where the next one that stays will be
+  Compacts-goes : e.op < 64 → is_by t e ≡ true → left ≡ 0 → Compacts t first xs (set ys count e) 0 (count + 0) (bit_or word (0 * 2 ^ e.op % 2 ^ 64)) (i + 1)
+  Compacts-goes below mine none =
+      let here : count + 0 ≡ count = omega arith in
+      let same : take (count + 0) (set ys count e) ≡ take count ys = ap (λ n. take n (set ys count e)) here ∙ take-set ys count e in
+      let K : List Held = keep_first (is_by t) 0 (drop (i + 1) xs) in
+      let gone : keep_first (is_by t) left (drop i xs) ≡ K = ap (λ n. keep_first (is_by t) n (drop i xs)) none ∙ ap (keep_first (is_by t) 0) next ∙ keep_first-goes (is_by t) e (drop (i + 1) xs) mine in
+      let none_set : 0 * 2 ^ e.op % 2 ^ 64 ≡ 0 = omega arith in
+      let word_is : bit_or word (0 * 2 ^ e.op % 2 ^ 64) ≡ word = ap (bit_or word) none_set ∙ or_zero_r word in
+      record {
+        front = ap (λ V. V ++ K) same ∙ ap (λ V. take count ys ++ V) (sym gone) ∙ h.front;
+        rest = drop-set-lt (i + 1) ys count e (omega (arith, h.behind)) ∙ rest_more;
+        behind = omega (arith, h.behind);
+        long = length-set ys count e ∙ h.long;
+        bits = rw (same, word_is) h.bits;
+      }
+
+  -- it stays or goes
+  pub Compacts-next : e.op < 64 → (more bit own : ℕ) (stay : Bool) → stay ≡ does_stay t left e → more ≡ bool_byte stay → bit ≡ bool_byte stay → own ≡ bool_byte (is_by t e) →
+      Compacts t first xs (set ys count e) (left - own) (count + more) (bit_or word (bit * 2 ^ e.op % 2 ^ 64)) (i + 1)
+  Compacts-next below more bit own stay stay_is more_is bit_is own_is =
+      let same : more ≡ bit = more_is ∙ sym bit_is in
+      elim (cases_Bool (is_by t e)) [
+        | inr other ↦
+            let one : bit ≡ 1 = bit_is ∙ ap bool_byte (stay_is ∙ ap (λ b. not b || nat_lt 0 left) other) in
+            let less : left - own ≡ left = omega (arith, own_is ∙ ap bool_byte other) in
+            rw (same, one, less) (Compacts-other below other)
+        | inl mine ↦
+            let one_own : own ≡ 1 = own_is ∙ ap bool_byte mine in
+            elim (eq-zero-or-pos left) [
+              | inl none ↦
+                  let gone : bit ≡ 0 = bit_is ∙ ap bool_byte (stay_is ∙ ap (λ b. not b || nat_lt 0 left) mine ∙ ap (λ n. nat_lt 0 n) none) in
+                  let less : left - own ≡ 0 = omega (arith, none) in
+                  rw (same, gone, less) (Compacts-goes below mine none)
+              | inr some ↦
+                  let one : bit ≡ 1 = bit_is ∙ ap bool_byte (stay_is ∙ ap (λ b. not b || nat_lt 0 left) mine ∙ lt-ltb 0 left some) in
+                  rw (same, one, one_own) (Compacts-stays below mine some)
+            ]
+      ]

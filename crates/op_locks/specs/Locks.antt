@@ -1,5 +1,5 @@
 -- What a list of held operations means, and who of its transactions keeps another from an operation.
-use Rattle.std.specs.Prelude.{◌≡◌, ℕ, ◌-◌, ◌<◌, List, filter, length, Bool, not, ◌&&◌, ◌==◌, Option, All}
+use Rattle.std.specs.Prelude.{◌≡◌, ℕ, ◌-◌, ◌<◌, List, filter, length, Bool, not, ◌&&◌, ◌||◌, ◌==◌, nat_lt, Option, All}
 use Rattle.std.specs.Int.{bit_at}
 use Rattle.std.specs.List.{find, list_any}
 use Rattle.std.specs.Option.{option_map}
@@ -39,6 +39,10 @@ without t held = filter (λ e. not (is_by t e)) held
 -- what is held, but for the last m of what t holds
 abbrev pub without_last : ℕ → ℕ → List Held → List Held
 without_last t m held = keep_first (is_by t) (count_of t held - m) held
+
+-- an entry stays where so many of t's may
+abbrev pub stays : ℕ → ℕ → Held → Bool
+stays t left e = not (is_by t e) || nat_lt 0 left
 
 -- ---- as a word of 64 bits
 

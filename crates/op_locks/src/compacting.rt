@@ -2,7 +2,7 @@
 
 ghost use Rattle.std.specs.Prelude.{◌≡◌, ◌≤◌, ◌<◌, All, length, take};
 ghost use Rattle.object_trait.specs.Strike.{keep_first};
-ghost use Rattle.op_locks.specs.Locks.{is_by, HasBits};
+ghost use Rattle.op_locks.specs.Locks.{is_by, HasBits, stays};
 
 use crate::held::Held;
 
@@ -26,15 +26,18 @@ pub fn compact(held: &mut [Held], t: u32, first: usize) -> Kept
     let mut word = 0;
     for i in 0..held.len() {
         let entry = held[i];
-        if entry.by == t {
-            if left == 0 {
-                continue;
-            }
-            left -= 1;
-        }
+        let stays = stays(entry, t, left);
         held[count] = entry;
-        count += 1;
-        word |= 1 << entry.op;
+        count += usize::from(stays);
+        word |= u64::from(stays) << entry.op;
+        left = left.saturating_sub(usize::from(entry.by == t));
     }
     Kept { count, word }
+}
+
+/// Whether an entry stays, where so many of t's may.
+fn stays(entry: Held, t: u32, left: usize) -> bool
+    ensures { result ≡ stays t left entry }
+{
+    entry.by != t || left > 0
 }

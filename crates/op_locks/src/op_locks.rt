@@ -68,12 +68,16 @@ impl OpLocks {
     }
 
     /// Makes room for one more, at the least.
+    #[inline(always)]
     pub fn reserve(&mut self) -> Result<(), AllocError>
         ensures list { self.new.held ≡ self.old.held }
         ensures room { OnOk result (1 ≤ self.new.room) }
         ensures succeeds { 1 ≤ self.old.room → IsOk result }
         ensures err { OnErr result (self.new ≡ self.old) }
     {
+        if self.held.len() < self.held.capacity() {
+            return Ok(());
+        }
         self.held.reserve(1)
     }
 

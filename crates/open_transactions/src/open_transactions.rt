@@ -1,4 +1,5 @@
 ghost use Rattle.std.specs.Prelude.{◌≡◌, ◌+◌, ◌<◌, ◌≤◌, true, [], ◌∷◌, ◌++◌, length, None, Some, OnOk, slice_index, slice_set};
+ghost use Rattle.smallvec.specs.SmallVec.{HasRoomFor};
 
 use smallvec::SmallVec;
 use std::alloc::{AllocError, Global};
@@ -129,13 +130,14 @@ impl OpenTransactions {
     }
 
     /// Makes room for one more place of t.
+    #[inline(always)]
     pub fn reserve_place(&mut self, t: u32) -> Result<(), AllocError>
         requires { is_open self.old.rows t ≡ true }
         ensures rows { self.new.rows ≡ self.old.rows }
         ensures room { OnOk result (0 < slice_index self.new.room_to_push t) }
     {
         let slot = self.slot_of[t as usize] as usize;
-        self.slots[slot].places.reserve(1)
+        reserve_one(&mut self.slots[slot].places)
     }
 
     /// One more operation of t, at the place x. It takes no memory.
@@ -171,4 +173,16 @@ impl OpenTransactions {
         self.slot_of[t as usize] = ENDED;
         self.slots.swap_remove(slot as usize);
     }
+}
+
+/// Makes room for one more place. Mostly there is room.
+#[inline(always)]
+fn reserve_one(places: &mut SmallVec<u8, 16>) -> Result<(), AllocError>
+    ensures items { places.new.items ≡ places.old.items }
+    ensures ok { OnOk result (HasRoomFor places.new 1) }
+{
+    if places.len() < places.capacity() {
+        return Ok(());
+    }
+    places.reserve(1)
 }

@@ -18,7 +18,7 @@ use Rattle.serial_order.proofs.Runs.{transactions_in_run}
 of_kind : (s : Seen) (happened : EventKind) → seen_after s happened ≡ after s happened
 of_kind s (Begin t) = rw (append-nil s.committed, append-nil s.aborted) refl
 of_kind s (Op t x k) = rw (append-nil s.committed, append-nil s.aborted) refl
-of_kind s (Busy t x c u) = rw (append-nil s.committed, append-nil s.aborted) refl
+of_kind s (Busy c t x u) = rw (append-nil s.committed, append-nil s.aborted) refl
 of_kind s (kind.None t x c) = rw (append-nil s.committed, append-nil s.aborted) refl
 of_kind s (Commit t) = rw (append-nil s.aborted) refl
 of_kind s (Abort t) = rw (append-nil s.committed) refl
@@ -88,7 +88,7 @@ open-abort s t u =
 pub open-after : (objects : List Object) (s : Seen) (happened : EventKind) → AreInRun s → May objects s happened → (u : ℕ) → is_open (after s happened) u ≡ is_open_after s happened u
 open-after objects s (Begin t) known may u = rw may (open-begin s u known)
 open-after objects s (Op t x k) known may u = refl
-open-after objects s (Busy t x c v) known may u = refl
+open-after objects s (Busy c t x v) known may u = refl
 open-after objects s (kind.None t x c) known may u = refl
 open-after objects s (Commit t) known may u = open-commit s t u
 open-after objects s (Abort t) known may u = open-abort s t u

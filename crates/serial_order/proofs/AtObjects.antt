@@ -82,7 +82,7 @@ module _ (objects : List Object) (x : ℕ) (o : Object) (there : slice_get objec
       (op_here s t k known (may.0) (subst (λ z. MayDo (slice_get objects z) s z t k) (eqb-true y x here) (may.1)) h))
       (λ (elsewhere : (y == x) ≡ false). op_elsewhere s t y k elsewhere h)
       (cases_Bool (y == x)))
-  step s (Busy t y c u) known may h = same_committed _ _ h
+  step s (Busy c t y u) known may h = same_committed _ _ h
   step s (kind.None t y c) known may h = same_committed _ _ h
   step s (Commit t) known may h = stays.commit s.committed (at_object x s.stands) t (open_is_uncommitted s t may) h
   step s (Abort t) known may h = same_committed _ _ (struck s t 0 may h)

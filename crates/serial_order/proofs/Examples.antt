@@ -22,6 +22,6 @@ down-least : IsFirstOfCall undo_counter 1
 down-least = (omega arith, below_more (λ k. is_of_call undo_counter 1 k ≡ false) 0 (below_none (λ k. is_of_call undo_counter 1 k ≡ false)) refl)
 
 -- a call to count down may be answered to be busy with transaction 0, which holds the lock
-pub lock-may_be_busy : MayFollow (undo_counter ∷ []) (take 4 lock_history) (record { worker = 0; kind = Busy 1 0 1 0 })
+pub lock-may_be_busy : MayFollow (undo_counter ∷ []) (take 4 lock_history) (record { worker = 0; kind = Busy 1 1 0 0 })
 unfolding next
 lock-may_be_busy = answer_may_follow (undo_counter ∷ []) (take 4 lock_history) 0 undo_counter 0 1 1 refl refl down-least

@@ -98,7 +98,7 @@ module _ (objects : List Object) (s : Seen) (x : ℕ) (known : AreInRun s) where
 pub held_after_one : HeldAfter
 held_after_one objects s (Begin t) x known may = held-left objects s x known (Begin t) may (at_object x s.stands) ∙ ap (λ n. filter (λ (e : Entry). e.by == n || is_open s e.by) (at_object x s.stands)) may ∙ held-begin objects s x known
 held_after_one objects s (Op t y k) x known may = held-op objects s x known t y k may.0
-held_after_one objects s (Busy t y c u) x known may = refl
+held_after_one objects s (Busy c t y u) x known may = refl
 held_after_one objects s (kind.None t y c) x known may = refl
 held_after_one objects s (Commit t) x known may = held-left objects s x known (Commit t) may (at_object x s.stands) ∙ held-end objects s x known t
 held_after_one objects s (Abort t) x known may =
@@ -141,7 +141,7 @@ own-strike V t u n =
 pub own_after_one : OwnAfter
 own_after_one s (Begin u) t = refl
 own_after_one s (Op u y k) t = own-op s t u y k
-own_after_one s (Busy u y c v) t = refl
+own_after_one s (Busy c u y v) t = refl
 own_after_one s (kind.None u y c) t = refl
 own_after_one s (Commit u) t = refl
 own_after_one s (Abort u) t = own-strike s.stands t u 0

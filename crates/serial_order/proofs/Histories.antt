@@ -34,7 +34,7 @@ busy_with_operation (Some o) s x t c u may = may.least.0
 pub may_stand : (objects : List Object) (s : Seen) (happened : EventKind) → May objects s happened → MayStand (map (λ (o : Object). o.table) objects) s happened
 may_stand objects s (Begin t) may = may
 may_stand objects s (Op t x k) may = (may.0, rw (slice_get-map (λ (o : Object). o.table) objects x) (does_operation (slice_get objects x) s x t k may.1))
-may_stand objects s (Busy t x c u) may = (may.0, rw (slice_get-map (λ (o : Object). o.table) objects x) (busy_with_operation (slice_get objects x) s x t c u may.1))
+may_stand objects s (Busy c t x u) may = (may.0, rw (slice_get-map (λ (o : Object). o.table) objects x) (busy_with_operation (slice_get objects x) s x t c u may.1))
 may_stand objects s (kind.None t x c) may = (may.0, rw (slice_get-map (λ (o : Object). o.table) objects x) (none_of_operation (slice_get objects x) s x t c may.1))
 may_stand objects s (Commit t) may = may
 may_stand objects s (Abort t) may = may

@@ -68,7 +68,7 @@ module _ (t n : ℕ) where
       ]
   reach-step (Rollback u m) K none known = grind (arith, known)
   reach-step (Begin u) K none known = grind (arith, known)
-  reach-step (Busy u x c v) K none known = grind (arith, known)
+  reach-step (Busy c u x v) K none known = grind (arith, known)
   reach-step (kind.None u x c) K none known = grind (arith, known)
   reach-step (Commit u) K none known = grind (arith, known)
   reach-step (Abort u) K none known = grind (arith, known)
@@ -87,7 +87,7 @@ module _ (e : Event) (same : (t : ℕ) (K : List Event) → stays t (K ++ e ∷ 
   op-same : (happened : EventKind) (K : List Event) → staying_op happened (K ++ e ∷ []) ≡ staying_op happened K
   op-same (Op t x k) K = rw (same t K) refl
   op-same (Begin t) K = refl
-  op-same (Busy t x c u) K = refl
+  op-same (Busy c t x u) K = refl
   op-same (kind.None t x c) K = refl
   op-same (Commit t) K = refl
   op-same (Abort t) K = refl
@@ -112,7 +112,7 @@ op-abort w t (Op u x k) K = rw (stays-snoc u K (record { worker = w; kind = Abor
     by_tests false false true is = rw is refl
     by_tests false false false is = rw is refl
 op-abort w t (Begin u) K = refl
-op-abort w t (Busy u x c v) K = refl
+op-abort w t (Busy c u x v) K = refl
 op-abort w t (kind.None u x c) K = refl
 op-abort w t (Commit u) K = refl
 op-abort w t (Abort u) K = refl
@@ -210,7 +210,7 @@ op-rollback w t n (Op u x k) K =
       | inr other ↦ other-rollback w t n u x k K other
     ]
 op-rollback w t n (Begin u) K = refl
-op-rollback w t n (Busy u x c v) K = refl
+op-rollback w t n (Busy c u x v) K = refl
 op-rollback w t n (kind.None u x c) K = refl
 op-rollback w t n (Commit u) K = refl
 op-rollback w t n (Abort u) K = refl
@@ -225,7 +225,7 @@ staying-rollback w t n (f ∷ H) = rw (staying-rollback w t n H) (op-rollback w 
 one_more : (H : List Event) (w : ℕ) (happened : EventKind) → staying (H ++ (record { worker = w; kind = happened }) ∷ []) ≡ stand_after (staying H) happened
 one_more H w (Op t x k) = staying-same (record { worker = w; kind = Op t x k }) (λ u K. stays-same u K (record { worker = w; kind = Op t x k }) refl (grind (arith))) H
 one_more H w (Begin t) = staying-same (record { worker = w; kind = Begin t }) (λ u K. stays-same u K _ refl refl) H ∙ append-nil (staying H)
-one_more H w (Busy t x c u) = staying-same (record { worker = w; kind = Busy t x c u }) (λ v K. stays-same v K _ refl refl) H ∙ append-nil (staying H)
+one_more H w (Busy c t x u) = staying-same (record { worker = w; kind = Busy c t x u }) (λ v K. stays-same v K _ refl refl) H ∙ append-nil (staying H)
 one_more H w (kind.None t x c) = staying-same (record { worker = w; kind = kind.None t x c }) (λ u K. stays-same u K _ refl refl) H ∙ append-nil (staying H)
 one_more H w (Commit t) = staying-same (record { worker = w; kind = Commit t }) (λ u K. stays-same u K _ refl refl) H ∙ append-nil (staying H)
 one_more H w (Abort t) = staying-abort w t H ∙ sym (keep_first-none (is_by t) (staying H))

@@ -120,7 +120,7 @@ after_rollback s t n h = rw (append-nil s.committed, append-nil s.aborted) recor
 after_event : (objects : List Object) (s : Seen) (happened : EventKind) → May objects s happened → AreInRun s → AreInRun (seen_after s happened)
 after_event objects s (Begin t) may h = after_begin s t h
 after_event objects s (Op t x k) may h = after_op s t x k may.0 h
-after_event objects s (Busy t x c u) may h = after_nothing s h
+after_event objects s (Busy c t x u) may h = after_nothing s h
 after_event objects s (kind.None t x c) may h = after_nothing s h
 after_event objects s (Commit t) may h = after_commit s t may h
 after_event objects s (Abort t) may h = after_abort s t may h

@@ -47,7 +47,7 @@ filter-length test V = let counted = count_by-le-length test V in omega (arith, 
 after-length : (V : List Entry) (happened : EventKind) → length (stand_after V happened) ≤ length V + 1
 after-length V (Begin t) = omega arith
 after-length V (Op t x k) = omega (arith, length-append V ((record { by = t; at = x; op = k }) ∷ []))
-after-length V (Busy t x c u) = omega arith
+after-length V (Busy c t x u) = omega arith
 after-length V (kind.None t x c) = omega arith
 after-length V (Commit t) = omega arith
 after-length V (Abort t) = let kept = keep_first-length (is_by t) 0 V in omega (arith, kept)

@@ -134,7 +134,7 @@ module _ (along : RunsAlong) (x : ℕ) (s : Seen) (old new : Meaning) (stands : 
       Stands new x (s.committed ++ committed_by happened) (at_object x (stand_after s.stands happened))
   by_event objects (Begin t) may change = by_nothing change
   by_event objects (Op t y k) may change = by_op t y k may.0 change
-  by_event objects (Busy t y c u) may change = by_nothing change
+  by_event objects (Busy c t y u) may change = by_nothing change
   by_event objects (kind.None t y c) may change = by_nothing change
   by_event objects (Commit t) may change = by_commit t may change
   by_event objects (Abort t) may change = by_strike t 0 0 may refl change

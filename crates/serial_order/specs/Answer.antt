@@ -40,7 +40,7 @@ is_free_reply o s x t c k = is_reply o s x t c k && not (is_some (blocker o s x 
 -- `Busy` with the holder of the operation that blocks
 abbrev pub busy_with : Option Entry → ℕ → ℕ → ℕ → EventKind
 busy_with None t x c = kind.None t x c
-busy_with (Some e) t x c = Busy t x c e.by
+busy_with (Some e) t x c = Busy c t x e.by
 
 -- `Busy` where some operation is legal, with the blocker of the first legal one; else `None`
 abbrev pub refused : Object → Seen → ℕ → ℕ → ℕ → Option ℕ → EventKind

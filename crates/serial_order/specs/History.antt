@@ -74,7 +74,7 @@ IsOperation (Some T) k = k < length T.ops
 abbrev pub MayStand : List Table → Seen → EventKind → Type 0
 MayStand tables s (Begin t) = t ≡ s.begun
 MayStand tables s (Op t x k) = (is_open s t ≡ true) × IsOperation (slice_get tables x) k
-MayStand tables s (Busy t x c u) = (is_open s t ≡ true) × IsOperation (slice_get tables x) c
+MayStand tables s (Busy c t x u) = (is_open s t ≡ true) × IsOperation (slice_get tables x) c
 MayStand tables s (kind.None t x c) = (is_open s t ≡ true) × IsOperation (slice_get tables x) c
 MayStand tables s (Commit t) = is_open s t ≡ true
 MayStand tables s (Abort t) = is_open s t ≡ true

@@ -67,8 +67,8 @@ pub fn what_is_not_committed_is_not_seen()
 /// down.
 pub fn a_rollback_gives_up_the_lock()
     ensures runs { IsRun (undo_counter ∷ []) lock_history }
-    ensures before { event_of_call undo_counter (seen_first 4 lock_history) 0 1 1 ≡ EventKind.Busy 1 0 1 0 }
-    ensures busy { MayFollow (undo_counter ∷ []) (take 4 lock_history) (record { worker = 0; kind = EventKind.Busy 1 0 1 0 }) }
+    ensures before { event_of_call undo_counter (seen_first 4 lock_history) 0 1 1 ≡ EventKind.Busy 1 1 0 0 }
+    ensures busy { MayFollow (undo_counter ∷ []) (take 4 lock_history) (record { worker = 0; kind = EventKind.Busy 1 1 0 0 }) }
     ensures left { (seen_first 5 lock_history).stands ≡ entry 1 0 0 ∷ [] }
     ensures after { event_of_call undo_counter (seen_first 5 lock_history) 0 1 1 ≡ EventKind.Op 1 0 1 }
     ensures commits { commits lock_history ≡ 1 ∷ 0 ∷ [] }
@@ -113,7 +113,7 @@ pub fn some_events_cannot_follow()
     ensures conflict { MayFollow (undo_counter ∷ []) (take 3 lock_history) (record { worker = 0; kind = EventKind.Op 1 0 1 }) → ⊥ }
     ensures illegal { MayFollow (undo_counter ∷ []) (take 2 lock_history) (record { worker = 0; kind = EventKind.Op 1 0 1 }) → ⊥ }
     ensures ended { MayFollow (undo_counter ∷ []) lock_history (record { worker = 0; kind = EventKind.Op 1 0 0 }) → ⊥ }
-    ensures itself { MayFollow (undo_counter ∷ []) (take 4 lock_history) (record { worker = 0; kind = EventKind.Busy 1 0 1 1 }) → ⊥ }
+    ensures itself { MayFollow (undo_counter ∷ []) (take 4 lock_history) (record { worker = 0; kind = EventKind.Busy 1 1 0 1 }) → ⊥ }
 {}
 
 /// In a history transactions are open where they act, begin by their numbers, act at objects that are
@@ -183,7 +183,7 @@ pub fn an_answer_none_is_not_replayed()
 /// and in the serial order, after transaction 1, it would read 1.
 pub fn a_reply_that_was_taken_back_is_not_replayed()
     ensures runs { IsRun (undo_account ∷ []) reader_history }
-    ensures locked { event_of_call undo_account (seen_first 3 reader_history) 0 1 0 ≡ EventKind.Busy 1 0 0 0 }
+    ensures locked { event_of_call undo_account (seen_first 3 reader_history) 0 1 0 ≡ EventKind.Busy 0 1 0 0 }
     ensures commits { commits reader_history ≡ 1 ∷ 0 ∷ [] }
     ensures serial { serial_at 0 reader_history ≡ entry 1 0 0 ∷ [] }
     ensures not_so { is_legal_after undo_account (serial_at 0 reader_history) 1 ≡ false }

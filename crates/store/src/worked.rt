@@ -1,10 +1,13 @@
 //! Worked stores: each function does nothing, and its contract is what comes out of them.
 #![tactic(auto)]
 
-ghost use Rattle.std.specs.Prelude.{◌≡◌, ◌++◌, [], ◌∷◌, length, true, false, Ok};
-ghost use Rattle.store_laws.specs.Examples.{stored};
+ghost use Rattle.std.specs.Prelude.{◌≡◌, ◌<◌, List, ◌++◌, [], ◌∷◌, length, take, true, false, Ok};
+ghost use Rattle.object_trait.specs.Meaning.{Meaning};
+ghost use Rattle.object_trait.specs.Examples.{held, counter_at};
+ghost use Rattle.store_laws.specs.Examples.{stored, new_counters, counted, one_up, one_back};
 ghost use Rattle.store.specs.Calls.{noted, Answers, unnumbered};
-ghost use Rattle.store.specs.Ends.{closing, is_limit, Refuses};
+ghost use Rattle.store.specs.Ends.{closing, is_limit, Refuses, IsHandedOut};
+ghost use Rattle.store.specs.KeptState.{IsKeptState};
 ghost use Rattle.store.specs.Examples.{by, two_left_open};
 
 use crate::refusals::NewRefusal;
@@ -12,6 +15,7 @@ use crate::store::Store;
 use object_calls::Answer;
 use object_trait::{EventKind, Recovery};
 use serial_order::Refusal;
+use type_table::Kind;
 
 /// The end of a store aborts the open transactions in ascending order, each by the worker that began
 /// it.
@@ -32,10 +36,28 @@ pub fn no_objects_is_the_first_reason()
     ensures { Refuses [] 1 NewRefusal.NoObjects }
 {}
 
+/// Where one reason holds, none that comes later is given.
+pub fn no_later_reason_is_given()
+    ensures no_objects { Refuses [] 1 NewRefusal.BadMax → ⊥ }
+    ensures too_many { (ms : List Meaning) → 256 < length ms → Refuses ms 1 NewRefusal.NotFresh → ⊥ }
+    ensures not_fresh { Refuses counted.meanings 1 NewRefusal.BadMax → ⊥ }
+    ensures bad_max { Refuses new_counters.meanings 1 NewRefusal.NoMemory → ⊥ }
+{}
+
+/// An object with an open entry isn't handed out, also where it represents the history.
+pub fn an_open_object_is_not_handed_out()
+    ensures { IsHandedOut (counter_at Kind.Intentions 0 (held 0 0 ∷ [])) 1 (take 2 one_up) → ⊥ }
+{}
+
+/// With update in place the kept state is that after all that lives, and no other.
+pub fn a_state_may_not_be_the_kept_one()
+    ensures { IsKeptState (stored one_back) 0 0 → ⊥ }
+{}
+
 /// Each answer is told by its event.
 pub fn an_answer_is_told_by_its_event()
     ensures reply { Answers (stored two_left_open) 9 0 1 0 (Ok (Answer.Reply 0)) (stored (two_left_open ++ by 9 (EventKind.Op 0 1 0) ∷ [])) }
-    ensures busy { Answers (stored two_left_open) 9 2 1 0 (Ok (Answer.Busy 0)) (stored (two_left_open ++ by 9 (EventKind.Busy 2 1 0 0) ∷ [])) }
+    ensures busy { Answers (stored two_left_open) 9 2 1 0 (Ok (Answer.Busy 0)) (stored (two_left_open ++ by 9 (EventKind.Busy 0 2 1 0) ∷ [])) }
     ensures none { Answers (stored two_left_open) 9 2 1 1 (Ok Answer.None) (stored (two_left_open ++ by 9 (EventKind.None 2 1 1) ∷ [])) }
 {}
 

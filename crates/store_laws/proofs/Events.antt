@@ -250,7 +250,7 @@ types_stay = λ old new H e moves.
 room : (happened : EventKind) (before now n : ℕ) → CountsTo happened before now → n + 1 + now ≡ n + before + takes happened
 room (Begin t) before now n counts = omega (arith, counts)
 room (Op t x k) before now n counts = omega (arith, counts)
-room (Busy t x c u) before now n counts = omega (arith, counts)
+room (Busy c t x u) before now n counts = omega (arith, counts)
 room (kind.None t x c) before now n counts = omega (arith, counts)
 room (Commit t) before now n counts = omega (arith, counts)
 room (Abort t) before now n counts = omega (arith, counts)

@@ -29,7 +29,7 @@ same-type x s (Op t y k) old new change =
       | inl here ↦ ap (λ (m : Meaning). m.checked) (rw here at change)
       | inr elsewhere ↦ ap (λ (m : Meaning). m.checked) (rw elsewhere at change)
     ]
-same-type x s (Busy t y c u) old new change = ap (λ (m : Meaning). m.checked) change
+same-type x s (Busy c t y u) old new change = ap (λ (m : Meaning). m.checked) change
 same-type x s (kind.None t y c) old new change = ap (λ (m : Meaning). m.checked) change
 same-type x s (Commit t) old new change = change.checked
 same-type x s (Abort t) old new change = change.checked
@@ -66,7 +66,7 @@ module _ (applies : SoundAfterApply) (commits : SoundAfterCommit) (strikes : Sou
             (applies old t k covered sound (may t k (ap (λ z. Op t z k) (eqb-true y x here))))
         | inr elsewhere ↦ subst IsSound (sym (rw elsewhere at change)) sound
       ]
-  sound-after x s (Busy t y c u) old new covered sound may change = subst IsSound (sym change) sound
+  sound-after x s (Busy c t y u) old new covered sound may change = subst IsSound (sym change) sound
   sound-after x s (kind.None t y c) old new covered sound may change = subst IsSound (sym change) sound
   sound-after x s (Commit t) old new covered sound may change = commits old new t covered sound change
   sound-after x s (Abort t) old new covered sound may change = strikes old new t 0 covered sound change

@@ -112,7 +112,7 @@ one-lives (Op t x k) K =
       | inl is ↦ rw is (omega arith)
       | inr isnt ↦ rw isnt (omega arith)
     ]
-one-lives (Busy t x c u) K = omega arith
+one-lives (Busy c t x u) K = omega arith
 one-lives (kind.None t x c) K = omega arith
 one-lives (Commit t) K = omega arith
 one-lives (Abort t) K = omega arith

@@ -169,7 +169,7 @@ pub rows-after : (objects : List Object) (old new : List (Option Row)) (s : Seen
     → RowsMove w happened old new → AreRows new (after s happened) (B ++ beginner w happened)
 rows-after objects old new s B w (Begin t) known in_run workers may opens own move = rows-begin old new s B known w t in_run workers may opens move
 rows-after objects old new s B w (Op t x k) known in_run workers may opens own move = rw (append-nil B) (rows-op old new s B known t x k may.0 own move)
-rows-after objects old new s B w (Busy t x c u) known in_run workers may opens own move = rw (append-nil B) (rows-same old new s B known move)
+rows-after objects old new s B w (Busy c t x u) known in_run workers may opens own move = rw (append-nil B) (rows-same old new s B known move)
 rows-after objects old new s B w (kind.None t x c) known in_run workers may opens own move = rw (append-nil B) (rows-same old new s B known move)
 rows-after objects old new s B w (Commit t) known in_run workers may opens own move =
     rw (append-nil B) (rows-end old new s B known t (after s (Commit t)) refl opens (λ u other. refl) move)

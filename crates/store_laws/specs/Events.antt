@@ -25,7 +25,7 @@ use Rattle.store_laws.specs.Before.{IsOpenRow, last_places}
 abbrev pub QuietMoves : Type 0
 QuietMoves =
     (old new : Keeping) (H : List Event) (w t x c : ℕ) → IsKept old H → new.meanings ≡ old.meanings → new.held ≡ old.held → new.rows ≡ old.rows
-    → ((u : ℕ) → Moves old new H (record { worker = w; kind = Busy t x c u })) × Moves old new H (record { worker = w; kind = kind.None t x c })
+    → ((u : ℕ) → Moves old new H (record { worker = w; kind = Busy c t x u })) × Moves old new H (record { worker = w; kind = kind.None t x c })
 
 -- with one more row: a transaction began
 abbrev pub BeginMoves : Type 0

@@ -43,7 +43,7 @@ BlocksAsHeld =
 -- the event of an answer of t's call c at x
 abbrev pub as_event : ℕ → ℕ → ℕ → Answer → EventKind
 as_event t x c (Reply k) = kind.Op t x k
-as_event t x c (Busy u) = kind.Busy t x c u
+as_event t x c (Busy u) = kind.Busy c t x u
 as_event t x c None = kind.None t x c
 
 -- at an object that represents the history, where what is held agrees with it, a call is answered as the history defines it

@@ -101,7 +101,7 @@ pub fn a_call_may_want_memory()
 /// executed.
 pub fn an_answer_is_an_event()
     ensures reply { as_event 3 1 2 (Answer.Reply 4) ≡ EventKind.Op 3 1 4 }
-    ensures busy { as_event 3 1 2 (Answer.Busy 5) ≡ EventKind.Busy 3 1 2 5 }
+    ensures busy { as_event 3 1 2 (Answer.Busy 5) ≡ EventKind.Busy 2 3 1 5 }
     ensures none { as_event 3 1 2 Answer.None ≡ EventKind.None 3 1 2 }
 {}
 

@@ -7,7 +7,7 @@ mod examples;
 mod large;
 mod make;
 mod tables;
-mod types;
+pub mod types;
 mod verdicts;
 
 pub use self::large::add_step;

@@ -1,29 +1,30 @@
-use Rattle.std.proofs.Common.{◌≡◌, ◌<◌, length, take, arith}
+use Rattle.std.proofs.Common.{◌≡◌, ◌<◌, length, get_or, take, arith}
 use Rattle.std.proofs.lemmas.List.{take_all}
 use Rattle.object_trait.specs.Steps.{IsCommit}
 use Rattle.object_calls.proofs.Ended.{ended_none, ended_now, ended_again}
 use Rattle.object_calls.proofs.end.commit_at.Goals as goal
-use Rattle.object_calls.proofs.end.commit_at.Goals.{then-holds, else-holds}
+use Rattle.object_calls.proofs.end.commit_at.Goals.{then-not-visited-x, else-not-visited-x}
 
 pub loop-place-init : goal.loop-place-init
-loop-place-init g c = ended_none g.R.Recovery.meaning (λ m n. IsCommit m c.args.t n) c.args.t c.args.objects.now.items c.args.locks.now.items
+loop-place-init g c = ended_none g.R.Recovery.meaning (λ m n. IsCommit m c.args.t n) c.args.t c.args.places.now c.args.objects.now.items c.args.locks.now.items
 
 pub loop-place-preserved : goal.loop-place-preserved
 loop-place-preserved g c =
     let i_in : c.loop-place.place-index < length c.args.places.now = omega arith in
-    elim c.if-holds.branch [
-      | then-holds w ↦
-          rw (w.objects-is, w.locks-is)
+    let low : get_or c.args.places.now c.loop-place.place-index 0 < 256 = omega (arith, c.type_inv.places c.loop-place.place-index) in
+    elim c.if-not-visited-x.branch [
+      | then-not-visited-x w ↦
+          rw (w.objects-is, w.locks-is, w.visited-is)
           (ended_now g.R.Recovery.meaning (λ m n. IsCommit m c.args.t n) c.args.t c.args.places.now c.loop-place.place-index i_in
-          c.args.objects.now.items c.loop-place.objects.items c.args.locks.now.items c.loop-place.locks.items c.loop-place.invariant c.requires.as_many c.requires.inside
-          c.index.result.now c.index.ensures c.holds.result c.holds.ensures w.if-holds.true
+          c.args.objects.now.items c.loop-place.objects.items c.args.locks.now.items c.loop-place.locks.items c.loop-place.visited c.loop-place.invariant low
+          c.requires.as_many c.requires.inside w.if-not-visited-x.true
           w.index_mut.result.now w.commit.new.self w.index_mut.ensures.value w.commit.ensures
-          w.index_mut-then-holds.result.now w.release.new.self w.index_mut-then-holds.ensures.value w.release.ensures.list)
-      | else-holds w ↦
-          rw (w.objects-is, w.locks-is)
+          w.index_mut-then-not-visited-x.result.now w.release.new.self w.index_mut-then-not-visited-x.ensures.value w.release.ensures.list)
+      | else-not-visited-x w ↦
+          rw (w.objects-is, w.locks-is, w.visited-is)
           (ended_again g.R.Recovery.meaning (λ m n. IsCommit m c.args.t n) c.args.t c.args.places.now c.loop-place.place-index i_in
-          c.args.objects.now.items c.loop-place.objects.items c.args.locks.now.items c.loop-place.locks.items c.loop-place.invariant c.requires.as_many c.requires.inside
-          c.index.result.now c.index.ensures c.holds.result c.holds.ensures c.requires.holds w.if-holds.false)
+          c.args.objects.now.items c.loop-place.objects.items c.args.locks.now.items c.loop-place.locks.items c.loop-place.visited c.loop-place.invariant low
+          w.if-not-visited-x.false)
     ]
 
 pub returns-clause-objects : goal.returns-clause-objects

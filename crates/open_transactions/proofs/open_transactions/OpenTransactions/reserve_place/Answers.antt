@@ -12,10 +12,10 @@ invariant_of-self c =
 pub returns-clause-rows : goal.returns-clause-rows
 returns-clause-rows c =
     rows-same c.self.inside.slots.items c.self.inside.slot_of.items c.index.result.now c.index_mut.result.now _ c.index_mut.ensures.value
-    (ap (λ items. Some (record { worker = c.index_mut.result.now.worker; places = items })) c.reserve.ensures.items)
+    (ap (λ items. Some (record { worker = c.index_mut.result.now.worker; places = items })) c.reserve_one.ensures.items)
     ∙ ap (λ a. a.rows) c.self.view_is
 
 pub returns-clause-room : goal.returns-clause-room
 returns-clause-room c =
-    rw (set-room c.self.inside.slots.items c.self.inside.slot_of.items c.self.invariant c.args.self.now.rows (ap (λ a. a.rows) c.self.view_is) c.args.t c.index.result.now c.requires c.index.ensures (record { number = c.index_mut.result.now.number; worker = c.index_mut.result.now.worker; places = c.reserve.new.self }))
-    (on_ok_weaker c.reserve.result (λ room. omega (arith, room)) c.reserve.ensures.ok)
+    rw (set-room c.self.inside.slots.items c.self.inside.slot_of.items c.self.invariant c.args.self.now.rows (ap (λ a. a.rows) c.self.view_is) c.args.t c.index.result.now c.requires c.index.ensures (record { number = c.index_mut.result.now.number; worker = c.index_mut.result.now.worker; places = c.reserve_one.new.places }))
+    (on_ok_weaker c.reserve_one.result (λ room. omega (arith, room)) c.reserve_one.ensures.ok)

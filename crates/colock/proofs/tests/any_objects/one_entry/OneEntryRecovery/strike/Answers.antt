@@ -3,7 +3,7 @@ use Rattle.std.specs.Option.{option_to_list}
 use Rattle.object_trait.specs.Meaning.{is_open_of, open_of}
 use Rattle.object_trait.specs.Examples.{of_one_entry}
 use Rattle.colock.proofs.UpdateInPlace.{strike-unsettled, kept_all}
-use Rattle.colock.proofs.tests.objects.one_entry.OneEntryRecovery.strike.Goals as goal
+use Rattle.colock.proofs.tests.any_objects.one_entry.OneEntryRecovery.strike.Goals as goal
 
 pub returns-else-m-gt0 : goal.returns-else-m-gt0
 returns-else-m-gt0 c =

@@ -3,7 +3,7 @@
 ghost use Rattle.std.specs.Prelude.{◌≡◌, length, OnOk};
 ghost use Rattle.object_trait.specs.Meaning.{open_of};
 
-use crate::tests::objects::one_entry::OneEntry;
+use crate::tests::any_objects::one_entry::OneEntry;
 use object_trait::{AnyObject, Recovery};
 use std::alloc::Global;
 use std::process::Abort;

@@ -2,7 +2,7 @@ use Rattle.std.proofs.Common.{[], sym, ◌∙◌}
 use Rattle.std.specs.Option.{option_to_list}
 use Rattle.object_trait.specs.Examples.{of_one_entry}
 use Rattle.colock.proofs.UpdateInPlace.{strike-unsettled, struck_one, kept_one}
-use Rattle.colock.proofs.tests.objects.one_entry.OneEntryRecovery.abort.Goals as goal
+use Rattle.colock.proofs.tests.any_objects.one_entry.OneEntryRecovery.abort.Goals as goal
 
 pub returns-then-is_open_of : goal.returns-then-is_open_of
 returns-then-is_open_of c =

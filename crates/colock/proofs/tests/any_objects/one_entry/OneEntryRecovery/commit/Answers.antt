@@ -2,7 +2,7 @@ use Rattle.std.proofs.Common.{[], ◌∷◌, refl, ap}
 use Rattle.std.specs.Option.{option_to_list}
 use Rattle.object_trait.specs.Examples.{of_one_entry}
 use Rattle.colock.proofs.UpdateInPlace.{commit-unsettled}
-use Rattle.colock.proofs.tests.objects.one_entry.OneEntryRecovery.commit.Goals as goal
+use Rattle.colock.proofs.tests.any_objects.one_entry.OneEntryRecovery.commit.Goals as goal
 
 pub returns-in-Some : goal.returns-in-Some
 returns-in-Some c =
