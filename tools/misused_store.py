@@ -1,0 +1,48 @@
+#!/usr/bin/env python3
+"""misused_store.py: whether the check refuses a store that is let go without `close`, and one that is
+used behind it.
+
+Such a program isn't proved wrong, but refused before anything is proved, so it can't be among the
+wrong bodies of `must-fail/`. Each body is put into a copy of the crate.
+"""
+import os
+import shutil
+import subprocess
+import sys
+import tempfile
+
+ROOT = os.path.join(os.path.dirname(os.path.abspath(__file__)), "..")
+FILE = os.path.join("crates", "store", "src", "worked.rt")
+
+# (what is done, the text that stands in the file, what is put in its place, the refusal)
+MISUSES = [
+    ("let go", "let (history, _) = store.close();", "let history = store.history();", "linear-value-let-go"),
+    ("used behind its end", "history.len()", "history.len() + store.history().len()", "borrow-e0382"),
+]
+
+
+def refusal(old, new):
+    """What the check says of the crate with this body."""
+    with tempfile.TemporaryDirectory() as folder:
+        copy = os.path.join(folder, "copy")
+        shutil.copytree(ROOT, copy, ignore=shutil.ignore_patterns(".git", "drafts"))
+        path = os.path.join(copy, FILE)
+        with open(path, encoding="utf-8") as file:
+            text = file.read()
+        assert text.count(old) == 1, old
+        with open(path, "w", encoding="utf-8") as file:
+            file.write(text.replace(old, new))
+        run = subprocess.run(["rt", "check"], cwd=os.path.join(copy, "crates", "store"), capture_output=True, text=True)
+        return run.stdout + run.stderr
+
+
+def main():
+    for what, old, new, wanted in MISUSES:
+        refused = f"error[{wanted}]" in refusal(old, new)
+        print(f"a store that is {what}: {'refused' if refused else 'NOT REFUSED'}")
+        if not refused:
+            sys.exit(1)
+
+
+if __name__ == "__main__":
+    main()
