@@ -18,7 +18,8 @@ struct View {
     count: u32,
 }
 
-/// The state of the committed transactions, and of each open one what it sees.
+/// The state of the committed transactions, and of each open one what it sees, in the order of their
+/// numbers.
 pub struct Intentions {
     base: u16,
     log: Vec<Entry>,
@@ -26,9 +27,10 @@ pub struct Intentions {
 }
 
 impl Intentions {
+    /// The place of t's view, or where it would be.
     #[inline]
-    fn place(&self, t: u32) -> Option<usize> {
-        self.views.iter().position(|view| view.by == t)
+    fn place(&self, t: u32) -> Result<usize, usize> {
+        self.views.binary_search_by_key(&t, |view| view.by)
     }
 
     /// The place from which on the log has the last m entries of t.
@@ -85,13 +87,13 @@ impl Recovery for Intentions {
     #[inline]
     fn seen(&self, t: u32) -> Seen {
         match self.place(t) {
-            Some(place) => Seen {
+            Ok(place) => Seen {
                 state: self.views[place].state,
                 place,
             },
-            None => Seen {
+            Err(place) => Seen {
                 state: self.base,
-                place: self.views.len(),
+                place,
             },
         }
     }
@@ -100,22 +102,25 @@ impl Recovery for Intentions {
     fn apply(&mut self, seen: Seen, t: u32, k: u8, next: u16) {
         self.log.push(Entry { by: t, op: k });
         match self.views.get_mut(seen.place) {
-            Some(view) => {
+            Some(view) if view.by == t => {
                 view.state = next;
                 view.count += 1;
             }
-            None => self.views.push(View {
-                by: t,
-                state: next,
-                count: 1,
-            }),
+            _ => {
+                let first = View {
+                    by: t,
+                    state: next,
+                    count: 1,
+                };
+                self.views.insert(seen.place, first);
+            }
         }
     }
 
     #[inline]
     fn commit(&mut self, table: &Type, t: u32) {
-        let Some(place) = self.place(t) else { return };
-        let view = self.views.swap_remove(place);
+        let Ok(place) = self.place(t) else { return };
+        let view = self.views.remove(place);
         self.base = view.state;
         let from = self.place_of_last(t, view.count);
         self.take_out(from, t, |views, k| {
@@ -127,20 +132,20 @@ impl Recovery for Intentions {
 
     #[inline]
     fn abort(&mut self, _table: &Type, t: u32) {
-        let Some(place) = self.place(t) else { return };
-        let view = self.views.swap_remove(place);
+        let Ok(place) = self.place(t) else { return };
+        let view = self.views.remove(place);
         let from = self.place_of_last(t, view.count);
         self.take_out(from, t, |_, _| ());
     }
 
     #[inline]
     fn strike(&mut self, table: &Type, t: u32, m: u32) {
-        let Some(place) = self.place(t) else { return };
+        let Ok(place) = self.place(t) else { return };
         let from = self.place_of_last(t, m);
         self.take_out(from, t, |_, _| ());
         let count = self.views[place].count - m;
         if count == 0 {
-            self.views.swap_remove(place);
+            self.views.remove(place);
             return;
         }
         let state = self.walk(table, t, count);

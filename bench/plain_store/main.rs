@@ -7,8 +7,11 @@
 mod intentions;
 mod locks;
 mod recovery;
+// plain_run has some uses of its own.
+#[allow(dead_code)]
 mod store;
 mod transactions;
+#[allow(dead_code)]
 mod types;
 mod undo;
 mod workload;

@@ -3,7 +3,7 @@
 use crate::locks::Locks;
 use crate::recovery::Recovery;
 use crate::transactions::Transactions;
-use crate::types::{ILLEGAL, Type};
+use crate::types::{Call, ILLEGAL, Type};
 use std::sync::Arc;
 
 /// The most transactions that are open at once.
@@ -51,6 +51,10 @@ pub struct Object<R> {
 impl<R: Recovery> Object<R> {
     pub fn new(table: Arc<Type>) -> Object<R> {
         let recovery = R::new(&table);
+        Object::of(table, recovery)
+    }
+
+    pub fn of(table: Arc<Type>, recovery: R) -> Object<R> {
         Object {
             table,
             locks: Locks::new(),
@@ -117,6 +121,10 @@ impl<R: Recovery> Store<R> {
         self.objects[x].recovery.state()
     }
 
+    pub fn history(&self) -> &[Event] {
+        &self.history
+    }
+
     /// Whether there is room for so many further events and the end of each open transaction.
     #[inline]
     fn room(&self, further: usize) -> Result<(), Refusal> {
@@ -144,9 +152,22 @@ impl<R: Recovery> Store<R> {
     }
 
     pub fn call_op(&mut self, w: u8, t: u32, x: u32, c: u8) -> Result<Answer, Refusal> {
+        self.call(w, t, x, |table| table.call(c))
+    }
+
+    /// Calls what is found in the object's type.
+    #[inline]
+    pub fn call(
+        &mut self,
+        w: u8,
+        t: u32,
+        x: u32,
+        find: impl Fn(&Type) -> Option<&Call>,
+    ) -> Result<Answer, Refusal> {
         let slot = self.transactions.slot(t)?;
         let object = self.objects.get(x as usize).ok_or(Refusal::NoObject)?;
-        let operations = object.table.operations(c).ok_or(Refusal::NoCall)?;
+        let found = find(&object.table).ok_or(Refusal::NoCall)?;
+        let (c, operations) = (found.first, found.operations);
         self.room(1)?;
         let answer = self.objects[x as usize].call(t, operations);
         let kind = match answer {
@@ -217,6 +238,12 @@ impl<R: Recovery> Store<R> {
                 object.locks.release_last(t, m);
             }
         }
+    }
+
+    /// The open transactions, ascending.
+    pub fn open(&self) -> Vec<u32> {
+        let is_open = |&t: &u32| self.transactions.slot(t).is_ok();
+        (0..self.transactions.begun()).filter(is_open).collect()
     }
 
     /// Aborts what is open, and hands out the history.

@@ -35,11 +35,15 @@ impl Type {
         self.rows[k as usize & 63]
     }
 
-    /// The operations of the call with this number, if there is one.
     #[inline]
-    pub fn operations(&self, c: u8) -> Option<u64> {
-        let call = self.calls.iter().find(|call| call.first == c)?;
-        Some(call.operations)
+    pub fn op_count(&self) -> usize {
+        self.ops
+    }
+
+    /// The call with this number, if there is one.
+    #[inline]
+    pub fn call(&self, c: u8) -> Option<&Call> {
+        self.calls.iter().find(|call| call.first == c)
     }
 
     /// Reads a type file, which is taken to be right.

@@ -1,25 +1,35 @@
 //! The program: reads its words, does their task and ends with its status.
 #![tactic(auto)]
 
-ghost use Rattle.std.specs.Prelude.{◌≡◌, None};
+ghost use Rattle.std.specs.Prelude.{◌≡◌, None, map, IfOk};
+ghost use Rattle.objects.specs.Object.{meaning_of};
+ghost use Rattle.store.specs.Ends.{AreFresh};
+ghost use Rattle.store_laws.specs.Stored.{types_of};
+ghost use Rattle.store_files.specs.Types.{value_of};
 
 #[cfg(test)]
 mod tests;
 
-use command_files::{BAD_INPUT, FileSource, out_of_memory};
-use command_words::{WordFault, read_words};
+use command_files::{BAD_INPUT, FileSource, Gathered, out_of_memory};
+use command_words::{Task, WordFault, read_words};
 use commands::{Next, prepare};
+use object_trait::Recovery;
+use objects::Object;
 use outputs::{Out, Sink, put};
+use run_commands::perform;
+use std::alloc::{AllocError, Global};
 use std::env;
 use std::io::ErrorKind;
 use std::process::ExitCode;
 use std::rt::{Env, Files};
+use std::sync::Arc;
 use std::thread::Threads;
+use store_files::Plan;
 
 fn main(rt: HostRuntime) -> ExitCode {
     let mut err = Sink::new(rt.stderr());
     let status = match words_given(&rt) {
-        Ok(words) => run(&rt, words.as_slice(), &mut Sink::new(rt.stdout()), &mut err),
+        Ok(words) => run(&rt, words.as_slice(), Sink::new(rt.stdout()), &mut err),
         Err(fault) => say(fault, &mut err),
     };
     ExitCode::from(status)
@@ -47,13 +57,13 @@ fn no_words<R: AllocGlobal>(rt: &R, kind: ErrorKind) -> WordFault {
 }
 
 /// Does what the words ask for.
-fn run<R: Files + AllocGlobal + Threads + Sync, W: Out, E: Out>(
+fn run<R: Files + AllocGlobal + Threads + Sync, W: Out + Drop, E: Out>(
     rt: &R,
     words: &[String],
-    out: &mut W,
+    out: W,
     err: &mut E,
 ) -> u8
-    requires out_takes { W.fault out.old ≡ None }
+    requires out_takes { W.fault out ≡ None }
     requires err_takes { E.fault err.old ≡ None }
 {
     let words: Vec<&str> = match words.iter().map(|word| word.as_str()).collect(rt.alloc()) {
@@ -61,13 +71,51 @@ fn run<R: Files + AllocGlobal + Threads + Sync, W: Out, E: Out>(
         Err(_) => return out_of_memory(err),
     };
     match read_words(rt.alloc(), words.as_slice()) {
-        Ok(task) => {
-            let source = &mut FileSource { runtime: rt };
-            let Next::Done(status) = prepare(rt, task, source, out, err);
-            status
-        }
+        Ok(task) => do_task(rt, task, out, err),
         Err(fault) => say(fault, err),
     }
+}
+
+fn do_task<R: Files + AllocGlobal + Threads + Sync, W: Out + Drop, E: Out>(
+    rt: &R,
+    task: Task<'_>,
+    mut out: W,
+    err: &mut E,
+) -> u8
+    requires out_takes { W.fault out ≡ None }
+    requires err_takes { E.fault err.old ≡ None }
+{
+    let source = &mut FileSource { runtime: rt };
+    match prepare(rt, task, source, &mut out, err) {
+        Next::Done(status) => status,
+        Next::Boxes(plan) => perform_plan(rt.alloc(), plan, out, err),
+    }
+}
+
+/// Performs a plan at new objects of its types, over an output that gathers.
+fn perform_plan<W: Out + Drop, E: Out>(alloc: Global, plan: Plan, out: W, err: &mut E) -> u8
+    requires out_takes { W.fault out ≡ None }
+    requires err_takes { E.fault err.old ≡ None }
+{
+    match objects_of(alloc, &plan) {
+        Ok(objects) => match Gathered::new(alloc, out) {
+            Ok(mut out) => perform(alloc, plan, objects, &mut out, err),
+            Err(_) => out_of_memory(err),
+        },
+        Err(_) => out_of_memory(err),
+    }
+}
+
+/// New objects of the types of a plan, in their order.
+fn objects_of(alloc: Global, plan: &Plan) -> Result<Vec<Object>, AllocError>
+    ensures fresh { IfOk result (λ objects. AreFresh (map meaning_of objects.items)) }
+    ensures types { IfOk result (λ objects. types_of (map meaning_of objects.items) ≡ map value_of plan.now.types.items) }
+{
+    let mut objects = Vec::with_capacity(alloc, plan.types.len())?;
+    for checked in &plan.types {
+        objects.push_reserved(Object::new(alloc, Arc::clone(checked)?));
+    }
+    Ok(objects)
 }
 
 /// Says the fault, and answers its status. That standard error fails changes no status.

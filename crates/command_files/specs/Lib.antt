@@ -1,2 +1,3 @@
 pub mod Source
 pub mod Text
+pub mod Gathered

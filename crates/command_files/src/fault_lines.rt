@@ -1,17 +1,21 @@
 //! The lines on standard error, each with the status that it goes with.
 
-ghost use Rattle.std.specs.Prelude.{◌≡◌, ◌⊎◌, None};
+ghost use Rattle.std.specs.Prelude.{◌≡◌, ◌≢◌, ◌⊎◌, None};
+ghost use Rattle.line_text.specs.declared.fault.FaultKind.TheVariants.{NoMemory};
 
 use crate::status::{BAD_INPUT, FAILED};
-use line_text::TextFault;
+use line_text::{FaultKind, TextFault};
 use outputs::{Out, put};
 use std::alloc::Global;
 
-/// Says why a text is refused.
+/// Says why a text is refused, or that memory was refused while it was read.
 pub fn refuse<E: Out>(alloc: Global, path: &str, fault: TextFault, err: &mut E) -> u8
     requires { E.fault err.old ≡ None }
-    ensures { (result ≡ 2) ⊎ (result ≡ 3) }
+    ensures { ((result ≡ 2) × (fault.kind ≢ NoMemory)) ⊎ (result ≡ 3) }
 {
+    if fault.kind == FaultKind::NoMemory {
+        return out_of_memory(err);
+    }
     match format!(in alloc; "colock: {path}: {fault}\n") {
         Ok(line) => {
             let _ = put(err, line.as_bytes());

@@ -10,7 +10,7 @@ use Rattle.clap.specs.Faults.{fault_of, is_simple_and_free}
 use Rattle.clap.specs.declared.error.Error.{Error}
 use Rattle.clap.specs.declared.parser.matches.ArgMatches.{ArgMatches}
 use Rattle.clap.specs.declared.builder.value_parser.ValueParser.{ValueParser}
-use Rattle.command_words.specs.Program.{HasRows, Parses, ReadsKinds, entry_of, program}
+use Rattle.command_words.specs.Program.{HasRows, Parses, ReadsKinds, entry_of, program, store_rows}
 use Rattle.command_words.specs.Words.{Order, OnUsage, Text}
 use Rattle.command_words.specs.Words as asked
 use Rattle.command_words.specs.declared.task.WordFault.{WordFault}
@@ -70,6 +70,19 @@ items_or_none family size (item ∷ items) (Some s) none empty seen = cc
 pub items_read : (family size : Text) (items : List Text) (o : Option (Bor (List (Bor Text)))) (given none : Bor (List (Bor Text))) → given ≡ unwrap_or o none → none.now ≡ []
     → option_map (λ s. texts s.now) o ≡ all_of (codes "items") (entry_of (asked.make family size items)).1 → texts given.now ≡ items
 items_read family size items o given none is empty seen = ap (λ (s : Bor (List (Bor Text))). texts s.now) is ∙ items_or_none family size items o none empty seen
+
+-- the types behind a first file, or none where there are none
+types_or_none : (path : Text) (types : List Text) (o : Option (Bor (List (Bor Text)))) (none : Bor (List (Bor Text))) → none.now ≡ []
+    → option_map (λ s. texts s.now) o ≡ all_of (codes "types") (store_rows path types) → texts (unwrap_or o none).now ≡ types
+types_or_none path [] None none empty seen = ap texts empty
+types_or_none path [] (Some s) none empty seen = absurd cc
+types_or_none path (type ∷ types) None none empty seen = absurd cc
+types_or_none path (type ∷ types) (Some s) none empty seen = cc
+
+-- the types that were found
+pub types_read : (path : Text) (types : List Text) (o : Option (Bor (List (Bor Text)))) (given none : Bor (List (Bor Text))) → given ≡ unwrap_or o none → none.now ≡ []
+    → option_map (λ s. texts s.now) o ≡ all_of (codes "types") (store_rows path types) → texts given.now ≡ types
+types_read path types o given none is empty seen = ap (λ (s : Bor (List (Bor Text))). texts s.now) is ∙ types_or_none path types o none empty seen
 
 -- ---- what the program answers
 

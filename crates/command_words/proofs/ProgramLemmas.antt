@@ -17,10 +17,10 @@ use Rattle.clap.specs.declared.parser.matches.ArgMatches.{ArgMatches}
 use Rattle.clap.proofs.FaultLemmas.{stopped_fault}
 use Rattle.clap.proofs.OnLiterals.{clap_on_literals}
 use Rattle.command_words.specs.Program.{Asks, Parses, entry_of, kind_words, program}
-use Rattle.command_words.specs.Words.{AreForNoText, AreNoTask, Order, IsPlainOrder, Text, without_dashes, order_words}
+use Rattle.command_words.specs.Words.{AreForNoText, AreNoTask, AskFor, Order, IsPlainOrder, IsWhole, Text, without_dashes, order_words}
 use Rattle.command_words.specs.Words as asked
 use Rattle.command_words.proofs.OptionLemmas.{RefusesOptions, by_test, never, no_option, or_else_none, refuses}
-use Rattle.command_words.proofs.SubcommandLemmas.{Command, check, command_of, leaf, make, name_of, operands_of, plain_words, tables, words_answered}
+use Rattle.command_words.proofs.SubcommandLemmas.{Command, audit, check, command_of, leaf, make, name_of, operands_of, plain_words, run, tables, words_answered}
 
 -- the program, where KIND takes these words
 abbrev app : Bor (List (Bor Text)) → App
@@ -54,11 +54,12 @@ top_refuses listed = refuses _ _ (record { long = λ _. refl; short = λ _. refl
 -- a first word that names no subcommand is refused
 other_first : (listed : Bor (List (Bor Text))) (word : Text) → bytes_eq word (codes "--") ≡ false
     → bytes_eq (codes "check") word ≡ false → bytes_eq (codes "make") word ≡ false → bytes_eq (codes "tables") word ≡ false
+    → bytes_eq (codes "run") word ≡ false → bytes_eq (codes "audit") word ≡ false
     → turn_fault (top_of listed) (names listed) (walk_from nothing_held) word ≡ [] → ⊥
-other_first listed word no_dashes no_check no_make no_tables none = by_test (bytes_eq (codes "help") word)
-    (λ helps. never DisplayHelp (InvalidSubcommand ∷ []) (simp (no_check, no_make, no_tables, helps) at none))
+other_first listed word no_dashes no_check no_make no_tables no_run no_audit none = by_test (bytes_eq (codes "help") word)
+    (λ helps. never DisplayHelp (InvalidSubcommand ∷ []) (simp (no_check, no_make, no_tables, no_run, no_audit, helps) at none))
     (λ other.
-    let parts = or_else_none _ _ (simp (no_check, no_make, no_tables, other, no_dashes) at none) in
+    let parts = or_else_none _ _ (simp (no_check, no_make, no_tables, no_run, no_audit, other, no_dashes) at none) in
     let met = no_option (top_of listed).rules (top_of listed).args_override_self (top_refuses listed) idle (λ _ _. refl) [] None word parts.0 in
     never UnknownArgument (InvalidSubcommand ∷ []) (simp met at parts.1))
 
@@ -70,7 +71,9 @@ first_word listed word rest none = by_test (bytes_eq word (codes "--"))
     (λ plain. by_test (bytes_eq (codes "check") word) (λ is. (check, same_text (codes "check") word (sym is)))
     (λ no_check. by_test (bytes_eq (codes "make") word) (λ is. (make, same_text (codes "make") word (sym is)))
     (λ no_make. by_test (bytes_eq (codes "tables") word) (λ is. (tables, same_text (codes "tables") word (sym is)))
-    (λ no_tables. absurd (other_first listed word plain no_check no_make no_tables (or_else_none _ _ (or_else_none _ _ none).0).0)))))
+    (λ no_tables. by_test (bytes_eq (codes "run") word) (λ is. (run, same_text (codes "run") word (sym is)))
+    (λ no_run. by_test (bytes_eq (codes "audit") word) (λ is. (audit, same_text (codes "audit") word (sym is)))
+    (λ no_audit. absurd (other_first listed word plain no_check no_make no_tables no_run no_audit (or_else_none _ _ (or_else_none _ _ none).0).0)))))))
 
 -- ---- past a subcommand's name, all words are the subcommand's
 
@@ -93,6 +96,8 @@ unfolding clap_on_literals
 command_walk listed check rest = stopped_walk (top_of listed).rules (names listed) (walk_from nothing_held) (codes "check") [] rest
 command_walk listed make rest = stopped_walk (top_of listed).rules (names listed) (walk_from nothing_held) (codes "make") [] rest
 command_walk listed tables rest = stopped_walk (top_of listed).rules (names listed) (walk_from nothing_held) (codes "tables") [] rest
+command_walk listed run rest = stopped_walk (top_of listed).rules (names listed) (walk_from nothing_held) (codes "run") [] rest
+command_walk listed audit rest = stopped_walk (top_of listed).rules (names listed) (walk_from nothing_held) (codes "audit") [] rest
 
 -- the subcommand that is entered by its name
 command_entered : (listed : Bor (List (Bor Text))) (command : Command) (rest : List Text)
@@ -100,6 +105,8 @@ command_entered : (listed : Bor (List (Bor Text))) (command : Command) (rest : L
 command_entered listed check rest = refl
 command_entered listed make rest = refl
 command_entered listed tables rest = refl
+command_entered listed run rest = refl
+command_entered listed audit rest = refl
 
 -- the rows of the program are those of the subcommand at its words
 command_rows : (listed : Bor (List (Bor Text))) (command : Command) (rest : List Text)
@@ -137,6 +144,12 @@ only_below listed make rest =
 only_below listed tables rest =
     ap (λ (k : Kinds). or_else k (or_else (below listed tables rest) [])) (stopped_fault (top_of listed) (names listed) (walk_from nothing_held) (codes "tables", []) rest)
     ∙ or_else-nil (below listed tables rest)
+only_below listed run rest =
+    ap (λ (k : Kinds). or_else k (or_else (below listed run rest) [])) (stopped_fault (top_of listed) (names listed) (walk_from nothing_held) (codes "run", []) rest)
+    ∙ or_else-nil (below listed run rest)
+only_below listed audit rest =
+    ap (λ (k : Kinds). or_else k (or_else (below listed audit rest) [])) (stopped_fault (top_of listed) (names listed) (walk_from nothing_held) (codes "audit", []) rest)
+    ∙ or_else-nil (below listed audit rest)
 
 -- the program's faults at a subcommand and its words are those of the subcommand
 program_fault : (listed : Bor (List (Bor Text))) (command : Command) (rest : List Text)
@@ -148,6 +161,7 @@ program_fault listed command rest = ap (fault_by listed command rest) (command_w
 -- the words ask for something, and so do the matches
 pub record Gives (listed : Bor (List (Bor Text))) (words : List Text) : Type 0 where
   pub asked : Order
+  pub whole : IsWhole asked
   pub words_are : without_dashes words ≡ order_words asked
   pub rows : subcommand_of (app listed) words ≡ Some (entry_of asked)
 
@@ -156,6 +170,8 @@ no_dashes_first : (command : Command) (rest : List Text) → without_dashes (nam
 no_dashes_first check rest = refl
 no_dashes_first make rest = refl
 no_dashes_first tables rest = refl
+no_dashes_first run rest = refl
+no_dashes_first audit rest = refl
 
 -- words of a subcommand that come to no fault ask for something
 gives_rest : (listed : Bor (List (Bor Text))) → texts listed.now ≡ kind_words → (command : Command) (rest : List Text) → below listed command rest ≡ []
@@ -164,6 +180,7 @@ gives_rest listed are command rest none =
     let answered = words_answered listed are command rest none in
     record {
       asked = answered.asked;
+      whole = answered.whole;
       words_are = no_dashes_first command rest ∙ answered.words;
       rows = command_rows listed command rest ∙ ap (λ (p : Text × List Row). Some p) answered.entry;
     }
@@ -183,6 +200,8 @@ named_first : (a : Order) → order_words a ≡ name_of (command_of a) ∷ opera
 named_first (asked.check kind path) = refl
 named_first (asked.make family size items) = refl
 named_first (asked.tables path) = refl
+named_first (asked.run script types) = refl
+named_first (asked.audit history types) = refl
 
 -- plain words come to no fault
 pub plain_taken : (listed : Bor (List (Bor Text))) → texts listed.now ≡ kind_words → (a : Order) → IsPlainOrder a → fault_of (app listed) (order_words a) ≡ []
@@ -192,13 +211,13 @@ plain_taken listed are a plain =
 -- ---- what a parse says
 
 -- matches are those of a subcommand, whose words were given
-pub matches_asked : (words : List Text) (m : ArgMatches) → Parses words (Ok m) → (a : Order) × Asks m a × (without_dashes words ≡ order_words a)
+pub matches_asked : (words : List Text) (m : ArgMatches) → Parses words (Ok m) → (a : Order) × Asks m a × AskFor words (asked.order a)
 matches_asked words m p =
     let listed = p.1.0 in
     let P : ValueParser → Type 0 = λ k. fault_of (program k) words ≡ [] in
     let Q : ValueParser → Type 0 = λ k. subcommand_rows_of m ≡ subcommand_of (program k) words in
     let gives = taken listed p.1.2 words (subst P p.1.1 p.2) in
-    (gives.asked, subst Q p.1.1 (p.3 refl).1 ∙ gives.rows, gives.words_are)
+    (gives.asked, subst Q p.1.1 (p.3 refl).1 ∙ gives.rows, (gives.whole, gives.words_are))
 
 -- words that are no order's and ask for no text are no task's
 no_task : (words : List Text) → AreForNoText words → ((o : Order) → IsPlainOrder o → words ≢ order_words o) → AreNoTask words

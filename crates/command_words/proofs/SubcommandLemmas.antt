@@ -1,14 +1,13 @@
--- The three subcommands: where the walk stands after their operands, and which operands they take.
+-- The subcommands: where the walk stands after their operands, and which operands they take.
 use Rattle.std.proofs.Common.{◌≡◌, ◌∙◌, ◌++◌, ◌||◌, ap, arith, refl, subst, sym, true, false, zero, suc, Bool, List, [], ◌∷◌, Bor}
-use Rattle.std.specs.Prelude.{All, codes, Some, Option, fold, if◌then◌else◌}
+use Rattle.std.specs.Prelude.{All, codes, fold, length, ◌<◌, if◌then◌else◌}
 use Rattle.std.specs.List.{list_any}
 use Rattle.std.specs.Str.{bytes_eq}
 use Rattle.std.specs.Cmp.Lexicographic.{same_text}
 use Rattle.clap.specs.Walk.{Held, Row, Walk, arg_by_index, finished, idle, positional, settled, texts, to_positional, with_default}
 use Rattle.clap.specs.Kinds.{Kinds, or_else, value_kinds}
 use Rattle.clap.specs.Faults.{check_fault, defaults_fault}
-use Rattle.clap.specs.Simple.{App, Shape, built_leaf, inherited, marked_built, on_top}
-use Rattle.clap.specs.declared.builder.value_parser.ValueParser.{ValueParser}
+use Rattle.clap.specs.Simple.{App, Shape}
 use Rattle.clap.specs.declared.builder.value_parser.ValueParser.TheVariants as parser
 use Rattle.clap.specs.declared.error.kind.ErrorKind.TheVariants.{InvalidValue, MissingRequiredArgument, UnknownArgument}
 use Rattle.clap.proofs.OnLiterals.{clap_on_literals}
@@ -16,19 +15,13 @@ use Rattle.clap.proofs.WalkLemmas.{list_any-map}
 use Rattle.type_table.specs.Kind.{kind_word}
 use Rattle.type_table.specs.declared.kind.Kind.{Kind}
 use Rattle.type_table.specs.declared.kind.Kind.TheVariants.{Undo, Intentions}
-use Rattle.command_words.specs.Program.{check_app, entry_of, item_rows, kind_words, make_app, program, row, tables_app}
-use Rattle.command_words.specs.Words.{Order, IsPlainOrder, IsPlain, Text, without_dashes, order_words}
+use Rattle.command_words.specs.Program.{check_app, entry_of, item_rows, kind_words, make_app, row, store_rows, tables_app}
+use Rattle.command_words.specs.Words.{Order, IsPlainOrder, HasPlainWords, IsPlain, IsWhole, Text, without_dashes, order_words}
 use Rattle.command_words.specs.Words as asked
+use Rattle.command_words.proofs.Leaves.{last_added, last_joined, last_of, leaf_of, waits}
 use Rattle.command_words.proofs.OptionLemmas.{by_test, holding, never, or_else_none, refuses}
 use Rattle.command_words.proofs.LeafLemmas.{IsBetween, Passes, Place, Takes, at, both_none, end_of, ends, faults, held_at, operand_fault, operands_taken, plain_taken, start}
-
--- a subcommand as it is built
-abbrev pub leaf_of : ValueParser → App → Shape
-leaf_of kinds app = built_leaf (inherited (on_top marked_built (program kinds)).top app.top)
-
--- the value of an argument that waits to be settled
-abbrev waits : Text → Text → Option (Text × List Text)
-waits id word = Some (id, word ∷ [])
+use Rattle.command_words.proofs.StoreLemmas.{AreStoreWords, StoreTook, end_rows, store_answers, store_leaf, store_passes, store_place, store_takes}
 
 -- ---- `check KIND FILE`
 
@@ -137,21 +130,6 @@ tables_takes listed = record {
 
 -- ---- `make FAMILY SIZE ITEM...`
 
--- a list without its last element, and that element
-abbrev pub last_of : Text → List Text → List Text × Text
-last_of x [] = ([], x)
-last_of x (y ∷ ys) = (x ∷ (last_of y ys).0, (last_of y ys).1)
-
--- the last element is the one that was put behind
-last_added : (x : Text) (ys : List Text) (word : Text) → last_of x (ys ++ word ∷ []) ≡ (x ∷ ys, word)
-last_added x [] word = refl
-last_added x (y ∷ ys) word = ap (λ (p : List Text × Text). (x ∷ p.0, p.1)) (last_added y ys word)
-
--- a list is its beginning and its last element
-last_joined : (x : Text) (ys : List Text) → (last_of x ys).0 ++ (last_of x ys).1 ∷ [] ≡ x ∷ ys
-last_joined x [] = refl
-last_joined x (y ∷ ys) = ap (λ (items : List Text). x ∷ items) (last_joined y ys)
-
 -- `make` as it is built
 abbrev pub make_leaf : Bor (List (Bor Text)) → Shape
 make_leaf listed = leaf_of (parser.Names listed) make_app
@@ -250,55 +228,70 @@ unfolding clap_on_literals
 make_ends listed family size [] = refl
 make_ends listed family size (item ∷ items) = ap (row_faults listed) (items_settled listed family size item items)
 
--- ---- the three
+-- ---- all of them
 
 -- a subcommand
 pub data Command : Type 0 where
   check : Command
   make : Command
   tables : Command
+  run : Command
+  audit : Command
 
 -- its name
 abbrev pub name_of : Command → Text
 name_of check = codes "check"
 name_of make = codes "make"
 name_of tables = codes "tables"
+name_of run = codes "run"
+name_of audit = codes "audit"
 
 -- the subcommand as it is built
 abbrev pub leaf : Bor (List (Bor Text)) → Command → Shape
 leaf listed check = check_leaf listed
 leaf listed make = make_leaf listed
 leaf listed tables = tables_leaf listed
+leaf listed run = store_leaf listed (codes "run")
+leaf listed audit = store_leaf listed (codes "audit")
 
 -- where its walk stands after these operands
 abbrev pub place : Command → List Text → Place
 place check = check_place
 place make = make_place
 place tables = tables_place
+place run = store_place
+place audit = store_place
 
 -- what holds of operands that it took
 abbrev pub Took : Bor (List (Bor Text)) → Command → List Text → Type 0
 Took listed check = CheckTook listed
 Took listed make = MakeTook
 Took listed tables = TablesTook
+Took listed run = StoreTook
+Took listed audit = StoreTook
 
 -- the subcommand by its operands
 takes : (listed : Bor (List (Bor Text))) (command : Command) → Takes (leaf listed command) (place command) (Took listed command)
 takes listed check = check_takes listed
 takes listed make = make_takes listed
 takes listed tables = tables_takes listed
+takes listed run = store_takes listed (codes "run")
+takes listed audit = store_takes listed (codes "audit")
 
 -- its walk begins where each walk does
 begins : (command : Command) → place command [] ≡ start
 begins check = refl
 begins make = refl
 begins tables = refl
+begins run = refl
+begins audit = refl
 
 -- ---- what operands ask for
 
 -- the operands and the rows of a subcommand are those of what is asked for
 pub record Answers (name : Text) (s : Shape) (h : Held) (operands : List Text) : Type 0 where
   pub asked : Order
+  pub whole : IsWhole asked
   pub words : name ∷ operands ≡ order_words asked
   pub entry : (name, finished s.rules h) ≡ entry_of asked
 
@@ -336,6 +329,7 @@ check_answers listed are (kind ∷ path ∷ []) took none =
     let named = named_kind listed kind are took in
     record {
       asked = asked.check named.0 path;
+      whole = tt;
       words = ap (λ (k : Text). codes "check" ∷ k ∷ path ∷ []) named.1;
       entry = ap (λ (k : Text). (codes "check", row (codes "kind") k ∷ row (codes "path") path ∷ [])) named.1;
     }
@@ -347,9 +341,10 @@ make_answers : (listed : Bor (List (Bor Text))) (operands : List Text)
 unfolding clap_on_literals
 make_answers listed [] none = absurd (never MissingRequiredArgument [] none)
 make_answers listed (family ∷ []) none = absurd (never MissingRequiredArgument [] none)
-make_answers listed (family ∷ size ∷ []) none = record { asked = asked.make family size []; words = refl; entry = refl }
+make_answers listed (family ∷ size ∷ []) none = record { asked = asked.make family size []; whole = tt; words = refl; entry = refl }
 make_answers listed (family ∷ size ∷ item ∷ items) none = record {
   asked = asked.make family size (item ∷ items);
+  whole = tt;
   words = refl;
   entry = ap (λ (rows : List Row). (codes "make", fold with_default rows (make_leaf listed).rules)) (items_settled listed family size item items);
 }
@@ -359,8 +354,25 @@ tables_answers : (listed : Bor (List (Bor Text))) (operands : List Text) → Tab
     → ends (tables_leaf listed) (held_at (tables_place operands)) ≡ [] → Answers (codes "tables") (tables_leaf listed) (held_at (tables_place operands)) operands
 unfolding clap_on_literals
 tables_answers listed [] took none = absurd (never MissingRequiredArgument [] none)
-tables_answers listed (path ∷ []) took none = record { asked = asked.tables path; words = refl; entry = refl }
+tables_answers listed (path ∷ []) took none = record { asked = asked.tables path; whole = tt; words = refl; entry = refl }
 tables_answers listed (path ∷ more ∷ rest) took none = absurd took
+
+-- there is a type where one stands before others
+some_types : (type : Text) (types : List Text) → 0 < length (type ∷ types)
+some_types type types = omega arith
+
+-- what a first file and types ask for of a command over a store's objects
+store_asked : (name : Text) (s : Shape) (h : Held) (operands : List Text) (order : Text → List Text → Order)
+    → ((path type : Text) (types : List Text) → IsWhole (order path (type ∷ types)))
+    → ((path : Text) (types : List Text) → order_words (order path types) ≡ name ∷ path ∷ types)
+    → ((path : Text) (types : List Text) → entry_of (order path types) ≡ (name, store_rows path types))
+    → AreStoreWords s (finished s.rules h) operands → Answers name s h operands
+store_asked name s h operands order whole words entry are = record {
+  asked = order are.path (are.type ∷ are.types);
+  whole = whole are.path are.type are.types;
+  words = ap (λ (os : List Text). name ∷ os) are.words ∙ sym (words are.path (are.type ∷ are.types));
+  entry = ap (λ (rows : List Row). (name, rows)) are.entry ∙ sym (entry are.path (are.type ∷ are.types));
+}
 
 -- operands that come to no fault ask for something
 answers : (listed : Bor (List (Bor Text))) → texts listed.now ≡ kind_words → (command : Command) (operands : List Text) → Took listed command operands
@@ -368,6 +380,10 @@ answers : (listed : Bor (List (Bor Text))) → texts listed.now ≡ kind_words �
 answers listed are check operands took none = check_answers listed are operands took none
 answers listed are make operands took none = make_answers listed operands none
 answers listed are tables operands took none = tables_answers listed operands took none
+answers listed are run operands took none =
+    store_asked (codes "run") _ _ operands asked.run (λ _. some_types) (λ _ _. refl) (λ _ _. refl) (store_answers listed (codes "run") operands none)
+answers listed are audit operands took none =
+    store_asked (codes "audit") _ _ operands asked.audit (λ _. some_types) (λ _ _. refl) (λ _ _. refl) (store_answers listed (codes "audit") operands none)
 
 -- words of a subcommand that come to no fault ask for something, and so do its rows
 pub words_answered : (listed : Bor (List (Bor Text))) → texts listed.now ≡ kind_words → (command : Command) (rest : List Text)
@@ -385,12 +401,16 @@ abbrev pub command_of : Order → Command
 command_of (asked.check kind path) = check
 command_of (asked.make family size items) = make
 command_of (asked.tables path) = tables
+command_of (asked.run script types) = run
+command_of (asked.audit history types) = audit
 
 -- and its operands
 abbrev pub operands_of : Order → List Text
 operands_of (asked.check kind path) = kind_word kind ∷ path ∷ []
 operands_of (asked.make family size items) = family ∷ size ∷ items
 operands_of (asked.tables path) = path ∷ []
+operands_of (asked.run script types) = script ∷ types
+operands_of (asked.audit history types) = history ∷ types
 
 -- the word of a kind begins with no hyphen
 plain_kind : (kind : Kind) → IsPlain (kind_word kind)
@@ -416,23 +436,29 @@ items_pass listed family size before [] = make_ends listed family size before
 items_pass listed family size before (word ∷ rest) =
     (make_clear listed (family ∷ size ∷ before), items_pass listed family size (before ++ word ∷ []) rest)
 
--- no fault comes of the operands of what is asked for
-all_pass : (listed : Bor (List (Bor Text))) → texts listed.now ≡ kind_words → (a : Order) → AllPass listed (command_of a) [] (operands_of a)
+-- no fault comes of the operands of what is asked for, where it is whole
+all_pass : (listed : Bor (List (Bor Text))) → texts listed.now ≡ kind_words → (a : Order) → IsWhole a → AllPass listed (command_of a) [] (operands_of a)
 unfolding clap_on_literals
-all_pass listed are (asked.check kind path) =
+all_pass listed are (asked.check kind path) whole =
     (refl, (both_none (value_kinds false (parser.Names listed) (kind_word kind)) [] (offered listed kind are) refl, refl))
-all_pass listed are (asked.make family size items) = (refl, (refl, items_pass listed family size [] items))
-all_pass listed are (asked.tables path) = (refl, refl)
+all_pass listed are (asked.make family size items) whole = (refl, (refl, items_pass listed family size [] items))
+all_pass listed are (asked.tables path) whole = (refl, refl)
+all_pass listed are (asked.run script []) whole = absurd (omega (arith, whole))
+all_pass listed are (asked.run script (type ∷ types)) whole = store_passes listed (codes "run") script type types
+all_pass listed are (asked.audit history []) whole = absurd (omega (arith, whole))
+all_pass listed are (asked.audit history (type ∷ types)) whole = store_passes listed (codes "audit") history type types
 
 -- where plain words are asked for, the operands are plain
-all_plain : (a : Order) → IsPlainOrder a → All IsPlain (operands_of a)
+all_plain : (a : Order) → HasPlainWords a → All IsPlain (operands_of a)
 all_plain (asked.check kind path) plain = all_with IsPlain (kind_word kind) (path ∷ []) (plain_kind kind) (all_with IsPlain path [] plain (all_of_none IsPlain))
 all_plain (asked.make family size items) plain = all_with IsPlain family (size ∷ items) plain.0 (all_with IsPlain size items plain.1 plain.2)
 all_plain (asked.tables path) plain = all_with IsPlain path [] plain (all_of_none IsPlain)
+all_plain (asked.run script types) plain = all_with IsPlain script types plain.0 plain.1
+all_plain (asked.audit history types) plain = all_with IsPlain history types plain.0 plain.1
 
 -- plain words of a subcommand come to no fault
 pub plain_words : (listed : Bor (List (Bor Text))) → texts listed.now ≡ kind_words → (a : Order) → IsPlainOrder a
     → faults (leaf listed (command_of a)) (at false start) (operands_of a) ≡ []
 plain_words listed are a plain =
-    plain_taken (leaf listed (command_of a)) (place (command_of a)) (Took listed (command_of a)) (takes listed (command_of a)) (operands_of a) (begins (command_of a)) (all_plain a plain)
-    (all_pass listed are a)
+    plain_taken (leaf listed (command_of a)) (place (command_of a)) (Took listed (command_of a)) (takes listed (command_of a)) (operands_of a) (begins (command_of a)) (all_plain a plain.1)
+    (all_pass listed are a plain.0)

@@ -43,6 +43,10 @@ kind_rule kinds = record (wanted_rule (codes "kind")) { parser = Some kinds }
 abbrev pub items_rule : Rule
 items_rule = record (new_rule (codes "items")) { action = Some Append; value_names = 1 }
 
+-- TYPE, at least once
+abbrev pub types_rule : Rule
+types_rule = record (wanted_rule (codes "types")) { action = Some Append }
+
 -- `check KIND FILE`
 abbrev pub check_app : ValueParser → App
 check_app kinds =
@@ -57,12 +61,22 @@ make_app = with_rule (with_rule (with_rule (new_app (codes "make"))
 abbrev pub tables_app : App
 tables_app = with_rule (new_app (codes "tables")) (wanted_rule (codes "path"))
 
--- the program, which wants a command and takes no word for its own name
-abbrev pub program : ValueParser → App
-program kinds = with_subcommand (with_subcommand (with_subcommand (on_top (λ top. record top {
+-- a command over a store's objects: `run SCRIPT TYPE...` or `audit HISTORY TYPE...`
+abbrev pub store_app : Text → App
+store_app name = with_rule (with_rule (new_app name) (wanted_rule (codes "path"))) types_rule
+
+-- the program above its commands, which wants one of them and takes no word for its own name
+abbrev pub bare_program : App
+bare_program = on_top (λ top. record top {
   no_binary_name = true;
   subcommand_required = true;
-}) (new_app (codes "colock"))) (check_app kinds).top) make_app.top) tables_app.top
+}) (new_app (codes "colock"))
+
+-- the program
+abbrev pub program : ValueParser → App
+program kinds =
+    with_subcommand (with_subcommand (with_subcommand (with_subcommand (with_subcommand bare_program
+    (check_app kinds).top) make_app.top) tables_app.top) (store_app (codes "run")).top) (store_app (codes "audit")).top
 
 -- the command is read as this one, and has no argument of the commands below it
 abbrev pub IsCommand : App → Command → Type 0
@@ -95,10 +109,18 @@ row_of id values = record {
 abbrev pub row : Text → Text → Row
 row id text = row_of id (text ∷ [])
 
--- the row of the items, where there are any
+-- the row of an argument that was given any number of values, where there are any
+abbrev pub list_rows : Text → List Text → List Row
+list_rows id [] = []
+list_rows id (value ∷ values) = row_of id (value ∷ values) ∷ []
+
+-- the row of the items
 abbrev pub item_rows : List Text → List Row
-item_rows [] = []
-item_rows (item ∷ items) = row_of (codes "items") (item ∷ items) ∷ []
+item_rows items = list_rows (codes "items") items
+
+-- the rows of a first file and of types
+abbrev pub store_rows : Text → List Text → List Row
+store_rows path types = row (codes "path") path ∷ list_rows (codes "types") types
 
 -- the name and the rows of the subcommand that asks for this
 abbrev pub entry_of : Order → Text × List Row
@@ -107,6 +129,8 @@ entry_of (asked.check kind path) =
 entry_of (asked.make family size items) =
     (codes "make", row (codes "family") family ∷ row (codes "size") size ∷ item_rows items)
 entry_of (asked.tables path) = (codes "tables", row (codes "path") path ∷ [])
+entry_of (asked.run script types) = (codes "run", store_rows script types)
+entry_of (asked.audit history types) = (codes "audit", store_rows history types)
 
 -- the matches are those of the subcommand that asks for this
 abbrev pub Asks : ArgMatches → Order → Type 0
@@ -119,3 +143,7 @@ AskSomething matches = (o : Order) × Asks matches o
 -- the rows of these matches are those of what is asked for
 abbrev pub HasRows : ArgMatches → Order → Type 0
 HasRows values o = rows_of (found_of values) ≡ (entry_of o).1
+
+-- the rows of these matches are those of a first file and of types
+abbrev pub HasStoreRows : ArgMatches → Text → List Text → Type 0
+HasStoreRows values path types = rows_of (found_of values) ≡ store_rows path types

@@ -1,5 +1,5 @@
 -- What the words of the command line say.
-use Rattle.std.specs.Prelude.{◌≡◌, ◌≢◌, ◌==◌, ◌⊎◌, ℕ, false, List, [], ◌∷◌, ⊤, All, slice_index, codes, if◌then◌else◌}
+use Rattle.std.specs.Prelude.{◌≡◌, ◌≢◌, ◌==◌, ◌⊎◌, ℕ, ◌<◌, length, false, List, [], ◌∷◌, ⊤, All, slice_index, codes, if◌then◌else◌}
 use Rattle.std.specs.Str.{bytes_eq}
 use Rattle.clap.specs.Walk.{texts}
 use Rattle.type_table.specs.declared.kind.Kind.{Kind}
@@ -22,6 +22,10 @@ pub data Order : Type 0 where
   make : Text → Text → List Text → Order
   -- `tables FILE`
   tables : Text → Order
+  -- `run SCRIPT TYPE...`
+  run : Text → List Text → Order
+  -- `audit HISTORY TYPE...`
+  audit : Text → List Text → Order
 
 -- what the words ask for
 pub data Asked : Type 0 where
@@ -37,6 +41,14 @@ abbrev pub order_words : Order → List Text
 order_words (check kind path) = codes "check" ∷ kind_word kind ∷ path ∷ []
 order_words (make family size items) = codes "make" ∷ family ∷ size ∷ items
 order_words (tables path) = codes "tables" ∷ path ∷ []
+order_words (run script types) = codes "run" ∷ script ∷ types
+order_words (audit history types) = codes "audit" ∷ history ∷ types
+
+-- it has the operands that it can't be without: at least one TYPE
+abbrev pub IsWhole : Order → Type 0
+IsWhole (run script types) = 0 < length types
+IsWhole (audit history types) = 0 < length types
+IsWhole o = ⊤
 
 -- the words of a call for help
 abbrev pub help_words : Topic → List Text
@@ -44,6 +56,8 @@ help_words topic.Program = codes "help" ∷ []
 help_words topic.Check = codes "help" ∷ codes "check" ∷ []
 help_words topic.Make = codes "help" ∷ codes "make" ∷ []
 help_words topic.Tables = codes "help" ∷ codes "tables" ∷ []
+help_words topic.Run = codes "help" ∷ codes "run" ∷ []
+help_words topic.Audit = codes "help" ∷ codes "audit" ∷ []
 
 -- the words that ask for it
 abbrev pub words_of : Asked → List Text
@@ -61,6 +75,8 @@ abbrev pub asked_of : Task → Asked
 asked_of (task.Check kind path) = order (check kind path.now)
 asked_of (task.Make family size items) = order (make family.now size.now (texts items.items))
 asked_of (task.Tables path) = order (tables path.now)
+asked_of (task.Run script types) = order (run script.now (texts types.items))
+asked_of (task.Audit history types) = order (audit history.now (texts types.items))
 asked_of (task.Help topic) = help topic
 asked_of task.Version = version
 
@@ -70,9 +86,9 @@ without_dashes [] = []
 without_dashes (word ∷ rest) =
     if bytes_eq word (codes "--") then rest else word ∷ without_dashes rest
 
--- the words ask for it, where those of a command may have one `--` among them
+-- the words ask for it, where those of a command are whole, and may have one `--` among them
 abbrev pub AskFor : List Text → Asked → Type 0
-AskFor words (order o) = without_dashes words ≡ order_words o
+AskFor words (order o) = IsWhole o × (without_dashes words ≡ order_words o)
 AskFor words asked = AreFor words asked
 
 -- the words are those of the task, in their order
@@ -84,10 +100,16 @@ abbrev pub IsPlain : Text → Type 0
 IsPlain word = (slice_index word 0 == 45) ≡ false
 
 -- none of the words that a user chooses begins with a hyphen
+abbrev pub HasPlainWords : Order → Type 0
+HasPlainWords (check kind path) = IsPlain path
+HasPlainWords (make family size items) = IsPlain family × IsPlain size × All IsPlain items
+HasPlainWords (tables path) = IsPlain path
+HasPlainWords (run script types) = IsPlain script × All IsPlain types
+HasPlainWords (audit history types) = IsPlain history × All IsPlain types
+
+-- the same, and it is whole
 abbrev pub IsPlainOrder : Order → Type 0
-IsPlainOrder (check kind path) = IsPlain path
-IsPlainOrder (make family size items) = IsPlain family × IsPlain size × All IsPlain items
-IsPlainOrder (tables path) = IsPlain path
+IsPlainOrder o = IsWhole o × HasPlainWords o
 
 -- the same, of all that may be asked for
 abbrev pub AsksPlainly : Asked → Type 0

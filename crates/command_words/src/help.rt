@@ -9,7 +9,7 @@ pub const VERSION: &str = "colock 0.1.0\n";
 
 pub(crate) const PROGRAM: &str = "\
 colock checks and makes conflict tables, by which a store locks the operations
-of shared objects.
+of shared objects, runs scripts at such a store and audits its histories.
 
 Usage: colock COMMAND
 
@@ -17,6 +17,8 @@ Commands:
   check KIND FILE            Check the conflict table of a type file.
   make FAMILY SIZE ITEM...   Write the type file of a family of types.
   tables FILE                Write a type file with its tables made anew.
+  run SCRIPT TYPE...         Run a script at a store, and audit its history.
+  audit HISTORY TYPE...      Audit a history.
   help [COMMAND]             Write this text, or the text on a command.
 
 Options, in place of a command:
@@ -104,6 +106,65 @@ Status: 0 done, 2 a fault of the command line or of the file's text, 3 a file
 that can't be read, want of memory, or an output that failed.
 ";
 
+pub(crate) const RUN: &str = "\
+Run a script at a store of its objects, write its history, and audit that.
+
+Usage: colock run SCRIPT TYPE...
+
+SCRIPT is the path of a script, and each TYPE that of a type file. The script
+names the type of an object by its place among the TYPEs, from 0. The type of
+each object is checked for its kind, as colock check does.
+
+  # object X no ..
+      The type of object X isn't accepted, with the reason as check writes it.
+      No other line is written.
+  object KIND F, begin W T, op W T X K, busy W T X C U, none W T X C,
+  commit W T, abort W T, rollback W T N, end
+      The history, a line for each object and for each event. W is the worker,
+      which is 0, T and U are transactions, X is an object, K an operation, C
+      the least operation of a call, and N how many operations are struck.
+      What is open behind the last command is aborted.
+  # refused N Kind
+      A command was refused.
+  # kept X S
+      Object X is in state S.
+  # audit yes, # commit T, # serial X S
+      The committed transactions, run one after another in this order, give the
+      same replies, and object X is in state S behind them.
+
+What is written is the text of a history, which colock audit reads.
+
+Example: colock run transfer.script ctr2.type
+
+Status: 0 done, 1 a type that isn't accepted, 2 a fault of the command line or
+of a text, or no TYPE at a place, 3 a file that can't be read, want of memory,
+or an output that failed.
+";
+
+pub(crate) const AUDIT: &str = "\
+Say whether the committed transactions of a history, run one after another in
+the order of their commits, give the same replies.
+
+Usage: colock audit HISTORY TYPE...
+
+HISTORY is the path of a history, as colock run writes it, and each TYPE that
+of a type file. The history names the type of an object by its place among the
+TYPEs, from 0. The types aren't checked for a kind.
+
+  # audit yes, # commit T, # serial X S
+      They do, in this order, and object X is in state S behind them.
+  # audit no BadEvent AT
+      No history has event AT, counted from 0, behind those before it.
+  # audit no IllegalOp I X J
+      Of the I-th committed transaction the J-th operation at object X isn't
+      legal behind those before it, where both are counted from 0.
+
+Example: colock audit out.history ctr2.type
+
+Status: 0 yes, 1 no, 2 a fault of the command line or of a text, or no TYPE at
+a place, 3 a file that can't be read, want of memory, or an output that failed.
+";
+
 impl Topic {
     /// The text of help on it, in whole lines.
     pub const fn text(self) -> &'static str
@@ -115,6 +176,8 @@ impl Topic {
             Topic::Check => CHECK,
             Topic::Make => MAKE,
             Topic::Tables => TABLES,
+            Topic::Run => RUN,
+            Topic::Audit => AUDIT,
         }
     }
 }

@@ -2,7 +2,7 @@
 ghost use Rattle.std.specs.Prelude.{◌≡◌, IfOk};
 ghost use Rattle.clap.specs.Simple.{App, app_of, with_rule, with_subcommand};
 ghost use Rattle.clap.specs.Walk.{Rule};
-ghost use Rattle.command_words.specs.Program.{IsCommand, IsWord, ReadsKinds, check_app, items_rule, kind_rule, make_app, program, tables_app, wanted_rule};
+ghost use Rattle.command_words.specs.Program.{IsCommand, IsWord, ReadsKinds, check_app, items_rule, kind_rule, make_app, program, store_app, tables_app, types_rule, wanted_rule};
 
 use crate::Topic;
 use clap::{Arg, ArgAction, Command};
@@ -11,7 +11,7 @@ use std::alloc::{AllocError, Global};
 /// The words of the kinds of recovery.
 static KINDS: [&str; 2] = ["undo", "intentions"];
 
-/// The program with its three commands.
+/// The program with its five commands.
 pub(crate) fn program<'a>(alloc: Global) -> Result<Command<'a>, AllocError>
     ensures { (kinds : _) × ReadsKinds kinds × IfOk result (λ command. app_of command ≡ program kinds) }
 {
@@ -22,7 +22,11 @@ pub(crate) fn program<'a>(alloc: Global) -> Result<Command<'a>, AllocError>
         .bin_name("colock");
     let with_check = with_command(bare, check_command(alloc));
     let with_make = with_command(with_check, make_command(alloc));
-    with_command(with_make, tables_command(alloc))
+    let with_tables = with_command(with_make, tables_command(alloc));
+    let run = store_command(alloc, "run", Topic::Run, "SCRIPT");
+    let with_run = with_command(with_tables, run);
+    let audit = store_command(alloc, "audit", Topic::Audit, "HISTORY");
+    with_command(with_run, audit)
 }
 
 fn check_command<'a>(alloc: Global) -> Result<Command<'a>, AllocError>
@@ -47,6 +51,20 @@ fn tables_command<'a>(alloc: Global) -> Result<Command<'a>, AllocError>
 {
     let bare = Command::new(alloc, "tables").override_help(Topic::Tables.text());
     with_word(Ok(bare), wanted(alloc, "path", "FILE"))
+}
+
+/// A command over a store's objects: a first file, and the files of their types.
+fn store_command<'a>(
+    alloc: Global,
+    name: &'a str,
+    topic: Topic,
+    shown: &'a str,
+) -> Result<Command<'a>, AllocError>
+    ensures { IfOk result (IsCommand (store_app name.entry.now)) }
+{
+    let bare = Command::new(alloc, name).override_help(topic.text());
+    let with_path = with_word(Ok(bare), wanted(alloc, "path", shown));
+    with_word(with_path, types_arg(alloc))
 }
 
 /// A growth that was refused before stays refused.
@@ -89,4 +107,13 @@ fn items_arg<'a>(alloc: Global) -> Arg<'a>
     Arg::new(alloc, "items")
         .action(ArgAction::Append)
         .value_name("ITEM")
+}
+
+fn types_arg<'a>(alloc: Global) -> Arg<'a>
+    ensures { IsWord types_rule result }
+{
+    Arg::new(alloc, "types")
+        .required(true)
+        .action(ArgAction::Append)
+        .value_name("TYPE")
 }

@@ -27,6 +27,20 @@ pub enum Task<'a> {
         /// The path of the type file.
         path: &'a str,
     },
+    /// What comes of a script at a store of its objects, and is its history serial?
+    Run {
+        /// The path of the script.
+        script: &'a str,
+        /// The paths of the type files, by whose places the script names its objects' types.
+        types: Vec<&'a str>,
+    },
+    /// Is a history serial?
+    Audit {
+        /// The path of the history.
+        history: &'a str,
+        /// The paths of the type files, by whose places the history names its objects' types.
+        types: Vec<&'a str>,
+    },
     /// How is the program used, or one of its commands?
     Help {
         /// The program or the command.
@@ -47,6 +61,10 @@ pub enum Topic {
     Make,
     /// The command `tables`.
     Tables,
+    /// The command `run`.
+    Run,
+    /// The command `audit`.
+    Audit,
 }
 
 /// Why the words name no task.

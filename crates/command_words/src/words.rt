@@ -3,7 +3,7 @@ ghost use Rattle.std.specs.Prelude.{◌≡◌, List, IfOk, IfErr, IfNone, IfSome
 ghost use Rattle.clap.specs.Words.{kind_of};
 ghost use Rattle.clap.specs.Walk.{texts};
 ghost use Rattle.clap.specs.declared.parser.matches.ArgMatches.{ArgMatches};
-ghost use Rattle.command_words.specs.Program.{AskSomething, Asks, HasRows, Parses};
+ghost use Rattle.command_words.specs.Program.{AskSomething, Asks, HasRows, HasStoreRows, Parses};
 ghost use Rattle.type_table.specs.declared.kind.Kind.{Kind};
 ghost use Rattle.command_words.specs.Words.{AreForNoText, AreNoTask, AreWordsOf, OnUsage, Order, Text, asked_of};
 ghost use Rattle.command_words.specs.Words as asked;
@@ -17,8 +17,8 @@ use type_table::Kind;
 
 /// Reads the words after the program's name. At `Ok` they are the task's, and those of a command may
 /// have one `--` among them. A fault of the command line comes of no words of a task, where none of
-/// FILE, FAMILY, SIZE and the ITEMs begins with a hyphen; `--help` among the words is such a fault.
-/// Which of the two faults comes is `clap`'s.
+/// the paths, FAMILY, SIZE and the ITEMs begins with a hyphen; `--help` among the words is such a
+/// fault. Which of the two faults comes is `clap`'s.
 pub fn read_words<'a>(alloc: Global, words: &'a [&'a str]) -> Result<Task<'a>, WordFault>
     ensures taken { IfOk result (AreWordsOf (texts words.now)) }
     ensures refused { IfErr result (λ fault. OnUsage fault (AreNoTask (texts words.now))) }
@@ -39,6 +39,8 @@ fn text_task<'a>(words: &[&str]) -> Option<Task<'a>>
         ["help", "check"] => Some(help_on(Topic::Check)),
         ["help", "make"] => Some(help_on(Topic::Make)),
         ["help", "tables"] => Some(help_on(Topic::Tables)),
+        ["help", "run"] => Some(help_on(Topic::Run)),
+        ["help", "audit"] => Some(help_on(Topic::Audit)),
         ["--version"] | ["-V"] => Some(Task::Version),
         _ => None,
     }
@@ -81,7 +83,9 @@ fn task_of<'a>(alloc: Global, matches: &ArgMatches<'a>) -> Result<Task<'a>, Allo
     match name {
         "check" => Ok(check_task(values)),
         "make" => make_task(alloc, values),
-        _ => Ok(tables_task(values)),
+        "tables" => Ok(tables_task(values)),
+        "run" => run_task(alloc, values),
+        _ => audit_task(alloc, values),
     }
 }
 
@@ -116,6 +120,37 @@ fn tables_task<'a>(values: &ArgMatches<'a>) -> Task<'a>
     Task::Tables {
         path: values.get_str("path").unwrap(),
     }
+}
+
+fn run_task<'a>(alloc: Global, values: &ArgMatches<'a>) -> Result<Task<'a>, AllocError>
+    requires { (script : Text) × (types : List Text) × HasRows values.now (asked.run script types) }
+    ensures { (script : Text) (types : List Text) → HasRows values.now (asked.run script types)
+        → IfOk result (λ task. asked_of task ≡ asked.order (asked.run script types)) }
+{
+    let (script, types) = store_words(alloc, values)?;
+    Ok(Task::Run { script, types })
+}
+
+fn audit_task<'a>(alloc: Global, values: &ArgMatches<'a>) -> Result<Task<'a>, AllocError>
+    requires { (history : Text) × (types : List Text) × HasRows values.now (asked.audit history types) }
+    ensures { (history : Text) (types : List Text) → HasRows values.now (asked.audit history types)
+        → IfOk result (λ task. asked_of task ≡ asked.order (asked.audit history types)) }
+{
+    let (history, types) = store_words(alloc, values)?;
+    Ok(Task::Audit { history, types })
+}
+
+/// The words of a command over a store's objects: the first file, and those of the types.
+fn store_words<'a>(
+    alloc: Global,
+    values: &ArgMatches<'a>,
+) -> Result<(&'a str, Vec<&'a str>), AllocError>
+    requires { (path : Text) × (types : List Text) × HasStoreRows values.now path types }
+    ensures { (path : Text) (types : List Text) → HasStoreRows values.now path types
+        → IfOk result (λ words. (words.0.now ≡ path) × (texts words.1.items ≡ types)) }
+{
+    let types = values.get_strs("types").unwrap_or(&[]);
+    Ok((values.get_str("path").unwrap(), types.to_vec(alloc)?))
 }
 
 fn fault_of(alloc: Global, error: &Error) -> WordFault

@@ -1,18 +1,21 @@
 ghost use Rattle.std.specs.Prelude.{◌≡◌, None};
-ghost use Rattle.commands.specs.Next.{TellsNext, WritesNext};
+ghost use Rattle.commands.specs.Next.{OnBoxes, TellsNext, WritesNext};
 
 use crate::next::Next;
 use command_files::{Source, write_text};
 use command_words::{Task, VERSION};
+use history_commands::audit_history;
 use outputs::Out;
 use std::thread::Threads;
+use store_files::plan_run;
 use type_commands::{check_file, make_family, make_tables_of};
 
-/// Does a task: reads its files, writes its answer to one output and its fault to the other.
+/// Does a task: reads its files, writes its answer to one output and its fault to the other. Of a run
+/// it makes the plan, and both outputs are as they were.
 ///
 /// The status is 0 for a yes and where a text was written, 1 for a no, 2 where the text of a file has
-/// a fault or nothing can be made, and 3 where a file can't be read, memory was refused or the first
-/// output failed. That the second failed changes no status.
+/// a fault, an object has no type or nothing can be made, and 3 where a file can't be read, memory was
+/// refused or the first output failed. That the second failed changes no status.
 pub fn prepare<R: AllocGlobal + Threads + Sync, S: Source, W: Out, E: Out>(
     rt: &R,
     task: Task<'_>,
@@ -24,6 +27,7 @@ pub fn prepare<R: AllocGlobal + Threads + Sync, S: Source, W: Out, E: Out>(
     requires err_takes { E.fault err.old ≡ None }
     ensures tells { TellsNext (S.holds source.old) task.entry result (W.taken out.old) (W.taken out.new) }
     ensures writes { WritesNext task.entry result (W.taken out.old) (W.taken out.new) }
+    ensures quiet { OnBoxes result ((W.fault out.new ≡ None) × (E.fault err.new ≡ None)) }
 {
     let alloc = rt.alloc();
     let status = match task {
@@ -34,6 +38,11 @@ pub fn prepare<R: AllocGlobal + Threads + Sync, S: Source, W: Out, E: Out>(
             items,
         } => make_family(alloc, family, size, &items, out, err),
         Task::Tables { path } => make_tables_of(alloc, path, source, out, err),
+        Task::Run { script, types } => match plan_run(rt, script, &types, source, out, err) {
+            Ok(plan) => return Next::Boxes(plan),
+            Err(status) => status,
+        },
+        Task::Audit { history, types } => audit_history(alloc, history, &types, source, out, err),
         Task::Help { topic } => write_text(topic.text(), out),
         Task::Version => write_text(VERSION, out),
     };

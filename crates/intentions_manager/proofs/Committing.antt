@@ -6,17 +6,18 @@ use Rattle.std.proofs.lemmas.List.{nil_from_length}
 use Rattle.type_table.specs.Table.{Table}
 use Rattle.type_table.specs.Run.{run, IsLegal, AreEqui}
 use Rattle.type_table.specs.Laws.{RunsAlong, EquiExtends, EndsInside, EndsWithin}
+use Rattle.object_trait.specs.Orders.{Pairs}
 use Rattle.object_trait.specs.Strike.{keep_first}
 use Rattle.object_trait.specs.Meaning.{Meaning, object, ops_of, is_open_of, open_of, run_log}
 use Rattle.object_trait.specs.Steps.{IsCommitBy, IsCommit}
 use Rattle.object_trait.specs.Laws.{KeepsFirst, KeepsNone, KeepsParts, KeepsOthers, OpensCommute, SoundAfterCommit}
 use Rattle.object_trait.specs.declared.log_entry.LogEntry.{LogEntry}
-use Rattle.intentions_manager.specs.Views.{bare, seen_by, without_view}
+use Rattle.intentions_manager.specs.Views.{owners, bare, seen_by, without_view}
 use Rattle.intentions_manager.specs.Walk.{walked, carried, FitsTable}
-use Rattle.intentions_manager.specs.Kept.{AreDistinct, owners, IsView, IsKept}
+use Rattle.intentions_manager.specs.Kept.{IsView, IsKept}
 use Rattle.intentions_manager.specs.declared.views.View.{View}
 use Rattle.intentions_manager.proofs.Cutting.{cut-kept, behind_all, length-keep_first}
-use Rattle.intentions_manager.proofs.Seeing.{seen-dropped_other, each-filter, each-map, distinct-dropped}
+use Rattle.intentions_manager.proofs.Seeing.{seen-dropped_other, each-filter, each-map, ordered-dropped}
 use Rattle.intentions_manager.proofs.Walking.{walk_view, walk-run, carried-map}
 use Rattle.intentions_manager.proofs.Keeping.{equi-same, view-bare, seen-count}
 use Rattle.intentions_manager.proofs.Leaving.{others-stay, own-left, ops-left}
@@ -199,6 +200,6 @@ committed-kept laws {m} {views} {t} {from} {w} {log} {new} h done =
       some =
           subst (λ V. AllByRecursion (λ (v : View). 0 < v.count) V) (sym on)
           (each-map (λ (v : View). 0 < v.count) (walk_view T t part) (λ v some. some) (without_view t views) (each-filter (λ (v : View). 0 < v.count) (λ v. not (eqb v.by t)) views h.some));
-      distinct =
-          subst (λ V. AreDistinct V) (sym (ap owners on ∙ owners-carried T t part (without_view t views))) (distinct-dropped (λ v. not (eqb v.by t)) views h.distinct);
+      ordered =
+          subst (λ V. Pairs (λ a b. a < b) V) (sym (ap owners on ∙ owners-carried T t part (without_view t views))) (ordered-dropped (λ v. not (eqb v.by t)) views h.ordered);
     }

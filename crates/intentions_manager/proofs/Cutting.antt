@@ -1,9 +1,9 @@
 -- A transaction's entries in a log, from the back: those that stay where the last of them are taken out.
-use Rattle.std.proofs.Common.{◌≡◌, ℕ, zero, suc, ◌+◌, ◌-◌, ◌<◌, ◌≤◌, Bool, true, false, not, List, [], ◌∷◌, ◌++◌, length, get_or, take, drop, set, refl, sym, ap, ◌∙◌, inl, inr, arith}
+use Rattle.std.proofs.Common.{◌≡◌, ℕ, zero, suc, ◌+◌, ◌-◌, ◌<◌, ◌≤◌, Bool, true, false, not, List, [], ◌∷◌, ◌++◌, length, get_or, take, drop, set, All, refl, sym, ap, subst, ◌∙◌, inl, inr, arith}
 use mir.Val.{bool_byte}
 use Rattle.std.specs.List.{filter, AllByRecursion}
 use Rattle.std.proofs.lemmas.Bool.{cases_Bool}
-use Rattle.std.proofs.lemmas.List.{drop-drop, take_more, take_more_set, take-set, drop-set-lt, append-nil, append_assoc, take-append-drop, length-append, length-drop, length-set, get_or-drop, nil_from_length}
+use Rattle.std.proofs.lemmas.List.{drop_more, drop-drop, take_more, take_more_set, take-set, drop-set-lt, append-nil, append_assoc, take-append-drop, length-append, length-drop, length-set, get_or-drop, nil_from_length}
 use Rattle.std.proofs.lemmas.List.Elements.{filter-append}
 use Rattle.object_trait.specs.Strike.{keep_first}
 use Rattle.object_trait.specs.Laws.{KeepsNone, KeepsParts}
@@ -24,6 +24,14 @@ same_there : (old new : List LogEntry) (i : ℕ) (e : LogEntry) → drop i new �
 same_there old new i e rest read =
     let at : i + 0 ≡ i = omega arith in
     read ∙ sym (ap (λ n. get_or new n e) at) ∙ sym (get_or-drop i new 0 e) ∙ ap (λ xs. get_or xs 0 e) rest ∙ get_or-drop i old 0 e ∙ ap (λ n. get_or old n e) at
+
+-- so it is the first of what is left
+pub next_there : (old new : List LogEntry) (i : ℕ) (e : LogEntry) → drop i new ≡ drop i old → i < length old → e ≡ get_or new i e → drop i old ≡ e ∷ drop (i + 1) old
+next_there old new i e rest within read = drop_more old i e within ∙ ap (λ x. x ∷ drop (i + 1) old) (sym (same_there old new i e rest read))
+
+-- and each element's fact is one of it
+pub each_there : (P : LogEntry → Type 0) (old new : List LogEntry) (i : ℕ) (e : LogEntry) → All P old → drop i new ≡ drop i old → i < length old → e ≡ get_or new i e → P e
+each_there P old new i e all rest within read = subst P (sym (same_there old new i e rest read)) (all i e within)
 
 -- one more element of the list behind the place
 taken_more : (from i : ℕ) (old : List LogEntry) (e : LogEntry) → from ≤ i → i < length old → e ≡ get_or old i e → take (i + 1 - from) (drop from old) ≡ take (i - from) (drop from old) ++ e ∷ []

@@ -17,10 +17,10 @@ use Rattle.object_trait.specs.Laws.{SoundAfterApply}
 use Rattle.object_trait.specs.declared.log_entry.LogEntry.{LogEntry}
 use Rattle.intentions_manager.specs.Views.{bare, seen_by, with_view}
 use Rattle.intentions_manager.specs.Walk.{stepped, FitsTable}
-use Rattle.intentions_manager.specs.Kept.{IsView, IsKept}
+use Rattle.intentions_manager.specs.Kept.{AreOpen, IsView, IsKept}
 use Rattle.intentions_manager.specs.declared.views.View.{View}
 use Rattle.intentions_manager.specs.declared.manager.IntentionsManager.TheInside.{Inside}
-use Rattle.intentions_manager.proofs.Seeing.{seen-put, seen-put_other, each-put, distinct-put}
+use Rattle.intentions_manager.proofs.Seeing.{seen-put, seen-put_other, each-put, ordered-put}
 use Rattle.intentions_manager.proofs.Walking.{some_state}
 
 -- ---- deferred update
@@ -34,6 +34,10 @@ deferred-sound m deferred sound = subst (λ kind. IsSoundBy kind (object m) m.ba
 
 pub deferred-view : (m : Meaning) (t : ℕ) → m.checked.kind ≡ Intentions → view_of m t ≡ run_log (object m) m.base (open_of t m.log)
 deferred-view m t deferred = ap (λ kind. view_by kind (object m) m.base m.log t) deferred
+
+-- all entries are open
+pub all-open : {m : Meaning} {views : List View} → IsKept m views → AreOpen m.log
+all-open {m} {views} h = All-from_recursion (λ (e : LogEntry). e.done ≡ false) m.log (deferred-sound m h.deferred h.sound).all_open
 
 -- equieffective states, under other names
 pub equi-same : (T : Table) (a b c d : Option ℕ) → a ≡ c → b ≡ d → AreEqui T a b → AreEqui T c d
@@ -142,5 +146,5 @@ applied-kept along extends within sound_after {m} {views} new t k h may made =
           ];
       fit = All-from_recursion (FitsTable T) (with_view w views) (each-put (FitsTable T) w views shown.fits (recursion_from_All (FitsTable T) views h.fit));
       some = each-put (λ (v : View). 0 < v.count) w views (omega arith) h.some;
-      distinct = distinct-put w views h.distinct;
+      ordered = ordered-put w views h.ordered;
     })

@@ -7,6 +7,7 @@ use Rattle.object_trait.specs.Strike.{keep_first}
 use Rattle.object_trait.specs.Meaning.{is_open_of, open_of}
 use Rattle.object_trait.specs.Laws.{KeepsFirst, KeepsOthers}
 use Rattle.object_trait.specs.declared.log_entry.LogEntry.{LogEntry}
+use Rattle.intentions_manager.specs.Kept.{AreOpen}
 use Rattle.intentions_manager.proofs.Cutting.{each-keep_first}
 use Rattle.intentions_manager.proofs.Seeing.{differ-turned}
 
@@ -28,9 +29,16 @@ own-left first t n old new left = ap (open_of t) left ∙ (first (is_open_of t) 
 pub own-count : KeepsFirst LogEntry → (t n : ℕ) (old new : List LogEntry) → new ≡ keep_first (is_open_of t) n old → n ≤ length (open_of t old) → length (open_of t new) ≡ n
 own-count first t n old new left many = ap length (own-left first t n old new left) ∙ length-take-le n (open_of t old) many
 
+-- each entry's fact is one of each that is left
+each-left : (P : LogEntry → Type 0) (t n : ℕ) (old new : List LogEntry) → new ≡ keep_first (is_open_of t) n old → All P old → All P new
+each-left P t n old new left each =
+    subst (λ V. All P V) (sym left)
+    (All-from_recursion P (keep_first (is_open_of t) n old) (each-keep_first P (is_open_of t) n old (recursion_from_All P old each)))
+
 -- what is left are operations of the table
 pub ops-left : (t n bound : ℕ) (old new : List LogEntry) → new ≡ keep_first (is_open_of t) n old → All (λ (e : LogEntry). e.op < bound) old → All (λ (e : LogEntry). e.op < bound) new
-ops-left t n bound old new left fit =
-    subst (λ V. All (λ (e : LogEntry). e.op < bound) V) (sym left)
-    (All-from_recursion (λ (e : LogEntry). e.op < bound) (keep_first (is_open_of t) n old)
-    (each-keep_first (λ e. e.op < bound) (is_open_of t) n old (recursion_from_All (λ (e : LogEntry). e.op < bound) old fit)))
+ops-left t n bound old new left fit = each-left (λ e. e.op < bound) t n old new left fit
+
+-- and open entries
+pub opens-left : (t n : ℕ) (old new : List LogEntry) → new ≡ keep_first (is_open_of t) n old → AreOpen old → AreOpen new
+opens-left t n old new left open_all = each-left (λ e. e.done ≡ false) t n old new left open_all

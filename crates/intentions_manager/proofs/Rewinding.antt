@@ -10,12 +10,12 @@ use Rattle.object_trait.specs.Meaning.{Meaning, object, ops_of, is_open_of, open
 use Rattle.object_trait.specs.Steps.{IsStrikeBy, Keeps}
 use Rattle.object_trait.specs.Laws.{KeepsFirst, KeepsOthers, SoundAfterStrike}
 use Rattle.object_trait.specs.declared.log_entry.LogEntry.{LogEntry}
-use Rattle.intentions_manager.specs.Views.{seen_by, with_view, without_view}
+use Rattle.intentions_manager.specs.Views.{AreOrdered, seen_by, with_view, without_view}
 use Rattle.intentions_manager.specs.Walk.{walked, FitsTable}
-use Rattle.intentions_manager.specs.Kept.{AreDistinct, owners, IsView, IsKept}
+use Rattle.intentions_manager.specs.Kept.{IsView, IsKept}
 use Rattle.intentions_manager.specs.declared.views.View.{View}
 use Rattle.intentions_manager.proofs.Cutting.{behind_all, length-keep_first}
-use Rattle.intentions_manager.proofs.Seeing.{seen-put, seen-put_other, seen-dropped, seen-dropped_other, each-put, each-filter, distinct-put, distinct-dropped}
+use Rattle.intentions_manager.proofs.Seeing.{seen-put, seen-put_other, seen-dropped, seen-dropped_other, each-put, each-filter, ordered-put, ordered-dropped}
 use Rattle.intentions_manager.proofs.Walking.{walk-run}
 use Rattle.intentions_manager.proofs.Keeping.{deferred-sound, view-same, view-bare}
 use Rattle.intentions_manager.proofs.Leaving.{others-stay, own-left, own-count, ops-left}
@@ -40,8 +40,8 @@ struck-keeps {m} {views} t n log h left = record {
 -- where t sees what it may be shown, and all others see what they saw
 struck-kept : StrikeLaws → {m : Meaning} {views : List View} (new : List View) (t n : ℕ) (log : List LogEntry) → IsKept m views → log ≡ keep_first (is_open_of t) n m.log →
     ((u : ℕ) → eqb t u ≡ false → seen_by u m.base new ≡ seen_by u m.base views) → IsView (object m) m.base log t (seen_by t m.base new) →
-    All (FitsTable m.checked.file.table) new → AllByRecursion (λ (v : View). 0 < v.count) new → AreDistinct (owners new) → IsKept (with_log m log) new
-struck-kept laws {m} {views} new t n log h left same own fit some distinct =
+    All (FitsTable m.checked.file.table) new → AllByRecursion (λ (v : View). 0 < v.count) new → AreOrdered new → IsKept (with_log m log) new
+struck-kept laws {m} {views} new t n log h left same own fit some ordered =
     let o = object m in
     let room = h.room in
     let long : length log ≤ length m.log = subst (λ V. length V ≤ length m.log) (sym left) (length-keep_first (is_open_of t) n m.log) in
@@ -60,7 +60,7 @@ struck-kept laws {m} {views} new t n log h left same own fit some distinct =
           ];
       fit = fit;
       some = some;
-      distinct = distinct;
+      ordered = ordered;
     }
 
 -- ---- nothing of t is left
@@ -75,7 +75,7 @@ dropped-kept laws {m} {views} new t n log h left nothing dropped =
     subst (λ V. IsKept (with_log m log) V) (sym dropped)
     (struck-kept laws (without_view t views) t n log h left (λ u differ. seen-dropped_other t u m.base views differ) own
     (All-filter (λ (v : View). not (eqb v.by t)) (FitsTable m.checked.file.table) views h.fit) (each-filter (λ (v : View). 0 < v.count) (λ v. not (eqb v.by t)) views h.some)
-    (distinct-dropped (λ v. not (eqb v.by t)) views h.distinct))
+    (ordered-dropped (λ v. not (eqb v.by t)) views h.ordered))
 
 -- ---- something is left
 
@@ -117,4 +117,4 @@ rewound-kept laws {m} {views} new t n from state log h left many some counted en
     subst (λ V. IsKept (with_log m log) V) (sym put)
     (struck-kept laws.strike (with_view w views) t n log h left (λ u differ. seen-put_other w u m.base views differ) own
     (All-from_recursion (FitsTable T) (with_view w views) (each-put (FitsTable T) w views shown.fits (recursion_from_All (FitsTable T) views h.fit)))
-    (each-put (λ (v : View). 0 < v.count) w views some h.some) (distinct-put w views h.distinct))
+    (each-put (λ (v : View). 0 < v.count) w views some h.some) (ordered-put w views h.ordered))

@@ -1,9 +1,10 @@
 -- Walks along a transaction's open entries.
-use Rattle.std.proofs.Common.{◌≡◌, ℕ, false, List, [], ◌∷◌, map, Option, Some, None, refl, sym, ap, subst, ◌∙◌, inl, inr}
+use Rattle.std.proofs.Common.{◌≡◌, ℕ, ◌<◌, false, List, [], ◌∷◌, map, Option, Some, None, refl, sym, ap, subst, ◌∙◌, inl, inr}
 use Rattle.std.specs.Option.{unwrap_or}
 use Rattle.std.proofs.lemmas.Bool.{cases_Bool, false≢true}
 use Rattle.std.proofs.lemmas.List.{map-id}
-use Rattle.type_table.specs.Table.{Table, next}
+use Rattle.type_table.specs.Table.{Table, IsTable, next}
+use Rattle.type_table.specs.Laws.{StepsWithin}
 use Rattle.type_table.specs.Run.{run, IsLegal}
 use Rattle.object_trait.specs.Meaning.{ops_of, is_open_of, open_of}
 use Rattle.object_trait.specs.declared.log_entry.LogEntry.{LogEntry}
@@ -33,6 +34,14 @@ walk-run T t s (e ∷ log) h =
           rw is (ap (λ o. run T o (ops_of (open_of t log))) there ∙ walk-run T t (stepped T s e.op) log (subst (λ o. IsLegal T o (ops_of (open_of t log))) there legal))
       | inr isnt ↦ rw isnt (walk-run T t s log (rw isnt at h))
     ]
+
+-- a step of a state leads to a state
+pub stepped-within : StepsWithin → (T : Table) (s k : ℕ) → IsTable T → s < T.states → stepped T s k < T.states
+stepped-within within T s k table state = reached (next T s k) refl
+  where
+    reached : (o : Option ℕ) → next T s k ≡ o → unwrap_or o s < T.states
+    reached None is = state
+    reached (Some u) is = (within T s k u table is).2
 
 -- ---- views that are carried on
 

@@ -1,6 +1,6 @@
 -- What a manager of deferred update keeps.
-use Rattle.std.specs.Prelude.{◌≡◌, ◌≤◌, ◌<◌, ℕ, List, [], ◌∷◌, map, length, true, false, Some, All, ◌==◌}
-use Rattle.std.specs.List.{list_any, AllByRecursion}
+use Rattle.std.specs.Prelude.{◌≡◌, ◌≤◌, ◌<◌, ℕ, List, length, true, false, Some, All}
+use Rattle.std.specs.List.{AllByRecursion}
 use Rattle.type_table.specs.Table.{IsTable}
 use Rattle.type_table.specs.Run.{AreEqui}
 use Rattle.type_table.specs.declared.kind.Kind.TheVariants.{Intentions}
@@ -8,9 +8,13 @@ use Rattle.object_trait.specs.Object.{Object, IsCovered}
 use Rattle.object_trait.specs.Meaning.{Meaning, object, open_of, run_log}
 use Rattle.object_trait.specs.Sound.{IsSound}
 use Rattle.object_trait.specs.declared.log_entry.LogEntry.{LogEntry}
-use Rattle.intentions_manager.specs.Views.{seen_by}
+use Rattle.intentions_manager.specs.Views.{AreOrdered, seen_by}
 use Rattle.intentions_manager.specs.Walk.{FitsTable}
 use Rattle.intentions_manager.specs.declared.views.View.{View}
+
+-- none is done
+abbrev pub AreOpen : List LogEntry → Type 0
+AreOpen log = All (λ (e : LogEntry). e.done ≡ false) log
 
 -- what t may be shown: a state that is equieffective to the run of its open entries from base, and how many these are
 pub record IsView (o : Object) (base : ℕ) (log : List LogEntry) (t : ℕ) (v : View) : Type 0 where
@@ -19,16 +23,8 @@ pub record IsView (o : Object) (base : ℕ) (log : List LogEntry) (t : ℕ) (v :
   pub equi : AreEqui o.table (Some v.state) (run_log o base (open_of t log))
   pub counted : v.count ≡ length (open_of t log)
 
--- no number is there twice
-abbrev pub AreDistinct : List ℕ → Type 0
-AreDistinct [] = Unit {0}
-AreDistinct (x ∷ xs) = (list_any (λ y. y == x) xs ≡ false) × AreDistinct xs
-
--- whose views they are, in their order
-abbrev pub owners : List View → List ℕ
-owners views = map (λ (v : View). v.by) views
-
--- the kind is deferred update, the meaning is sound, each transaction sees what it may be shown, and each that is open has one view
+-- the kind is deferred update, the meaning is sound, each transaction sees what it may be shown, and each that is open has one view, in
+-- their order
 pub record IsKept (m : Meaning) (views : List View) : Type 0 where
   pub deferred : m.checked.kind ≡ Intentions
   pub table : IsTable m.checked.file.table
@@ -40,4 +36,4 @@ pub record IsKept (m : Meaning) (views : List View) : Type 0 where
   pub seen : (t : ℕ) → IsView (object m) m.base m.log t (seen_by t m.base views)
   pub fit : All (FitsTable m.checked.file.table) views
   pub some : AllByRecursion (λ (v : View). 0 < v.count) views
-  pub distinct : AreDistinct (owners views)
+  pub ordered : AreOrdered views

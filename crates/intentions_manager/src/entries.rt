@@ -1,22 +1,36 @@
-//! The entries of a transaction in the log of intentions, from the back.
+//! The entries of a transaction in the log of intentions, from the back. All entries there are open.
 
-ghost use Rattle.std.specs.Prelude.{◌≡◌, ◌<◌, ◌≤◌, ◌-◌, ◌++◌, not, filter, length, take, drop, if◌then◌else◌};
+ghost use Rattle.std.specs.Prelude.{◌≡◌, ◌<◌, ◌≤◌, ◌-◌, ◌++◌, false, not, filter, length, take, drop, All, if◌then◌else◌};
 ghost use Rattle.object_trait.specs.Strike.{keep_first};
 ghost use Rattle.object_trait.specs.Meaning.{is_open_of, open_of};
+ghost use Rattle.intentions_manager.specs.Kept.{AreOpen};
+ghost use Rattle.intentions_manager.specs.Walk.{carried, FitsTable};
 
+use crate::views::{View, step_views};
 use object_trait::{LogEntry, keeps_none, keeps_parts};
+use type_table::TypeTable;
+
+/// Whether an open entry is t's.
+pub fn is_of(entry: LogEntry, t: u32) -> bool
+    requires { entry.done ≡ false }
+    ensures { result ≡ is_open_of t entry }
+{
+    entry.by == t
+}
 
 /// How many of t's entries are left to pass, once this one is passed.
 fn left_behind(entry: LogEntry, t: u32, left: u32) -> u32
-    requires { 0 < left }
+    requires some { 0 < left }
+    requires open { entry.done ≡ false }
     ensures { result ≡ (if is_open_of t entry then left - 1 else left) }
 {
-    if entry.is_open_of(t) { left - 1 } else { left }
+    left - u32::from(is_of(entry, t))
 }
 
-/// The place from which on the log has the last `count` open entries of t.
+/// The place from which on the log has the last `count` entries of t.
 pub fn place_of_last(log: &Vec<LogEntry>, t: u32, count: u32) -> usize
-    requires { count ≤ length (open_of t log.now.items) }
+    requires many { count ≤ length (open_of t log.now.items) }
+    requires open { AreOpen log.now.items }
     ensures within { result ≤ length log.now.items }
     ensures counted { length (open_of t (drop result log.now.items)) ≡ count }
 {
@@ -29,23 +43,51 @@ pub fn place_of_last(log: &Vec<LogEntry>, t: u32, count: u32) -> usize
     from
 }
 
-/// Takes t's open entries out, from this place on.
-pub fn cut_from(log: &mut Vec<LogEntry>, from: usize, t: u32)
-    requires { from ≤ length log.old.items }
+/// Takes t's entries out, from this place on.
+fn cut_from(log: &mut Vec<LogEntry>, from: usize, t: u32)
+    requires inside { from ≤ length log.old.items }
+    requires open { AreOpen log.old.items }
     ensures { log.new.items ≡ take from log.old.items ++ filter (λ e. not (is_open_of t e)) (drop from log.old.items) }
 {
     let mut kept = from;
     for i in from..log.len() {
         let entry = log[i];
         log[kept] = entry;
-        kept += usize::from(!entry.is_open_of(t));
+        kept += usize::from(!is_of(entry, t));
     }
     log.truncate(kept);
 }
 
-/// Takes out the last `count` open entries of t.
+/// Takes t's entries out, from this place on, and steps each view by each of them.
+pub fn carry_from(
+    log: &mut Vec<LogEntry>,
+    from: usize,
+    t: u32,
+    views: &mut Vec<View>,
+    table: &TypeTable,
+)
+    requires inside { from ≤ length log.old.items }
+    requires open { AreOpen log.old.items }
+    requires states { All (FitsTable table.now) views.old.items }
+    requires operations { All (λ e. e.op < length table.now.ops) log.old.items }
+    ensures cut { log.new.items ≡ take from log.old.items ++ filter (λ e. not (is_open_of t e)) (drop from log.old.items) }
+    ensures exact { views.new.items ≡ carried table.now t (drop from log.old.items) views.old.items }
+    ensures states { All (FitsTable table.now) views.new.items }
+{
+    let mut kept = from;
+    for i in from..log.len() {
+        let entry = log[i];
+        log[kept] = entry;
+        kept += usize::from(!is_of(entry, t));
+        step_views(views, table, t, entry);
+    }
+    log.truncate(kept);
+}
+
+/// Takes out the last `count` entries of t.
 pub fn take_out(log: &mut Vec<LogEntry>, t: u32, count: u32)
-    requires { count ≤ length (open_of t log.old.items) }
+    requires many { count ≤ length (open_of t log.old.items) }
+    requires open { AreOpen log.old.items }
     ensures { log.new.items ≡ keep_first (is_open_of t) (length (open_of t log.old.items) - count) log.old.items }
 {
     keeps_none::<LogEntry>();

@@ -2,8 +2,8 @@ ghost use Rattle.std.specs.Prelude.{◌≡◌, ◌↔◌, IsOk, IfOk, IfErr};
 ghost use Rattle.type_table.specs.declared.kind.Kind.TheVariants.{Intentions};
 ghost use Rattle.object_trait.specs.Steps.{IsFresh};
 
-use crate::entries::{cut_from, place_of_last, take_out};
-use crate::views::{View, carry, drop_view, place_of, put_view, seen_at, seen_by, stepped, walked};
+use crate::entries::{carry_from, place_of_last, take_out};
+use crate::views::{View, drop_view, place_of, put_view, seen_at, seen_by, stepped, walked};
 use object_trait::{
     LogEntry, Recovery, WrongKind, checked_is_covered, fresh_is_sound, keeps_first, keeps_none,
     keeps_others, keeps_parts, opens_are_counted, opens_commute, sound_after_apply,
@@ -18,8 +18,8 @@ use type_table::{Kind, ends_inside, ends_within, equi_extends, runs_along, steps
 /// An object with deferred update. Its state is that of the committed transactions, and each open
 /// transaction sees this state after its own operations alone.
 ///
-/// Beside the log it keeps one state for each transaction that is open here. `legal` and `apply` take
-/// no longer than a scan of these. `commit`, `abort` and `strike` go through the log from the back, and
+/// Beside the log it keeps one state for each transaction that is open here, in the order of their
+/// numbers. `legal` and `apply` search among these by halves. `commit`, `abort` and `strike` go through the log from the back, and
 /// only as far as the transaction's entries reach; a commit steps each of the other states by each of
 /// these entries.
 #[derive(Drop)]
@@ -121,21 +121,28 @@ impl Recovery for IntentionsManager {
         keeps_first::<LogEntry>();
         keeps_others::<LogEntry>();
         sound_after_commit();
-        let view = seen_by(&self.views, t, self.base);
+        let at = place_of(&self.views, t);
+        let view = seen_at(&self.views, at, t, self.base);
         let from = place_of_last(&self.log, t, view.count);
         self.base = view.state;
-        drop_view(&mut self.views, t);
-        carry(&mut self.views, self.checked.table(), t, &self.log, from);
-        cut_from(&mut self.log, from, t);
+        drop_view(&mut self.views, at, t);
+        carry_from(
+            &mut self.log,
+            from,
+            t,
+            &mut self.views,
+            self.checked.table(),
+        );
     }
 
     fn abort(&mut self, t: u32) {
         keeps_first::<LogEntry>();
         keeps_others::<LogEntry>();
         sound_after_strike();
-        let view = seen_by(&self.views, t, self.base);
+        let at = place_of(&self.views, t);
+        let view = seen_at(&self.views, at, t, self.base);
         take_out(&mut self.log, t, view.count);
-        drop_view(&mut self.views, t);
+        drop_view(&mut self.views, at, t);
     }
 
     fn strike(&mut self, t: u32, m: u32) {
@@ -149,7 +156,7 @@ impl Recovery for IntentionsManager {
         let count = view.count - m;
         take_out(&mut self.log, t, m);
         if count == 0 {
-            drop_view(&mut self.views, t);
+            drop_view(&mut self.views, at, t);
             return;
         }
         let from = place_of_last(&self.log, t, count);

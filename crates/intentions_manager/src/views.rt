@@ -1,12 +1,13 @@
 //! The state that each open transaction sees, kept beside the log.
 
-ghost use Rattle.std.specs.Prelude.{◌≡◌, ◌<◌, ◌≤◌, All, length, drop, map, vec_len, vec_capacity};
+ghost use Rattle.std.specs.Prelude.{◌≡◌, ◌<◌, true, false, All, length, drop, map, vec_len, vec_capacity};
 ghost use Rattle.object_trait.specs.Meaning.{is_open_of};
-ghost use Rattle.intentions_manager.specs.Views.{place_of, bare, seen_by, with_view, without_view};
-ghost use Rattle.intentions_manager.specs.Walk.{stepped, entered, walked, moved, step_view, carried, FitsTable};
+ghost use Rattle.intentions_manager.specs.Views.{AreOrdered, place_of, IsAt, bare, seen_by, with_view, without_view};
+ghost use Rattle.intentions_manager.specs.Walk.{stepped, entered, walked, moved, step_view, FitsTable};
 
+use crate::entries::is_of;
 use object_trait::LogEntry;
-use type_table::TypeTable;
+use type_table::{TypeTable, steps_within};
 
 /// What a transaction that is open at the object sees.
 #[derive(Clone, Copy)]
@@ -19,59 +20,75 @@ pub struct View {
     pub count: u32,
 }
 
-/// The place of t's view, or the number of views where it has none.
+/// The place of t's view, or where it would be.
 pub fn place_of(views: &Vec<View>, t: u32) -> usize
+    requires { AreOrdered views.now.items }
     ensures { result ≡ place_of t views.now.items }
 {
-    for (i, view) in views.iter().enumerate() {
-        if view.by == t {
-            return i;
-        }
+    views.partition_point(|view| view.by < t)
+}
+
+/// Whether t's view is at this place.
+fn is_at(views: &Vec<View>, at: usize, t: u32) -> bool
+    ensures there { result ≡ true → IsAt t at views.now.items }
+    ensures elsewhere { result ≡ false → IsAt t at views.now.items → ⊥ }
+{
+    if at < views.len() {
+        views[at].by == t
+    } else {
+        false
     }
-    views.len()
 }
 
 /// What t sees, whose place this is: its view, or where it has none base after no entries.
 pub fn seen_at(views: &Vec<View>, at: usize, t: u32, base: u16) -> View
-    requires { at ≡ place_of t views.now.items }
+    requires ordered { AreOrdered views.now.items }
+    requires place { at ≡ place_of t views.now.items }
     ensures { result ≡ seen_by t base views.now.items }
 {
-    match views.get(at) {
-        Some(view) => *view,
-        None => View {
+    if is_at(views, at, t) {
+        views[at]
+    } else {
+        View {
             by: t,
             state: base,
             count: 0,
-        },
+        }
     }
 }
 
 /// The same, where the place isn't wanted.
 pub fn seen_by(views: &Vec<View>, t: u32, base: u16) -> View
+    requires { AreOrdered views.now.items }
     ensures { result ≡ seen_by t base views.now.items }
 {
     let at = place_of(views, t);
     seen_at(views, at, t, base)
 }
 
-/// Puts a view in the place of its transaction's, or behind the others, where there is room.
+/// Puts a view in the place of its transaction's. Where that has none, there is room.
 pub fn put_view(views: &mut Vec<View>, at: usize, view: View)
+    requires ordered { AreOrdered views.old.items }
     requires place { at ≡ place_of view.by views.old.items }
-    requires room { length views.old.items ≤ at → vec_len views.old < vec_capacity views.old }
+    requires room { (seen_by view.by 0 views.old.items).count ≡ 0 → vec_len views.old < vec_capacity views.old }
     ensures { views.new.items ≡ with_view view views.old.items }
 {
-    if at < views.len() {
+    if is_at(views, at, view.by) {
         views[at] = view;
     } else {
-        views.push_reserved(view);
+        let _ = views.insert(at, view);
     }
 }
 
-/// Takes out t's view, if it has one.
-pub fn drop_view(views: &mut Vec<View>, t: u32)
+/// Takes out t's view, whose place this is, if it has one.
+pub fn drop_view(views: &mut Vec<View>, at: usize, t: u32)
+    requires ordered { AreOrdered views.old.items }
+    requires place { at ≡ place_of t views.old.items }
     ensures { views.new.items ≡ without_view t views.old.items }
 {
-    views.retain(|view| view.by != t);
+    if is_at(views, at, t) {
+        views.remove(at);
+    }
 }
 
 /// The state after operation k, which is s where k isn't legal in s.
@@ -116,39 +133,30 @@ pub fn walked(table: &TypeTable, t: u32, s: u16, log: &Vec<LogEntry>, from: usiz
 }
 
 /// Steps each view by an operation.
-fn step_all(views: &mut Vec<View>, table: &TypeTable, k: u8)
-    requires states { All (FitsTable table.now) views.old.items }
+fn step_all(views: &mut [View], table: &TypeTable, k: u8)
+    requires states { All (FitsTable table.now) views.old }
     requires operation { k < length table.now.ops }
-    ensures exact { views.new.items ≡ map (moved table.now k) views.old.items }
-    ensures states { All (FitsTable table.now) views.new.items }
+    ensures exact { views.new ≡ map (moved table.now k) views.old }
+    ensures states { All (FitsTable table.now) views.new }
 {
+    steps_within();
+    let steps = table.steps();
+    let ops = usize::from(table.op_count());
     for i in 0..views.len() {
-        let view = views[i];
-        let state = stepped(table, view.state, k);
-        views[i] = View { state, ..view };
+        let place = usize::from(views[i].state) * ops + usize::from(k);
+        views[i].state = steps[place].unwrap_or(views[i].state);
     }
 }
 
 /// Steps each view by an entry, if that is an open one of t.
-fn step_views(views: &mut Vec<View>, table: &TypeTable, t: u32, entry: LogEntry)
+pub fn step_views(views: &mut Vec<View>, table: &TypeTable, t: u32, entry: LogEntry)
     requires states { All (FitsTable table.now) views.old.items }
     requires operation { entry.op < length table.now.ops }
+    requires open { entry.done ≡ false }
     ensures exact { views.new.items ≡ map (step_view table.now t entry) views.old.items }
     ensures states { All (FitsTable table.now) views.new.items }
 {
-    if entry.is_open_of(t) {
+    if is_of(entry, t) {
         step_all(views, table, entry.op);
-    }
-}
-
-/// Carries each view on by t's open entries, from this place of the log on.
-pub fn carry(views: &mut Vec<View>, table: &TypeTable, t: u32, log: &Vec<LogEntry>, from: usize)
-    requires states { All (FitsTable table.now) views.old.items }
-    requires operations { All (λ e. e.op < length table.now.ops) log.now.items }
-    ensures exact { views.new.items ≡ carried table.now t (drop from log.now.items) views.old.items }
-    ensures states { All (FitsTable table.now) views.new.items }
-{
-    for i in from..log.len() {
-        step_views(views, table, t, log[i]);
     }
 }

@@ -1,7 +1,9 @@
 pub mod Lines
 pub mod Numbers
 pub mod Words
+pub mod Cutting
 pub mod Counts
+pub mod Lacking
 pub mod Places
 pub mod Reading
 pub mod Accepting

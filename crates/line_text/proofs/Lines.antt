@@ -1,10 +1,10 @@
 -- The first line of a text, and the lines behind it.
-use Rattle.std.proofs.Common.{◌≡◌, ℕ, ◌+◌, ◌<◌, ◌≤◌, Bool, true, false, cond, eqb, ltb, List, [], ◌∷◌, length, take, drop, position, Some, None, refl, ap, ◌∙◌, arith}
+use Rattle.std.proofs.Common.{◌≡◌, ℕ, ◌+◌, ◌<◌, ◌≤◌, Bool, true, false, cond, eqb, ltb, List, [], ◌∷◌, length, take, drop, position, Option, Some, None, refl, sym, ap, ◌∙◌, arith}
 use Rattle.std.specs.List.{slice_split, position_or_len}
 use Rattle.std.proofs.lemmas.Bool.{ltb-true, ltb-false}
 use Rattle.std.proofs.lemmas.Option.{cond_some}
 use Rattle.std.proofs.lemmas.List.Splits.{slice_split_first, length-slice_split}
-use Rattle.line_text.specs.Text.{lines_of, lines_of_pieces}
+use Rattle.line_text.specs.Text.{TextLine, lines_of, lines_of_pieces}
 
 -- a piece in front of others is a line that is ended
 pub lines_of_pieces-ended : (x : List ℕ) (pieces : List (List ℕ)) → 0 < length pieces → lines_of_pieces (x ∷ pieces) ≡ record { bytes = x; is_ended = true } ∷ lines_of_pieces pieces
@@ -46,3 +46,24 @@ lines_of-last [] some none = absurd (omega arith)
 lines_of-last (b ∷ text) some none =
     let place = position_or_len is_line_feed (b ∷ text) in
     ap lines_of_pieces (slice_split_whole is_line_feed (b ∷ text) (ltb-false place _ (none_is (ltb place (length (b ∷ text))) place none)))
+
+-- a text without bytes has no line
+pub lines_of-empty : (text : List ℕ) → length text ≡ 0 → lines_of text ≡ []
+lines_of-empty [] e = refl
+lines_of-empty (b ∷ text) e = absurd (omega arith)
+
+-- one with bytes has a line
+pub lines_of-some : (text : List ℕ) → 0 < length text → lines_of text ≡ [] → ⊥
+lines_of-some text some none = go (position (λ b. eqb b 10) text) refl
+  where
+    go : (o : Option ℕ) → position (λ b. eqb b 10) text ≡ o → ⊥
+    go (Some end) e = let clash = sym none ∙ lines_of-ended text end e in cc
+    go None e = let clash = sym none ∙ lines_of-last text some e in cc
+
+-- and a first one
+pub lines_of-first : (text : List ℕ) → 0 < length text → (l : TextLine) × (ls : List TextLine) × (lines_of text ≡ l ∷ ls)
+lines_of-first text some = go (position (λ b. eqb b 10) text) refl
+  where
+    go : (o : Option ℕ) → position (λ b. eqb b 10) text ≡ o → (l : TextLine) × (ls : List TextLine) × (lines_of text ≡ l ∷ ls)
+    go (Some end) e = (record { bytes = take end text; is_ended = true }, lines_of (drop (end + 1) text), lines_of-ended text end e)
+    go None e = (record { bytes = text; is_ended = false }, [], lines_of-last text some e)

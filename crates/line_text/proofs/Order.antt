@@ -67,7 +67,7 @@ no_kind true kind next e = absurd cc
 no_kind false kind next e = (refl, e)
 
 -- an item without a fault has passed each test
-HasPassed-from : {Item : Type 0} (g : Rules Item) (before : List Item) (x : Item) → item_fault g before x ≡ None → HasPassed g before x
+pub HasPassed-from : {Item : Type 0} (g : Rules Item) (before : List Item) (x : Item) → item_fault g before x ≡ None → HasPassed g before x
 unfolding item_fault
 HasPassed-from g before x e =
     let late = no_kind (is_late g (last_item before) x) OutOfOrder _ e in

@@ -29,19 +29,19 @@ items_of_more g before l = filter_map-append (λ (k : TextLine). item_in g (cont
     one None = refl
     one (Some x) = refl
 
-module _ {Item : Type 0} (g : Rules Item) (text rest behind : List ℕ) (line : ℕ) (items : List Item) (l : TextLine) (first : lines_of rest ≡ l ∷ lines_of behind) (read : HasRead g text rest line items) where
-  all_split : lines_of text ≡ read.before ++ l ∷ lines_of behind
+module _ {Item : Type 0} (g : Rules Item) (text rest : List ℕ) (line : ℕ) (items : List Item) (l : TextLine) (more : List TextLine) (first : lines_of rest ≡ l ∷ more) (read : HasRead g text rest line items) where
+  all_split : lines_of text ≡ read.before ++ l ∷ more
   all_split = read.split ∙ ap (λ (ls : List TextLine). read.before ++ ls) first
 
   -- the next line is judged by the items so far
   next_refusal : refusal_at g (lines_of text) (length read.before) ≡ line_fault g items l
-  next_refusal = rw (all_split, read.items_are) (refusal_at_here g read.before l (lines_of behind))
+  next_refusal = rw (all_split, read.items_are) (refusal_at_here g read.before l more)
 
   -- the next line has passed
-  pub HasRead-more : (after : List Item) → length behind < length rest → line_fault g items l ≡ None → after ≡ items ++ option_to_list (item_in g (content_of l.bytes)) → HasRead g text behind (line + 1) after
-  HasRead-more after shorter none appended = record {
+  pub HasRead-more : (behind : List ℕ) (after : List Item) → more ≡ lines_of behind → length behind < length rest → line_fault g items l ≡ None → after ≡ items ++ option_to_list (item_in g (content_of l.bytes)) → HasRead g text behind (line + 1) after
+  HasRead-more behind after is shorter none appended = record {
     before = read.before ++ l ∷ [];
-    split = all_split ∙ sym (append_assoc read.before (l ∷ []) (lines_of behind));
+    split = all_split ∙ ap (λ (ls : List TextLine). read.before ++ l ∷ ls) is ∙ sym (append_assoc read.before (l ∷ []) (lines_of behind));
     items_are = appended ∙ ap (λ (xs : List Item). xs ++ option_to_list (item_in g (content_of l.bytes))) read.items_are ∙ sym (items_of_more g read.before l);
     line_is = rw length-append (ap (λ (n : ℕ). n + 1) read.line_is);
     passed = rw length-append (ArePassed-more g (lines_of text) (length read.before) read.passed (next_refusal ∙ none));

@@ -21,12 +21,12 @@ use Rattle.line_text.proofs.Order.{element_at}
 -- ---- facts of each element
 
 -- a weaker fact
-each_weaker : {X : Type 0} (P Q : X → Type 0) → ((x : X) → P x → Q x) → (xs : List X) → AllByRecursion P xs → AllByRecursion Q xs
+pub each_weaker : {X : Type 0} (P Q : X → Type 0) → ((x : X) → P x → Q x) → (xs : List X) → AllByRecursion P xs → AllByRecursion Q xs
 each_weaker P Q f [] h = tt
 each_weaker P Q f (x ∷ xs) h = (f x h.0, each_weaker P Q f xs h.1)
 
 -- of two lists joined
-each_append : {X : Type 0} (P : X → Type 0) (xs ys : List X) → AllByRecursion P xs → AllByRecursion P ys → AllByRecursion P (xs ++ ys)
+pub each_append : {X : Type 0} (P : X → Type 0) (xs ys : List X) → AllByRecursion P xs → AllByRecursion P ys → AllByRecursion P (xs ++ ys)
 each_append P [] ys h k = k
 each_append P (x ∷ xs) ys h k = (h.0, each_append P xs ys h.1 k)
 
@@ -43,22 +43,22 @@ each_at P (y ∷ xs) zero x h e = subst P (same_Some y x e) h.0
 each_at P (y ∷ xs) (suc n) x h e = each_at P xs n x h.1 e
 
 -- as a test
-all_pass : (p : ℕ → Bool) (xs : List ℕ) → AllByRecursion (λ b. p b ≡ true) xs → list_all p xs ≡ true
+pub all_pass : (p : ℕ → Bool) (xs : List ℕ) → AllByRecursion (λ b. p b ≡ true) xs → list_all p xs ≡ true
 all_pass p [] h = refl
 all_pass p (x ∷ xs) h = and_from (p x) (list_all p xs) h.0 (all_pass p xs h.1)
 
 -- ---- words and lines
 
 -- a byte of a word
-abbrev InWord : ℕ → Type 0
+abbrev pub InWord : ℕ → Type 0
 InWord b = (33 ≤ b) × (b ≤ 126)
 
 -- a byte of a line
-abbrev InLine : ℕ → Type 0
+abbrev pub InLine : ℕ → Type 0
 InLine b = (32 ≤ b) × (b ≤ 126)
 
 -- a word has no space
-no_space : (w : List ℕ) → AllByRecursion InWord w → All (λ b. eqb b 32 ≡ false) w
+pub no_space : (w : List ℕ) → AllByRecursion InWord w → All (λ b. eqb b 32 ≡ false) w
 no_space w h = All-from_recursion (λ b. eqb b 32 ≡ false) w (each_weaker InWord (λ b. eqb b 32 ≡ false) (λ b k. ne_eqb b 32 (λ e. omega arith)) w h)
 
 -- words with one space between are split into these words
@@ -89,7 +89,7 @@ spaced_bytes (w ∷ []) h = each_weaker InWord InLine (λ b k. (omega arith, k.1
 spaced_bytes (w ∷ v ∷ ws) h = each_append InLine w (32 ∷ spaced (v ∷ ws)) (each_weaker InWord InLine (λ b k. (omega arith, k.1)) w h.0.1) ((omega arith, omega arith), spaced_bytes (v ∷ ws) h.1)
 
 -- a line and its LF, in front of more text
-first_line : (bytes rest : List ℕ) → AllByRecursion InLine bytes → lines_of ((bytes ++ 10 ∷ []) ++ rest) ≡ record { bytes = bytes; is_ended = true } ∷ lines_of rest
+pub first_line : (bytes rest : List ℕ) → AllByRecursion InLine bytes → lines_of ((bytes ++ 10 ∷ []) ++ rest) ≡ record { bytes = bytes; is_ended = true } ∷ lines_of rest
 first_line bytes rest h =
     let no_feed = All-from_recursion (λ b. eqb b 10 ≡ false) bytes (each_weaker InLine (λ b. eqb b 10 ≡ false) (λ b k. ne_eqb b 10 (λ e. omega arith)) bytes h) in
     ap lines_of (append_assoc bytes (10 ∷ []) rest)

@@ -1,5 +1,5 @@
 -- What the words of a line are to be: the pieces of which a grammar makes its items.
-use Rattle.std.specs.Prelude.{ℕ, Bool, List, [], length, ◌==◌, if◌then◌else◌, slice_index_or, Option, Some, None, Result, Ok, Err, codes}
+use Rattle.std.specs.Prelude.{ℕ, Bool, List, [], length, ◌==◌, if◌then◌else◌, slice_index_or, Option, Some, None, Result, Ok, Err}
 use Rattle.std.specs.Str.{bytes_eq}
 use Rattle.line_text.specs.Text.{number_of}
 use Rattle.line_text.specs.declared.fault.FaultKind.{FaultKind}

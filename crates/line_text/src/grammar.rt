@@ -1,11 +1,14 @@
-ghost use Rattle.std.specs.Prelude.{◌≡◌, ◌<◌, length, map};
+ghost use Rattle.std.specs.Prelude.{◌≡◌, ◌<◌, ◌^◌, [], ◌∷◌, ◌++◌, false, List, length, map, OnOk};
 ghost use Rattle.std.specs.List.{list_any};
-ghost use Rattle.line_text.specs.Rules.{Rules, IsCounted};
+ghost use Rattle.line_text.specs.Rules.{Rules, IsCounted, last_item};
+ghost use Rattle.line_text.specs.LineTests.{is_late};
 
 use crate::fault::FaultKind;
 use crate::section::Section;
+use std::alloc::{AllocError, Global};
 
-/// A grammar of lines: what the words of a line say, and what is its own of the tests of a line.
+/// A grammar of lines: what the words of a line say, how the items of a text are kept, and what is
+/// its own of the tests of a line.
 ///
 /// A method that judges an item is handed `before`, the items before it in the text, or `counts`, how
 /// many of them are of each rank. The ranks of `before` never fall, so a grammar finds what it needs
@@ -14,8 +17,25 @@ pub trait Grammar {
     /// What a line says that isn't blank and no comment.
     type Item: Copy;
 
+    /// The items of the lines that were read: a list, or what takes less room.
+    type Kept: Drop;
+
     /// The grammar as contracts see it.
     ghost rules: { Self → Rules Self.Item };
+
+    /// The items that are kept, in order.
+    ghost kept: { Self.Kept → List Self.Item };
+
+    /// What is kept before the first line.
+    fn nothing(&self, alloc: Global) -> Self::Kept
+        ensures { kept result ≡ [] };
+
+    /// Keeps an item of a rank that isn't below that of the last one. There are never so many items that a
+    /// number can't count them.
+    fn keep(&self, before: &mut Self::Kept, item: Self::Item) -> Result<(), AllocError>
+        requires { is_late (rules self.now) (last_item (kept before.old)) item ≡ false }
+        ensures items { OnOk result (kept before.new ≡ kept before.old ++ item ∷ []) }
+        ensures few { OnOk result (length (kept before.new) < 2 ^ 64) };
 
     /// What the words of a line say: `UnknownWord` or `BadNumber` where they say nothing.
     fn item(&self, words: &[&[u8]]) -> Result<Self::Item, FaultKind>
@@ -33,14 +53,14 @@ pub trait Grammar {
         ensures known { result < length (rules self.now).sections };
 
     /// Whether a line of its own section must come before the item and doesn't.
-    fn misses(&self, before: &[Self::Item], counts: &[usize], item: Self::Item) -> bool
-        requires { IsCounted (rules self.now) before.now counts.now }
-        ensures { result ≡ (rules self.now).misses before.now item };
+    fn misses(&self, before: &Self::Kept, counts: &[usize], item: Self::Item) -> bool
+        requires { IsCounted (rules self.now) (kept before.now) counts.now }
+        ensures { result ≡ (rules self.now).misses (kept before.now) item };
 
     /// Whether the item's numbers are in range.
-    fn is_in_range(&self, before: &[Self::Item], counts: &[usize], item: Self::Item) -> bool
-        requires { IsCounted (rules self.now) before.now counts.now }
-        ensures { result ≡ (rules self.now).is_in_range before.now item };
+    fn is_in_range(&self, before: &Self::Kept, counts: &[usize], item: Self::Item) -> bool
+        requires { IsCounted (rules self.now) (kept before.now) counts.now }
+        ensures { result ≡ (rules self.now).is_in_range (kept before.now) item };
 
     /// What the item is greater by than the one before it, where its section ascends.
     fn key(&self, item: Self::Item) -> Option<(u32, u32)>
@@ -48,6 +68,6 @@ pub trait Grammar {
 
     /// Whether an item before it is one that may not come twice. For an item that may it answers
     /// `false` at once.
-    fn has_twin(&self, before: &[Self::Item], item: Self::Item) -> bool
-        ensures { result ≡ list_any ((rules self.now).is_twin item) before.now };
+    fn has_twin(&self, before: &Self::Kept, item: Self::Item) -> bool
+        ensures { result ≡ list_any ((rules self.now).is_twin item) (kept before.now) };
 }

@@ -1,12 +1,12 @@
 ghost use Rattle.std.specs.Prelude.{◌≡◌, ◌<◌, length, map, slice_get, OnOk};
-ghost use Rattle.line_text.specs.Rules.{IsCounted, count_at};
+ghost use Rattle.line_text.specs.Rules.{count_at, last_item};
 ghost use Rattle.line_text.specs.LineTests.{is_late, lacks, is_full, ascends, item_fault, keys_ascend};
-ghost use Rattle.line_text.specs.Steps.{JudgesWords};
+ghost use Rattle.line_text.specs.Steps.{IsKnown, JudgesWords, place_of};
 
 use crate::fault::FaultKind;
 use crate::grammar::Grammar;
 use crate::section::Section;
-use crate::stood::{Stood, has_ended, push_item};
+use crate::stood::{Place, Stood, has_ended, push_item};
 
 /// Tests 4 to 11 of a line with these words. Its item, if it passes and has one, is then behind the
 /// others.
@@ -14,13 +14,13 @@ use crate::stood::{Stood, has_ended, push_item};
 pub fn judge_words<G: Grammar>(
     grammar: &G,
     words: &[&[u8]],
-    stood: &mut Stood<G::Item>,
+    stood: &mut Stood<G::Kept>,
 ) -> Result<(), FaultKind>
-    requires { IsCounted (G.rules grammar.now) stood.old.items.items stood.old.counts.items }
+    requires { IsKnown (G.rules grammar.now) (G.kept stood.old.kept) stood.old.counts.items stood.old.last stood.old.clear }
     ensures judged { JudgesWords (G.rules grammar.now) (map (λ w. w.now) words.now)
-        stood.old.items.items result stood.new.items.items }
-    ensures counted { OnOk result
-        (IsCounted (G.rules grammar.now) stood.new.items.items stood.new.counts.items) }
+        (G.kept stood.old.kept) result (G.kept stood.new.kept) }
+    ensures known { OnOk result
+        (IsKnown (G.rules grammar.now) (G.kept stood.new.kept) stood.new.counts.items stood.new.last stood.new.clear) }
 {
     if words.is_empty() {
         return Ok(());
@@ -29,59 +29,87 @@ pub fn judge_words<G: Grammar>(
         return Err(FaultKind::AfterEnd);
     }
     let item = grammar.item(words)?;
-    if let Some(kind) = item_fault(grammar, stood, item) {
+    let place = place_of(grammar, item);
+    if let Some(kind) = item_fault(grammar, stood, item, place) {
         return Err(kind);
     }
-    push_item(grammar, item, stood)?;
+    push_item(grammar, item, place, stood)?;
     Ok(())
+}
+
+fn place_of<G: Grammar>(grammar: &G, item: G::Item) -> Place
+    ensures value { result ≡ place_of (G.rules grammar.now) item }
+    ensures ranked { result.rank < length (G.rules grammar.now).sections }
+{
+    Place {
+        rank: grammar.rank(item),
+        key: grammar.key(item),
+    }
 }
 
 /// The first of tests 7 to 11 that refuses an item behind those before it.
 #[tactic(auto, unfolding(crate::specs::LineTests::item_fault))]
-fn item_fault<G: Grammar>(grammar: &G, stood: &Stood<G::Item>, item: G::Item) -> Option<FaultKind>
-    requires { IsCounted (G.rules grammar.now) stood.now.items.items stood.now.counts.items }
-    ensures { result ≡ item_fault (G.rules grammar.now) stood.now.items.items item }
+fn item_fault<G: Grammar>(
+    grammar: &G,
+    stood: &Stood<G::Kept>,
+    item: G::Item,
+    place: Place,
+) -> Option<FaultKind>
+    requires known { IsKnown (G.rules grammar.now) (G.kept stood.now.kept) stood.now.counts.items stood.now.last stood.now.clear }
+    requires place { place ≡ place_of (G.rules grammar.now) item }
+    requires ranked { place.rank < length (G.rules grammar.now).sections }
+    ensures { result ≡ item_fault (G.rules grammar.now) (G.kept stood.now.kept) item }
 {
-    let rank = grammar.rank(item);
-    let last = stood.items.last().copied();
-    if is_late(grammar, last, item) {
+    if is_late(grammar, stood, place) {
         return Some(FaultKind::OutOfOrder);
     }
-    if lacks(grammar, stood, rank) || grammar.misses(&stood.items, &stood.counts, item) {
+    if lacks(grammar, stood, place.rank) || grammar.misses(&stood.kept, &stood.counts, item) {
         return Some(FaultKind::Missing);
     }
-    if !grammar.is_in_range(&stood.items, &stood.counts, item) || is_full(grammar, stood, rank) {
+    if !grammar.is_in_range(&stood.kept, &stood.counts, item)
+        || is_full(grammar, stood, place.rank)
+    {
         return Some(FaultKind::OutOfRange);
     }
-    if !ascends(grammar, last, item) {
+    if !ascends(grammar, stood, place) {
         return Some(FaultKind::OutOfOrder);
     }
-    if grammar.has_twin(&stood.items, item) {
+    if grammar.has_twin(&stood.kept, item) {
         return Some(FaultKind::TwiceOp);
     }
     None
 }
 
-/// Test 7: the item's section can't come behind the last item.
-fn is_late<G: Grammar>(grammar: &G, last: Option<G::Item>, item: G::Item) -> bool
-    ensures { result ≡ is_late (G.rules grammar.now) last item }
+/// Test 7: a section can't come behind the last item.
+fn is_late<G: Grammar>(grammar: &G, stood: &Stood<G::Kept>, place: Place) -> bool
+    requires known { IsKnown (G.rules grammar.now) (G.kept stood.now.kept) stood.now.counts.items stood.now.last stood.now.clear }
+    requires ranked { place.rank < length (G.rules grammar.now).sections }
+    ensures { let rules = G.rules grammar.now in (x : G.Item) → place ≡ place_of rules x →
+        result ≡ is_late rules (last_item (G.kept stood.now.kept)) x }
 {
-    match last {
+    match stood.last {
         Some(last) => {
-            let rank = grammar.rank(item);
-            let last_rank = grammar.rank(last);
-            let section = section_at(grammar.sections(), rank);
-            rank < last_rank || (rank == last_rank && section.is_single)
+            let section = section_at(grammar.sections(), place.rank);
+            place.rank < last.rank || (place.rank == last.rank && section.is_single)
         }
         None => false,
     }
 }
 
 /// Test 8: a section of a lower rank must be there and hasn't come.
-fn lacks<G: Grammar>(grammar: &G, stood: &Stood<G::Item>, rank: usize) -> bool
-    requires counted { IsCounted (G.rules grammar.now) stood.now.items.items stood.now.counts.items }
-    requires known { rank < length (G.rules grammar.now).sections }
-    ensures { result ≡ lacks (G.rules grammar.now) stood.now.items.items rank }
+fn lacks<G: Grammar>(grammar: &G, stood: &Stood<G::Kept>, rank: usize) -> bool
+    requires known { IsKnown (G.rules grammar.now) (G.kept stood.now.kept) stood.now.counts.items stood.now.last stood.now.clear }
+    requires ranked { rank < length (G.rules grammar.now).sections }
+    ensures { result ≡ lacks (G.rules grammar.now) (G.kept stood.now.kept) rank }
+{
+    rank > stood.clear && is_lacking(grammar, stood, rank)
+}
+
+/// The same, where the sections below `clear` are looked at too.
+fn is_lacking<G: Grammar>(grammar: &G, stood: &Stood<G::Kept>, rank: usize) -> bool
+    requires known { IsKnown (G.rules grammar.now) (G.kept stood.now.kept) stood.now.counts.items stood.now.last stood.now.clear }
+    requires ranked { rank < length (G.rules grammar.now).sections }
+    ensures { result ≡ lacks (G.rules grammar.now) (G.kept stood.now.kept) rank }
 {
     let sections = grammar.sections();
     let mut is_lacking = false;
@@ -93,11 +121,11 @@ fn lacks<G: Grammar>(grammar: &G, stood: &Stood<G::Item>, rank: usize) -> bool
 }
 
 /// Test 9: the section takes no more lines.
-fn is_full<G: Grammar>(grammar: &G, stood: &Stood<G::Item>, rank: usize) -> bool
-    requires counted { IsCounted (G.rules grammar.now) stood.now.items.items stood.now.counts.items }
-    requires known { rank < length (G.rules grammar.now).sections }
+fn is_full<G: Grammar>(grammar: &G, stood: &Stood<G::Kept>, rank: usize) -> bool
+    requires known { IsKnown (G.rules grammar.now) (G.kept stood.now.kept) stood.now.counts.items stood.now.last stood.now.clear }
+    requires ranked { rank < length (G.rules grammar.now).sections }
     ensures { let rules = G.rules grammar.now in
-        result ≡ is_full (slice_get rules.sections rank) (count_at rules stood.now.items.items rank) }
+        result ≡ is_full (slice_get rules.sections rank) (count_at rules (G.kept stood.now.kept) rank) }
 {
     match section_at(grammar.sections(), rank).most {
         Some(most) => most <= stood.counts[rank],
@@ -106,14 +134,13 @@ fn is_full<G: Grammar>(grammar: &G, stood: &Stood<G::Item>, rank: usize) -> bool
 }
 
 /// Whether test 10 passes: the item is greater than the last one, if both are in one ascending section.
-fn ascends<G: Grammar>(grammar: &G, last: Option<G::Item>, item: G::Item) -> bool
-    ensures { result ≡ ascends (G.rules grammar.now) last item }
+fn ascends<G: Grammar>(grammar: &G, stood: &Stood<G::Kept>, place: Place) -> bool
+    requires { IsKnown (G.rules grammar.now) (G.kept stood.now.kept) stood.now.counts.items stood.now.last stood.now.clear }
+    ensures { let rules = G.rules grammar.now in (x : G.Item) → place ≡ place_of rules x →
+        result ≡ ascends rules (last_item (G.kept stood.now.kept)) x }
 {
-    match last {
-        Some(last) => {
-            grammar.rank(item) != grammar.rank(last)
-                || keys_ascend(grammar.key(last), grammar.key(item))
-        }
+    match stood.last {
+        Some(last) => place.rank != last.rank || keys_ascend(last.key, place.key),
         None => true,
     }
 }

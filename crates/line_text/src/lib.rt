@@ -2,6 +2,7 @@
 //! and one reader for every grammar of lines.
 #![tactic(auto)]
 
+mod cut;
 mod fault;
 mod grammar;
 mod judge;

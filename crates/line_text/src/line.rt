@@ -63,7 +63,7 @@ pub fn split_words<'a>(bytes: &'a [u8], words: &mut Vec<&'a [u8]>) -> Result<(),
     Ok(())
 }
 
-fn is_comment(bytes: &[u8]) -> bool
+pub fn is_comment(bytes: &[u8]) -> bool
     ensures { result ≡ is_comment bytes.now }
 {
     match bytes {

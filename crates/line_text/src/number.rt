@@ -1,6 +1,5 @@
-ghost use Rattle.std.specs.Prelude.{◌≡◌};
-ghost use Rattle.std.specs.List.{list_all};
-ghost use Rattle.line_text.specs.Text.{is_digit, is_number, number_of};
+ghost use Rattle.std.specs.Prelude.{◌≡◌, ◌&&◌, ◌==◌, nat_lt, length, slice_index};
+ghost use Rattle.line_text.specs.Text.{is_digit, number_of};
 
 /// The most digits of a number.
 const MOST_DIGITS: usize = 7;
@@ -9,28 +8,28 @@ const MOST_DIGITS: usize = 7;
 pub fn number_of(word: &[u8]) -> Option<u32>
     ensures { result ≡ number_of word.now }
 {
-    if !is_number(word) {
+    if word.is_empty() || word.len() > MOST_DIGITS || has_leading_zero(word) {
         return None;
     }
     let mut number = 0;
     for digit in word {
+        if !is_digit(*digit) {
+            return None;
+        }
         number = 10 * number + u32::from(*digit - b'0');
     }
     Some(number)
 }
 
-/// Whether a word is a number.
-fn is_number(word: &[u8]) -> bool
-    ensures { result ≡ is_number word.now }
+/// Whether a word of more than one byte begins with a zero.
+fn has_leading_zero(word: &[u8]) -> bool
+    ensures { result ≡ (nat_lt 1 (length word.now) && slice_index word.now 0 == 48) }
 {
-    if word.is_empty() || word.len() > MOST_DIGITS || !are_digits(word) {
-        return false;
-    }
-    word.len() == 1 || word[0] != b'0'
+    word.len() > 1 && word[0] == b'0'
 }
 
-fn are_digits(word: &[u8]) -> bool
-    ensures { result ≡ list_all is_digit word.now }
+fn is_digit(b: u8) -> bool
+    ensures { result ≡ is_digit b }
 {
-    word.iter().all(|b| b'0' <= *b && *b <= b'9')
+    b'0' <= b && b <= b'9'
 }

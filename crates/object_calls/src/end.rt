@@ -3,7 +3,7 @@
 ghost use Rattle.std.specs.Prelude.{◌≡◌, ◌<◌, All, length, map};
 ghost use Rattle.object_trait.specs.Steps.{IsCommit, IsAbort};
 ghost use Rattle.op_locks.specs.Locks.{without};
-ghost use Rattle.object_calls.specs.Ends.{ChangesAt, HoldsAt};
+ghost use Rattle.object_calls.specs.Ends.{ChangesAt};
 
 use object_trait::Recovery;
 use op_locks::OpLocks;
@@ -12,7 +12,6 @@ use op_locks::OpLocks;
 pub fn commit_at<R: Recovery>(objects: &mut Vec<R>, locks: &mut Vec<OpLocks>, places: &[u8], t: u32)
     requires as_many { length locks.old.items ≡ length objects.old.items }
     requires inside { All (λ x. x < length objects.old.items) places.now }
-    requires holds { HoldsAt t places.now locks.old.items }
     ensures objects { ChangesAt places.now (λ x m n. IsCommit m t n) (map R.meaning objects.old.items) (map R.meaning objects.new.items) }
     ensures locks { ChangesAt places.now (λ x a b. b.held ≡ without t a.held) locks.old.items locks.new.items }
 {
@@ -31,7 +30,6 @@ pub fn commit_at<R: Recovery>(objects: &mut Vec<R>, locks: &mut Vec<OpLocks>, pl
 pub fn abort_at<R: Recovery>(objects: &mut Vec<R>, locks: &mut Vec<OpLocks>, places: &[u8], t: u32)
     requires as_many { length locks.old.items ≡ length objects.old.items }
     requires inside { All (λ x. x < length objects.old.items) places.now }
-    requires holds { HoldsAt t places.now locks.old.items }
     ensures objects { ChangesAt places.now (λ x m n. IsAbort m t n) (map R.meaning objects.old.items) (map R.meaning objects.new.items) }
     ensures locks { ChangesAt places.now (λ x a b. b.held ≡ without t a.held) locks.old.items locks.new.items }
 {

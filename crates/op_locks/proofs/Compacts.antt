@@ -1,5 +1,5 @@
 -- A loop that moves what stays to the front.
-use Rattle.std.proofs.Common.{◌≡◌, ℕ, zero, suc, ◌+◌, ◌-◌, ◌*◌, ◌^◌, ◌%◌, ◌<◌, ◌≤◌, Bool, true, false, not, ◌||◌, List, [], ◌∷◌, ◌++◌, length, take, drop, get_or, set, bit_or, refl, sym, ap, ◌∙◌, append_assoc, inl, inr, arith, All}
+use Rattle.std.proofs.Common.{◌≡◌, ℕ, zero, suc, ◌+◌, ◌-◌, ◌*◌, ◌^◌, ◌%◌, ◌<◌, ◌≤◌, Bool, true, false, not, ◌||◌, List, [], ◌∷◌, ◌++◌, length, take, drop, get_or, set, bit_or, refl, sym, ap, subst, ◌∙◌, append_assoc, inl, inr, arith, All}
 use Rattle.std.specs.Prelude.{nat_lt}
 use Rattle.std.specs.Int.Bits.{or_zero_r}
 use Rattle.std.proofs.Math.Nat.{eq-zero-or-pos}
@@ -112,3 +112,13 @@ module _ (t first : ℕ) (xs ys : List Held) (left count word i : ℕ) (e d : He
                   rw (same, one, one_own) (Compacts-stays below mine some)
             ]
       ]
+
+-- it stays or goes where none of t's may stay
+pub Compacts-other_next : (t first : ℕ) (xs ys : List Held) (count word i : ℕ) (e d : Held) → Compacts t first xs ys 0 count word i → i < length ys → e ≡ get_or ys i d → e.op < 64 →
+    (more bit : ℕ) (stay : Bool) → stay ≡ does_stay t 0 e → more ≡ bool_byte stay → bit ≡ bool_byte stay →
+    Compacts t first xs (set ys count e) 0 (count + more) (bit_or word (bit * 2 ^ e.op % 2 ^ 64)) (i + 1)
+Compacts-other_next t first xs ys count word i e d h i_in is below more bit stay stay_is more_is bit_is =
+    let own : ℕ = bool_byte (is_by t e) in
+    let none : 0 - own ≡ 0 = omega arith in
+    subst (λ left. Compacts t first xs (set ys count e) left (count + more) (bit_or word (bit * 2 ^ e.op % 2 ^ 64)) (i + 1)) none
+    (Compacts-next t first xs ys 0 count word i e d h i_in is below more bit own stay stay_is more_is bit_is refl)

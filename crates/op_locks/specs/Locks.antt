@@ -1,7 +1,7 @@
 -- What a list of held operations means, and who of its transactions keeps another from an operation.
 use Rattle.std.specs.Prelude.{◌≡◌, ℕ, ◌-◌, ◌<◌, List, filter, length, Bool, not, ◌&&◌, ◌||◌, ◌==◌, nat_lt, Option, All}
 use Rattle.std.specs.Int.{bit_at}
-use Rattle.std.specs.List.{find, list_any}
+use Rattle.std.specs.List.{find}
 use Rattle.std.specs.Option.{option_map}
 use Rattle.type_table.specs.ConflictTable.{conflicts}
 use Rattle.object_trait.specs.Strike.{keep_first}
@@ -23,10 +23,6 @@ blocks rows t k e = not (is_by t e) && conflicts rows k e.op
 -- the holder of the earliest that does
 abbrev pub blocker : List (List Bool) → ℕ → ℕ → List Held → Option ℕ
 blocker rows t k held = option_map (λ e. e.by) (find (blocks rows t k) held)
-
--- t holds an operation
-abbrev pub holds : ℕ → List Held → Bool
-holds t held = list_any (is_by t) held
 
 -- how many operations t holds
 abbrev pub count_of : ℕ → List Held → ℕ

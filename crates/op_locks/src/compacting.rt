@@ -35,6 +35,25 @@ pub fn compact(held: &mut [Held], t: u32, first: usize) -> Kept
     Kept { count, word }
 }
 
+/// The same where none of t's stays, and so without a count of those that may.
+pub fn compact_others(held: &mut [Held], t: u32) -> Kept
+    requires { All (λ e. e.op < 64) held.old }
+    ensures within { result.count ≤ length held.old }
+    ensures list { take result.count held.new ≡ keep_first (is_by t) 0 held.old }
+    ensures word { HasBits result.word (take result.count held.new) }
+{
+    let mut count = 0;
+    let mut word = 0;
+    for i in 0..held.len() {
+        let entry = held[i];
+        let stays = stays(entry, t, 0);
+        held[count] = entry;
+        count += usize::from(stays);
+        word |= u64::from(stays) << entry.op;
+    }
+    Kept { count, word }
+}
+
 /// Whether an entry stays, where so many of t's may.
 fn stays(entry: Held, t: u32, left: usize) -> bool
     ensures { result ≡ stays t left entry }

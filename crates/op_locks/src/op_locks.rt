@@ -1,8 +1,8 @@
 ghost use Rattle.std.specs.Prelude.{◌≡◌, ◌≤◌, ◌<◌, ◌+◌, ◌++◌, ◌∷◌, [], All, length, IsOk, OnOk, OnErr};
-ghost use Rattle.op_locks.specs.Locks.{blocker, holds, is_by, count_of, without, without_last};
+ghost use Rattle.op_locks.specs.Locks.{blocker, is_by, count_of, without, without_last};
 ghost use Rattle.object_trait.specs.Strike.{keep_first};
 
-use crate::compacting::compact;
+use crate::compacting::{compact, compact_others};
 use crate::held::Held;
 use object_trait::keeps_none;
 use smallvec::SmallVec;
@@ -60,13 +60,6 @@ impl OpLocks {
         None
     }
 
-    /// Whether the transaction t holds an operation.
-    pub fn holds(&self, t: u32) -> bool
-        ensures { result ≡ holds t self.now.held }
-    {
-        self.held.as_slice().iter().any(|held| held.by == t)
-    }
-
     /// Makes room for one more, at the least.
     #[inline(always)]
     pub fn reserve(&mut self) -> Result<(), AllocError>
@@ -98,7 +91,7 @@ impl OpLocks {
         ensures room { self.old.room ≤ self.new.room }
     {
         keeps_none::<Held>();
-        self.keep(t, 0);
+        self.keep_others(t);
     }
 
     /// Takes out the last m of what the transaction t holds. The rest keeps its order.
@@ -120,6 +113,16 @@ impl OpLocks {
             .iter()
             .filter(|held| held.by == t)
             .count()
+    }
+
+    // Takes out all that t holds.
+    fn keep_others(&mut self, t: u32)
+        ensures list { self.new.held ≡ keep_first (is_by t) 0 self.old.held }
+        ensures room { self.old.room ≤ self.new.room }
+    {
+        let kept = compact_others(self.held.as_mut_slice(), t);
+        self.held.truncate(kept.count);
+        self.word = kept.word;
     }
 
     // Takes out all that t holds but the first of it, so many as `first` says.

@@ -1,8 +1,8 @@
 //! Worked examples of the definitions: each function does nothing, and its contract is the example.
 
-ghost use Rattle.std.specs.Prelude.{◌≡◌, true, false, [], ◌∷◌, Some, None};
+ghost use Rattle.std.specs.Prelude.{◌≡◌, [], ◌∷◌, Some, None};
 ghost use Rattle.type_table.specs.Examples.{forward_pairs};
-ghost use Rattle.op_locks.specs.Locks.{blocker, holds, count_of, without, without_last};
+ghost use Rattle.op_locks.specs.Locks.{blocker, count_of, without, without_last};
 ghost use Rattle.op_locks.specs.Examples.{hold, three_held, one_pair};
 
 pub fn the_earliest_blocks()
@@ -22,9 +22,8 @@ pub fn requested_against_held()
 {}
 
 pub fn three_are_held()
-    ensures some { holds 4 three_held ≡ true }
-    ensures none { holds 6 three_held ≡ false }
     ensures two { count_of 4 three_held ≡ 2 }
+    ensures none { count_of 6 three_held ≡ 0 }
 {}
 
 pub fn others_stay_in_order()

@@ -1,18 +1,20 @@
 -- What a history says after one more event.
-use Rattle.std.proofs.Common.{◌≡◌, ℕ, suc, ◌<◌, Bool, true, false, not, ◌&&◌, ◌||◌, ◌==◌, nat_lt, List, [], ◌∷◌, ◌++◌, refl, sym, ap, ◌∙◌, inl, inr, append-nil, arith}
-use Rattle.std.proofs.lemmas.Bool.{cases_Bool, eqb-true, false≢true}
+use Rattle.std.proofs.Common.{◌≡◌, ℕ, suc, ◌<◌, Bool, true, false, not, ◌&&◌, ◌||◌, ◌==◌, nat_lt, List, [], ◌∷◌, ◌++◌, map, refl, sym, ap, ◌∙◌, inl, inr, append-nil, arith}
+use Rattle.std.proofs.lemmas.Bool.{cases_Bool, eqb-true}
 use Rattle.std.proofs.lemmas.Bool.Decides.{nat_tests}
+use Rattle.type_table.specs.Table.{Table}
 use Rattle.object_trait.specs.Object.{Object}
 use Rattle.object_trait.specs.declared.event.EventKind.{EventKind}
 use Rattle.object_trait.specs.declared.event.EventKind.TheVariants as kind
 use Rattle.object_trait.specs.declared.event.EventKind.TheVariants.{Begin, Op, Busy, Commit, Abort, Rollback}
 use Rattle.serial_order.specs.Operations.{is_among}
-use Rattle.serial_order.specs.History.{Seen, is_open}
+use Rattle.serial_order.specs.History.{Seen, is_open, MayStand}
 use Rattle.serial_order.specs.Machine.{May}
-use Rattle.serial_order.specs.After.{after, SeenAfter, AreInRun, TransactionsInRun, is_open_after}
+use Rattle.serial_order.specs.After.{after, SeenAfter, AreInRun, TransactionsInRun, is_open_after, HistoryOpensAfter}
 use Rattle.serial_order.proofs.Events.{seen_after, seen-snoc}
 use Rattle.serial_order.proofs.Lists.{eqb-sym, is_among-snoc}
-use Rattle.serial_order.proofs.Runs.{transactions_in_run}
+use Rattle.serial_order.proofs.MayStand.{may_stand}
+use Rattle.serial_order.proofs.Runs.{after_event, transactions_in_run}
 
 -- what is seen after an event is told by its kind
 of_kind : (s : Seen) (happened : EventKind) → seen_after s happened ≡ after s happened
@@ -84,12 +86,19 @@ open-abort : (s : Seen) (t u : ℕ) → is_open (after s (Abort t)) u ≡ (not (
 open-abort s t u =
     rw (is_among-snoc s.aborted t u, eqb-sym t u) (pick-second (nat_lt u s.begun) (is_among s.committed u) (is_among s.aborted u) (u == t))
 
--- any event
+-- any event that may stand
+open-stands : (tables : List Table) (s : Seen) (happened : EventKind) → AreInRun s → MayStand tables s happened → (u : ℕ) → is_open (after s happened) u ≡ is_open_after s happened u
+open-stands tables s (Begin t) known may u = rw may (open-begin s u known)
+open-stands tables s (Op t x k) known may u = refl
+open-stands tables s (Busy c t x v) known may u = refl
+open-stands tables s (kind.None t x c) known may u = refl
+open-stands tables s (Commit t) known may u = open-commit s t u
+open-stands tables s (Abort t) known may u = open-abort s t u
+open-stands tables s (Rollback t n) known may u = refl
+
+-- any event that the machine allows
 pub open-after : (objects : List Object) (s : Seen) (happened : EventKind) → AreInRun s → May objects s happened → (u : ℕ) → is_open (after s happened) u ≡ is_open_after s happened u
-open-after objects s (Begin t) known may u = rw may (open-begin s u known)
-open-after objects s (Op t x k) known may u = refl
-open-after objects s (Busy c t x v) known may u = refl
-open-after objects s (kind.None t x c) known may u = refl
-open-after objects s (Commit t) known may u = open-commit s t u
-open-after objects s (Abort t) known may u = open-abort s t u
-open-after objects s (Rollback t n) known may u = refl
+open-after objects s happened known may = open-stands (map (λ (o : Object). o.table) objects) s happened known (may_stand objects s happened may)
+
+pub history_opens_after : HistoryOpensAfter
+history_opens_after = λ tables s happened known may. (rw (sym (of_kind s happened)) (after_event tables s happened may known), open-stands tables s happened known may)

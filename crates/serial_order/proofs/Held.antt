@@ -1,8 +1,8 @@
 -- What open transactions hold at an object, and what one transaction did, after one more event.
-use Rattle.std.proofs.Common.{◌≡◌, ℕ, zero, suc, ◌+◌, ◌-◌, ◌<◌, Bool, true, false, cond, not, ◌&&◌, ◌||◌, ◌==◌, List, [], ◌∷◌, ◌++◌, filter, take, length, Some, refl, sym, ap, ◌∙◌, inl, inr, append-nil, arith}
+use Rattle.std.proofs.Common.{◌≡◌, ℕ, ◌-◌, ◌<◌, Bool, true, false, cond, not, ◌&&◌, ◌||◌, ◌==◌, List, [], ◌∷◌, ◌++◌, filter, take, length, Some, refl, sym, ap, ◌∙◌, inl, inr, arith}
 use Rattle.std.specs.List.{AllByRecursion}
 use Rattle.std.proofs.Math.Bool.{and_comm}
-use Rattle.std.proofs.lemmas.Bool.{cases_Bool, eqb-true, not-true, and_parts}
+use Rattle.std.proofs.lemmas.Bool.{cases_Bool, eqb-true, and_parts}
 use Rattle.std.proofs.lemmas.Bool.Decides.{nat_tests}
 use Rattle.std.proofs.lemmas.List.Elements.{filter_agree}
 use Rattle.object_trait.specs.Object.{Object}
@@ -14,7 +14,6 @@ use Rattle.serial_order.specs.Operations.{at_object, is_by, of}
 use Rattle.serial_order.specs.History.{Seen, is_open}
 use Rattle.serial_order.specs.Machine.{May}
 use Rattle.serial_order.specs.Stand.{struck_at}
-use Rattle.serial_order.specs.View.{conflicts_with}
 use Rattle.serial_order.specs.Answer.{earliest}
 use Rattle.serial_order.specs.After.{after, AreInRun, is_open_after}
 use Rattle.serial_order.specs.Held.{held_at, HeldAfter, BlockerIsHeld, OwnAfter}

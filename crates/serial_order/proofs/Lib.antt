@@ -8,6 +8,7 @@ pub mod Facts
 pub mod Undo
 pub mod Deferred
 pub mod Events
+pub mod MayStand
 pub mod Runs
 pub mod Histories
 pub mod Reach

@@ -1,5 +1,5 @@
 -- How many transactions are open after one more event, who began them, and where their operations are.
-use Rattle.std.proofs.Common.{◌≡◌, ℕ, zero, suc, ◌+◌, ◌-◌, ◌<◌, ◌≤◌, Bool, true, false, cond, not, ◌&&◌, ◌||◌, ◌==◌, nat_lt, List, [], ◌∷◌, ◌++◌, filter, length, map, slice_get, refl, sym, ap, ◌∙◌, inl, inr, append-nil, length-append, zero-add, arith, ◌≢◌}
+use Rattle.std.proofs.Common.{◌≡◌, ℕ, zero, suc, ◌+◌, ◌-◌, ◌<◌, Bool, true, false, cond, not, ◌&&◌, ◌||◌, ◌==◌, List, [], ◌∷◌, ◌++◌, filter, length, map, slice_get, refl, sym, ap, ◌∙◌, inl, inr, append-nil, length-append, zero-add, arith, ◌≢◌}
 use Rattle.std.specs.List.{range_with_len, AllByRecursion}
 use Rattle.std.proofs.lemmas.Bool.{cases_Bool, eqb-true, eq-eqb, false≢true}
 use Rattle.std.proofs.lemmas.Bool.Decides.{nat_tests}
@@ -12,13 +12,13 @@ use Rattle.object_trait.specs.declared.event.EventKind.TheVariants as kind
 use Rattle.object_trait.specs.declared.event.EventKind.TheVariants.{Begin, Op, Busy, Commit, Abort, Rollback}
 use Rattle.serial_order.specs.Operations.{is_by, of}
 use Rattle.serial_order.specs.History.{Seen, seen, is_open, is_begin, begins, IsOperation, stand_after, standing}
-use Rattle.serial_order.specs.Machine.{May, IsRun}
+use Rattle.serial_order.specs.Machine.{May}
 use Rattle.serial_order.specs.Replay.{open_count}
-use Rattle.serial_order.specs.After.{after, AreInRun, is_open_after, CountsTo, OpensAfter, beginner, beginners, BeginnersAfter, OperationsInRun}
+use Rattle.serial_order.specs.After.{after, AreInRun, CountsTo, OpensAfter, beginner, beginners, BeginnersAfter, OperationsInRun}
 use Rattle.serial_order.specs.declared.entry.Entry.{Entry}
 use Rattle.serial_order.proofs.After.{open-after}
-use Rattle.serial_order.proofs.Events.{begun_after, begins-snoc, standing-snoc}
-use Rattle.serial_order.proofs.Histories.{may_stand}
+use Rattle.serial_order.proofs.Events.{standing-snoc}
+use Rattle.serial_order.proofs.MayStand.{may_stand}
 use Rattle.serial_order.proofs.Pairs.{each-append, each-keep_first}
 use Rattle.serial_order.proofs.Runs.{in_run, of_open}
 

@@ -6,7 +6,7 @@ use Rattle.std.proofs.lemmas.Bool.{cases_Bool, false≢true, true≢false, not-f
 use Rattle.std.proofs.lemmas.List.{get_or-map}
 use Rattle.std.proofs.lemmas.List.Quantifiers.{position-Some}
 use Rattle.std.proofs.lemmas.Slice.Eq.{bytes_eq-Decides}
-use Rattle.type_table.specs.Table.{Table, first_op, call_of}
+use Rattle.type_table.specs.Table.{Table, call_of}
 use Rattle.type_table.specs.declared.op.Op.{Op}
 use Rattle.object_trait.specs.Object.{Object}
 use Rattle.object_trait.specs.declared.event.Event.{Event}
@@ -14,9 +14,9 @@ use Rattle.object_trait.specs.declared.event.EventKind.{EventKind}
 use Rattle.object_trait.specs.declared.event.EventKind.TheVariants as kind
 use Rattle.serial_order.specs.Operations.{of}
 use Rattle.serial_order.specs.History.{seen, is_open}
-use Rattle.serial_order.specs.Machine.{IsFirstOfCall, May, IsRun}
+use Rattle.serial_order.specs.Machine.{May, IsRun}
 use Rattle.serial_order.specs.Replay.{call_at, refusal, call_event, event_of, after_command, replay_from, replay}
-use Rattle.serial_order.specs.Laws.{RunGoesOn, ReplayRuns, CommandAppends, RefusedAppendsNothing, ReplaysJoin}
+use Rattle.serial_order.specs.Laws.{FirstOpIsLeast, RunGoesOn, ReplayRuns, CommandAppends, RefusedAppendsNothing, ReplaysJoin}
 use Rattle.serial_order.specs.Answer.{event_of_call}
 use Rattle.serial_order.specs.declared.command.Command.{Command}
 use Rattle.serial_order.specs.declared.command.Command.TheVariants.{Begin, Call, Commit, Abort, Rollback}
@@ -30,8 +30,8 @@ call_of-within : (T : Table) (k : ℕ) (d : Op) → k < length T.ops → call_of
 call_of-within T k d below = get_or-map (λ (o : Op). o.call) T.ops k d [] below
 
 -- the operation that a name finds is an operation, and the least of its call
-first_op-least : (o : Object) (name : List ℕ) (c : ℕ) → first_op o.table name ≡ Some c → IsFirstOfCall o c
-first_op-least o name c found =
+pub first_op_is_least : FirstOpIsLeast
+first_op_is_least = λ o name c found.
     let d : Op = record { call = []; reply = [] } in
     let place = position-Some (λ (q : Op). bytes_eq q.call name) o.table.ops c d found in
     let name_of_c = call_of-within o.table c d place.0 ∙ (bytes_eq-Decides (get_or o.table.ops c d).call name).0 place.1 in (
@@ -65,7 +65,7 @@ call_follows : (objects : List Object) (H : List Event) (t x : ℕ) (name : List
 call_follows objects H t x name open_now None at_x some first finds named = absurd (false≢true some)
 call_follows objects H t x name open_now (Some o) at_x some None finds named = absurd (false≢true named)
 call_follows objects H t x name open_now (Some o) at_x some (Some c) finds named =
-    record { happened = event_of_call o (seen H) x t c; is = refl; follows = answer_may_follow objects H x o 0 t c at_x open_now (first_op-least o name c finds) }
+    record { happened = event_of_call o (seen H) x t c; is = refl; follows = answer_may_follow objects H x o 0 t c at_x open_now (first_op_is_least o name c finds) }
 
 -- a rollback of some operations, and of no more than there are
 rollback_range : (n most : ℕ) → (n == 0 || nat_lt most n) ≡ false → (0 < n) × (n ≤ most)

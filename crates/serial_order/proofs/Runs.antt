@@ -1,19 +1,20 @@
 -- Runs of the machine: what is so of the empty history and stays so by each event that may follow is so of each run.
-use Rattle.std.proofs.Common.{◌≡◌, ℕ, true, false, not, ◌<◌, List, [], ◌∷◌, ◌++◌, nat_lt, refl, ◌∙◌, append-nil, append_assoc, arith, lt-ltb}
-use Rattle.std.specs.List.{AllByRecursion}
+use Rattle.std.proofs.Common.{◌≡◌, ℕ, true, false, not, ◌<◌, List, [], ◌∷◌, ◌++◌, nat_lt, refl, ◌∙◌, append-nil, append_assoc, map, arith, lt-ltb}
 use Rattle.std.proofs.lemmas.Bool.{false≢true, and_parts, not-true, ltb-true}
+use Rattle.type_table.specs.Table.{Table}
 use Rattle.object_trait.specs.Object.{Object}
 use Rattle.object_trait.specs.declared.event.Event.{Event}
 use Rattle.object_trait.specs.declared.event.EventKind.{EventKind}
 use Rattle.object_trait.specs.declared.event.EventKind.TheVariants as kind
 use Rattle.object_trait.specs.declared.event.EventKind.TheVariants.{Begin, Op, Busy, Commit, Abort, Rollback}
 use Rattle.serial_order.specs.Operations.{is_among, is_by}
-use Rattle.serial_order.specs.History.{seen, Seen, is_open}
-use Rattle.serial_order.specs.Machine.{May, MayFollow, RunsOn, IsRun}
+use Rattle.serial_order.specs.History.{seen, Seen, is_open, MayStand}
+use Rattle.serial_order.specs.Machine.{MayFollow, RunsOn, IsRun}
 use Rattle.serial_order.specs.After.{AreInRun}
 use Rattle.serial_order.proofs.Strikes.{keep_first-none}
 use Rattle.serial_order.proofs.Pairs.{each-weaker, each-append, each-passes, each-keep_first}
 use Rattle.serial_order.proofs.Events.{seen_after, seen-snoc}
+use Rattle.serial_order.proofs.MayStand.{may_stand}
 use Rattle.serial_order.proofs.Lists.{eqb-sym, is_among-apart, is_among-none_more, is_among-one_more}
 
 -- ---- from event to event
@@ -116,15 +117,15 @@ after_rollback s t n h = rw (append-nil s.committed, append-nil s.aborted) recor
   stand = each-keep_first _ (is_by t) _ s.stands h.stand;
 }
 
--- each event that may follow keeps it
-after_event : (objects : List Object) (s : Seen) (happened : EventKind) → May objects s happened → AreInRun s → AreInRun (seen_after s happened)
-after_event objects s (Begin t) may h = after_begin s t h
-after_event objects s (Op t x k) may h = after_op s t x k may.0 h
-after_event objects s (Busy c t x u) may h = after_nothing s h
-after_event objects s (kind.None t x c) may h = after_nothing s h
-after_event objects s (Commit t) may h = after_commit s t may h
-after_event objects s (Abort t) may h = after_abort s t may h
-after_event objects s (Rollback t n) may h = after_rollback s t n h
+-- each event that may stand keeps it
+pub after_event : (tables : List Table) (s : Seen) (happened : EventKind) → MayStand tables s happened → AreInRun s → AreInRun (seen_after s happened)
+after_event tables s (Begin t) may h = after_begin s t h
+after_event tables s (Op t x k) may h = after_op s t x k may.0 h
+after_event tables s (Busy c t x u) may h = after_nothing s h
+after_event tables s (kind.None t x c) may h = after_nothing s h
+after_event tables s (Commit t) may h = after_commit s t may h
+after_event tables s (Abort t) may h = after_abort s t may h
+after_event tables s (Rollback t n) may h = after_rollback s t n h
 
 -- it is so of the empty history
 at_start : AreInRun (seen [])
@@ -137,4 +138,4 @@ at_start = record {
 
 -- and so of each run
 pub transactions_in_run : (objects : List Object) (H : List Event) → IsRun objects H → AreInRun (seen H)
-transactions_in_run objects = in_run objects (λ H. AreInRun (seen H)) at_start (λ H e run may known. rw (seen-snoc H e) (after_event objects (seen H) e.kind may known))
+transactions_in_run objects = in_run objects (λ H. AreInRun (seen H)) at_start (λ H e run may known. rw (seen-snoc H e) (after_event (map (λ (o : Object). o.table) objects) (seen H) e.kind (may_stand objects (seen H) e.kind may) known))

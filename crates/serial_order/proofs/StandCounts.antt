@@ -1,5 +1,5 @@
 -- Objects that represent a history: how long their logs are, and which entries are open.
-use Rattle.std.proofs.Common.{◌≡◌, ℕ, zero, suc, ◌+◌, ◌-◌, ◌<◌, ◌≤◌, ◌==◌, Bool, true, false, not, List, [], ◌∷◌, ◌++◌, map, filter, length, fold, refl, sym, ap, ◌∙◌, inl, inr, length-append, arith}
+use Rattle.std.proofs.Common.{◌≡◌, ℕ, suc, ◌+◌, ◌-◌, ◌<◌, ◌≤◌, ◌==◌, Bool, true, false, not, List, [], ◌∷◌, map, filter, length, fold, refl, sym, ap, ◌∙◌, inl, inr, length-append, arith}
 use Rattle.std.specs.List.{AllByRecursion}
 use Rattle.std.proofs.lemmas.Bool.{cases_Bool, false≢true}
 use Rattle.std.proofs.lemmas.List.{length-map}
@@ -8,18 +8,18 @@ use Rattle.type_table.specs.declared.kind.Kind.{Kind}
 use Rattle.type_table.specs.declared.kind.Kind.TheVariants.{Undo, Intentions}
 use Rattle.object_trait.specs.Object.{Object}
 use Rattle.object_trait.specs.Strike.{keep_first}
-use Rattle.object_trait.specs.Meaning.{Meaning, object, ops_of, open_of}
+use Rattle.object_trait.specs.Meaning.{object, open_of}
 use Rattle.object_trait.specs.Steps.{open_transactions}
 use Rattle.object_trait.specs.declared.event.Event.{Event}
 use Rattle.object_trait.specs.declared.event.EventKind.{EventKind}
 use Rattle.object_trait.specs.declared.event.EventKind.TheVariants as kind
 use Rattle.object_trait.specs.declared.event.EventKind.TheVariants.{Begin, Op, Busy, Commit, Abort, Rollback}
 use Rattle.object_trait.specs.declared.log_entry.LogEntry.{LogEntry}
-use Rattle.serial_order.specs.Operations.{is_among, at_object, ops, is_by, of, pending}
+use Rattle.serial_order.specs.Operations.{is_among, ops, is_by, of}
 use Rattle.serial_order.specs.History.{Seen, seen, is_open, commits, stand_after, standing}
 use Rattle.serial_order.specs.Serial.{standing_at}
 use Rattle.serial_order.specs.Stand.{plain, StandsBy}
-use Rattle.serial_order.specs.After.{AreInRun, LogsAreCounted, IdleIsClosed}
+use Rattle.serial_order.specs.After.{LogsAreCounted, IdleIsClosed}
 use Rattle.serial_order.specs.declared.entry.Entry.{Entry}
 use Rattle.serial_order.proofs.Strikes.{keep_first-next}
 use Rattle.serial_order.proofs.Pairs.{each-weaker, each-both, each-rest, each-from_map, each-filter}

@@ -1,20 +1,20 @@
 -- What a history says after one more event, told by what it said before; and what is known of every run. Statements of their laws.
 use Rattle.std.specs.Prelude.{◌≡◌, ℕ, suc, ◌-◌, ◌<◌, ◌≤◌, List, [], ◌∷◌, ◌++◌, length, map, Bool, true, false, not, ◌&&◌, ◌||◌, ◌==◌, slice_get}
 use Rattle.std.specs.List.{flat_map, AllByRecursion}
+use Rattle.type_table.specs.Table.{Table}
 use Rattle.object_trait.specs.Object.{Object}
 use Rattle.object_trait.specs.Strike.{keep_first}
-use Rattle.object_trait.specs.Meaning.{Meaning, object, ops_of, open_of}
+use Rattle.object_trait.specs.Meaning.{Meaning, ops_of, open_of}
 use Rattle.object_trait.specs.Steps.{open_transactions}
 use Rattle.object_trait.specs.declared.event.Event.{Event}
 use Rattle.object_trait.specs.declared.event.EventKind.{EventKind}
 use Rattle.object_trait.specs.declared.event.EventKind.TheVariants.{Begin, Op, Commit, Abort, Rollback}
 use Rattle.serial_order.specs.Operations.{is_among, ops, is_by, of}
-use Rattle.serial_order.specs.History.{Seen, seen, is_open, standing, IsOperation}
+use Rattle.serial_order.specs.History.{Seen, seen, is_open, standing, IsOperation, MayStand}
 use Rattle.serial_order.specs.Machine.{May, IsRun}
 use Rattle.serial_order.specs.Replay.{open_count}
 use Rattle.serial_order.specs.Serial.{standing_at}
 use Rattle.serial_order.specs.Stand.{StandsFor, IsIdle}
-use Rattle.serial_order.specs.declared.entry.Entry.{Entry}
 
 -- ---- one more event
 
@@ -64,6 +64,12 @@ abbrev pub OpensAfter : Type 0
 OpensAfter =
     (objects : List Object) (s : Seen) (happened : EventKind) → AreInRun s → May objects s happened
     → ((u : ℕ) → is_open (after s happened) u ≡ is_open_after s happened u) × CountsTo happened (open_count s) (open_count (after s happened))
+
+-- and so does one that may come next in a history, whether the machine allows it or not; and what is known stays so
+abbrev pub HistoryOpensAfter : Type 0
+HistoryOpensAfter =
+    (tables : List Table) (s : Seen) (happened : EventKind) → AreInRun s → MayStand tables s happened
+    → AreInRun (after s happened) × ((u : ℕ) → is_open (after s happened) u ≡ is_open_after s happened u)
 
 -- the worker by whose event a transaction began, where it is one
 abbrev pub beginner : ℕ → EventKind → List ℕ

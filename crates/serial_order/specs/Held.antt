@@ -1,5 +1,5 @@
 -- What open transactions hold at an object, and what one transaction did: after one more event. Statements of their laws.
-use Rattle.std.specs.Prelude.{◌≡◌, ℕ, ◌-◌, List, [], ◌∷◌, ◌++◌, length, filter, take, Bool, not, ◌&&◌, ◌==◌, if◌then◌else◌}
+use Rattle.std.specs.Prelude.{◌≡◌, ℕ, ◌-◌, List, [], ◌∷◌, ◌++◌, length, filter, take, not, ◌&&◌, ◌==◌, if◌then◌else◌}
 use Rattle.object_trait.specs.Object.{Object}
 use Rattle.object_trait.specs.Strike.{keep_first}
 use Rattle.object_trait.specs.declared.event.EventKind.{EventKind}

@@ -1,5 +1,6 @@
 -- Statements of laws: of histories, of the machine, and of objects that represent a history.
 use Rattle.std.specs.Prelude.{◌≡◌, ◌↔◌, ℕ, ◌+◌, ◌<◌, List, [], ◌∷◌, ◌++◌, length, map, Bool, true, false, not, ◌&&◌, ◌==◌, Some, None, slice_get}
+use Rattle.type_table.specs.Table.{first_op}
 use Rattle.type_table.specs.Run.{IsLegal}
 use Rattle.type_table.specs.declared.kind.Kind.TheVariants.{Undo}
 use Rattle.table_checker.specs.Checked.{Checked, IsChecked}
@@ -39,6 +40,10 @@ abbrev pub StandsAsRead : Type 0
 StandsAsRead = (H : List Event) → standing H ≡ staying H
 
 -- ---- answers
+
+-- the operation that a name finds is one of the table, and the least of its call
+abbrev pub FirstOpIsLeast : Type 0
+FirstOpIsLeast = (o : Object) (name : List ℕ) (c : ℕ) → first_op o.table name ≡ Some c → IsFirstOfCall o c
 
 -- the answer of a call is one that the machine allows
 abbrev pub AnswerMayFollow : Type 0

@@ -2,9 +2,9 @@
 //! each is a function that does nothing, whose contract is the law. It calls the laws on which it
 //! depends.
 
-ghost use Rattle.serial_order.specs.After.{SeenAfter, TransactionsInRun, OpensAfter, BeginnersAfter, OperationsInRun, LogsAreCounted, IdleIsClosed};
+ghost use Rattle.serial_order.specs.After.{SeenAfter, TransactionsInRun, OpensAfter, HistoryOpensAfter, BeginnersAfter, OperationsInRun, LogsAreCounted, IdleIsClosed};
 ghost use Rattle.serial_order.specs.Held.{HeldAfter, BlockerIsHeld, OwnAfter};
-ghost use Rattle.serial_order.specs.Laws.{RunIsHistory, RunGoesOn, StandsAsRead, AnswerMayFollow, ReplayRuns, CommandAppends, RefusedAppendsNothing, ReplaysJoin, SortsIntoCommitOrder, StruckViewIsLegal, ViewsAreLegal, CommitKeepsViews, FreshStands, StandsOn, AllowsAlike, MachineMayApply, Headline, CheckedHeadline};
+ghost use Rattle.serial_order.specs.Laws.{RunIsHistory, RunGoesOn, StandsAsRead, FirstOpIsLeast, AnswerMayFollow, ReplayRuns, CommandAppends, RefusedAppendsNothing, ReplaysJoin, SortsIntoCommitOrder, StruckViewIsLegal, ViewsAreLegal, CommitKeepsViews, FreshStands, StandsOn, AllowsAlike, MachineMayApply, Headline, CheckedHeadline};
 
 use crate::entry::Entry;
 use object_trait::{checked_is_covered, parts_sort, sorts_equi, sorts_look, struck_part};
@@ -39,6 +39,13 @@ pub fn transactions_in_run()
 #[tactic(auto, using(crate::proofs::Opens::opens_after))]
 pub fn opens_after()
     ensures { OpensAfter }
+{}
+
+/// Who is open after an event that may stand in a history, and that what is known of the transactions
+/// of a run stays so, whether the machine allows the event or not.
+#[tactic(auto, using(crate::proofs::After::history_opens_after))]
+pub fn history_opens_after()
+    ensures { HistoryOpensAfter }
 {}
 
 /// Who began each transaction of a history, after one more event.
@@ -89,6 +96,12 @@ pub fn idle_is_closed()
 #[tactic(auto, using(crate::proofs::Readings::stands_as_read))]
 pub fn stands_as_read()
     ensures { StandsAsRead }
+{}
+
+/// The operation that a name finds is one of the table, and the least of its call.
+#[tactic(auto, using(crate::proofs::Replays::first_op_is_least))]
+pub fn first_op_is_least()
+    ensures { FirstOpIsLeast }
 {}
 
 /// The answer of a call, as defined, is one that the machine allows, also where it is `Busy` or

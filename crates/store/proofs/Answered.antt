@@ -1,14 +1,10 @@
 -- A call at an object: its answer, and what that changes.
-use Rattle.std.proofs.Common.{◌≡◌, ℕ, ◌+◌, ◌<◌, ◌≤◌, Bool, true, false, not, nat_lt, nat_le, List, [], ◌∷◌, ◌++◌, length, map, set, get_or, Option, Some, Ok, Err, slice_get, refl, sym, ap, subst, ◌∙◌, inl, inr, arith}
+use Rattle.std.proofs.Common.{◌≡◌, ℕ, ◌+◌, ◌<◌, ◌≤◌, Bool, true, false, not, nat_le, List, [], ◌∷◌, ◌++◌, length, map, set, get_or, Option, Some, Ok, Err, slice_get, refl, sym, ap, subst, ◌∙◌, inl, inr, arith}
 use Rattle.std.specs.Option.{option_map}
-use Rattle.std.specs.Str.{bytes_eq}
-use Rattle.std.proofs.lemmas.Bool.{and_right}
 use Rattle.std.proofs.lemmas.Bool.Decides.{nat_tests}
-use Rattle.std.proofs.lemmas.List.{length-map, get_or-map}
-use Rattle.std.proofs.lemmas.List.Quantifiers.{position-Some}
+use Rattle.std.proofs.lemmas.List.{length-map}
 use Rattle.std.proofs.lemmas.Option.{slice_get-map, slice_get_within}
 use Rattle.type_table.specs.Table.{call_of}
-use Rattle.type_table.specs.declared.op.Op.{Op}
 use Rattle.object_trait.specs.Object.{Object, object_of}
 use Rattle.object_trait.specs.Meaning.{Meaning, object}
 use Rattle.object_trait.specs.Steps.{MayApply}
@@ -19,7 +15,7 @@ use Rattle.serial_order.specs.Machine.{IsFirstOfCall, MayFollow}
 use Rattle.serial_order.specs.Answer.{event_of_call}
 use Rattle.serial_order.specs.Replay.{open_count, is_full, call_event}
 use Rattle.serial_order.specs.After.{LogsAreCounted}
-use Rattle.serial_order.specs.Laws.{AnswerMayFollow, MachineMayApply}
+use Rattle.serial_order.specs.Laws.{FirstOpIsLeast, AnswerMayFollow, MachineMayApply}
 use Rattle.serial_order.specs.declared.refusal.Refusal.TheVariants.{HistoryFull, NoMemory}
 use Rattle.call_table.specs.Calls.{IsCall}
 use Rattle.call_table.specs.declared.call.Call.{Call}
@@ -111,16 +107,8 @@ still-open says ms locks rows H max s t same kept going =
     sym (open-alike says ms locks rows H t kept) ∙ subst (λ (z : Stored). is_open (seen z.history) t ≡ true) (sym same) going
 
 -- and of the least of its operations
-pub call-least : (o : Object) (call : Call) → IsCall o.table call → IsFirstOfCall o call.first
-call-least o call is =
-    let T = o.table in
-    let name = call_of T call.first in
-    let d : Op = record { call = []; reply = [] } in
-    let place = position-Some (λ (q : Op). bytes_eq q.call name) T.ops call.first d is.least in (
-      place.0,
-      λ k before. and_right (nat_lt k (length T.ops)) (bytes_eq (call_of T k) name)
-          (ap (λ n. bytes_eq n name) (get_or-map (λ (q : Op). q.call) T.ops k d [] (omega (arith, before, place.0))) ∙ place.2 k before),
-    )
+call-least : FirstOpIsLeast → (o : Object) (call : Call) → IsCall o.table call → IsFirstOfCall o call.first
+call-least least o call is = least o (call_of o.table call.first) call.first is.least
 
 -- ---- room for its event
 
@@ -154,20 +142,20 @@ module _ {ms : List Meaning} {locks : List Locks} {rows : List (Option Row)} {H 
   answer-defined defined = ap (λ o. call_event o (seen H) x t (Some call.first)) (object-at ms x m called.there) ∙ ap Some (sym (answer-event defined))
 
   -- which may follow
-  pub answer-follows : AnswersAsDefined → AnswerMayFollow → (w : ℕ) → MayFollow (objects_of ms) H (record { worker = w; kind = as_event t x call.first a })
-  answer-follows defined follow w =
+  pub answer-follows : AnswersAsDefined → FirstOpIsLeast → AnswerMayFollow → (w : ℕ) → MayFollow (objects_of ms) H (record { worker = w; kind = as_event t x call.first a })
+  answer-follows defined least follow w =
       subst (λ happened. MayFollow (objects_of ms) H (record { worker = w; kind = happened })) (sym (answer-event defined))
-      (follow (objects_of ms) H x (object m) w t call.first (object-at ms x m called.there) called.going (call-least (object m) call called.is_call))
+      (follow (objects_of ms) H x (object m) w t call.first (object-at ms x m called.there) called.going (call-least least (object m) call called.is_call))
 
   -- so that a reply may be executed
-  pub reply-may : AnswersAsDefined → AnswerMayFollow → MachineMayApply → LogsAreCounted → (k max : ℕ) → a ≡ answer.Reply k → is_full max H 1 ≡ false → max ≤ 4294967295
+  pub reply-may : AnswersAsDefined → FirstOpIsLeast → AnswerMayFollow → MachineMayApply → LogsAreCounted → (k max : ℕ) → a ≡ answer.Reply k → is_full max H 1 ≡ false → max ≤ 4294967295
       → MayApply m t k
-  reply-may defined follow machine counted k max replies room fits =
+  reply-may defined least follow machine counted k max replies room fits =
       let represents = (called.kept.objects x m called.there).represents in
       let log = (counted m x H represents).short in
       let limited = room-left H max room in
       machine (objects_of ms) H 0 t x k m called.kept.run
-      (subst (λ b. MayFollow (objects_of ms) H (record { worker = 0; kind = as_event t x call.first b })) replies (answer-follows defined follow 0))
+      (subst (λ b. MayFollow (objects_of ms) H (record { worker = 0; kind = as_event t x call.first b })) replies (answer-follows defined least follow 0))
       (object-at ms x m called.there) represents (omega (arith, log, limited, fits))
 
 -- and is one of 64 operations

@@ -8,11 +8,11 @@ use Rattle.object_trait.specs.declared.event.Event.{Event}
 use Rattle.serial_order.specs.Operations.{of}
 use Rattle.serial_order.specs.History.{seen, is_open}
 use Rattle.op_locks.specs.Locks.{Locks}
-use Rattle.object_calls.specs.Ends.{HoldsAt, HasLast}
+use Rattle.object_calls.specs.Ends.{HasLast}
 use Rattle.open_transactions.specs.Transactions as table
 use Rattle.open_transactions.specs.Transactions.{Row, row, places_of}
 use Rattle.store_laws.specs.Kept.{keeping, IsKept}
-use Rattle.store_laws.specs.Before.{last_places, RowsSayWhoIsOpen, PlacesAreCounted, PlacesAreFew, PlacesAreInside, HoldsWhereItWorks, HasWhatIsStruck}
+use Rattle.store_laws.specs.Before.{last_places, RowsSayWhoIsOpen, PlacesAreCounted, PlacesAreFew, PlacesAreInside, HasWhatIsStruck}
 
 -- something is there
 pub some-of : {A : Type 0} (o : Option A) → is_some o ≡ true → (a : A) × (o ≡ Some a)
@@ -43,9 +43,6 @@ module _ (ms : List Meaning) (locks : List Locks) (rows : List (Option Row)) (H 
   places-inside inside n many =
       subst (λ k. All (λ x. x < k) places) many
       (subst (λ ps. All (λ x. x < length ms) ps) row-places (inside (keeping ms locks rows) H t its-row.0 kept its-row.1))
-
-  pub places-held : HoldsWhereItWorks → HoldsAt t places locks
-  places-held holds = subst (λ ps. HoldsAt t ps locks) row-places (holds (keeping ms locks rows) H t its-row.0 locks kept its-row.1 refl)
 
   pub places-counted : PlacesAreCounted → length (of t (seen H).stands) ≡ length places
   places-counted counted = counted (keeping ms locks rows) H t its-row.0 kept its-row.1 ∙ ap length row-places

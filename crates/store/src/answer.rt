@@ -3,9 +3,11 @@
 ghost use Rattle.std.specs.Prelude.{◌≡◌, ℕ, true, Some, slice_get};
 ghost use Rattle.object_trait.specs.Object.{Object};
 ghost use Rattle.serial_order.specs.History.{seen, is_open};
+ghost use Rattle.serial_order.specs.Laws.{FirstOpIsLeast, AnswerMayFollow, MachineMayApply};
+ghost use Rattle.serial_order.specs.After.{LogsAreCounted};
 ghost use Rattle.call_table.specs.Calls.{IsCall};
 ghost use Rattle.store_laws.specs.Stored.{objects};
-ghost use Rattle.store_laws.specs.Words.{as_event};
+ghost use Rattle.store_laws.specs.Words.{as_event, AnswersAsDefined};
 ghost use Rattle.store.specs.Calls.{Comes};
 
 use crate::executing::execute;
@@ -14,7 +16,9 @@ use crate::store::Store;
 use call_table::Call;
 use object_calls::{Answer, choose};
 use object_trait::{Event, EventKind, Recovery};
-use serial_order::{Refusal, answer_may_follow, logs_are_counted, machine_may_apply};
+use serial_order::{
+    Refusal, answer_may_follow, first_op_is_least, logs_are_counted, machine_may_apply,
+};
 use store_laws::{
     answers_as_defined, held_are_operations, op_moves, quiet_moves, room_after, rows_are_counted,
     rows_say_who_is_open, stays_kept, types_stay,
@@ -30,10 +34,7 @@ impl<R: Recovery> Store<R> {
         rows_say_who_is_open();
         rows_are_counted();
         held_are_operations();
-        answers_as_defined();
-        answer_may_follow();
-        machine_may_apply();
-        logs_are_counted();
+        answers_are_known();
         quiet_moves();
         op_moves();
         stays_kept();
@@ -64,6 +65,22 @@ impl<R: Recovery> Store<R> {
         self.history.push_reserved(Event { worker: w, kind });
         Ok(answer)
     }
+}
+
+/// What is known of the answer of a call: it is the one that the history defines, and may follow, and
+/// its operation may be executed.
+fn answers_are_known()
+    ensures defined { AnswersAsDefined }
+    ensures least { FirstOpIsLeast }
+    ensures follows { AnswerMayFollow }
+    ensures applies { MachineMayApply }
+    ensures counted { LogsAreCounted }
+{
+    answers_as_defined();
+    first_op_is_least();
+    answer_may_follow();
+    machine_may_apply();
+    logs_are_counted();
 }
 
 /// The event of an answer of t's call c at object x.

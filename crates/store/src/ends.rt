@@ -8,8 +8,8 @@ use object_calls::{abort_at, commit_at};
 use object_trait::{Event, EventKind, Recovery};
 use serial_order::Refusal;
 use store_laws::{
-    abort_moves, commit_moves, holds_where_it_works, places_are_inside, room_after,
-    rows_are_counted, rows_say_who_is_open, stays_kept, types_stay,
+    abort_moves, commit_moves, places_are_inside, room_after, rows_are_counted,
+    rows_say_who_is_open, stays_kept, types_stay,
 };
 
 impl<R: Recovery> Store<R> {
@@ -24,7 +24,6 @@ impl<R: Recovery> Store<R> {
         rows_say_who_is_open();
         rows_are_counted();
         places_are_inside();
-        holds_where_it_works();
         commit_moves();
         stays_kept();
         room_after();
@@ -58,7 +57,6 @@ impl<R: Recovery> Store<R> {
         rows_say_who_is_open();
         rows_are_counted();
         places_are_inside();
-        holds_where_it_works();
         abort_moves();
         stays_kept();
         room_after();

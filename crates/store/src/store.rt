@@ -1,6 +1,7 @@
 //! The store, and what is read of it.
 
 ghost use Rattle.std.specs.Prelude.{◌≡◌, [], map, length, nat_lt, is_some, IfOk, IfErr, IfSome};
+ghost use Rattle.serial_order.specs.History.{begins};
 ghost use Rattle.serial_order.specs.Machine.{IsRun};
 ghost use Rattle.serial_order.specs.Serial.{IsSerial};
 ghost use Rattle.store_laws.specs.Stored.{objects, types_of};
@@ -92,6 +93,20 @@ impl<R: Recovery> Store<R> {
     {
         checked_headline();
         &self.history
+    }
+
+    /// How many transactions began.
+    pub fn begun(&self) -> u32
+        ensures { result ≡ begins self.now.history }
+    {
+        self.transactions.begun()
+    }
+
+    /// How many objects there are.
+    pub fn object_count(&self) -> u32
+        ensures { result ≡ length (objects self.now) }
+    {
+        self.objects.len() as u32
     }
 
     /// The state of the object at x, None where there is none. It agrees with the serial state.

@@ -86,7 +86,7 @@ filter-turned first second (e ∷ V) =
 -- ---- how many pass
 
 -- some element passes, where a filter keeps some
-pub any-count : {E : Type 0} (test : E → Bool) (V : List E) → list_any test V ≡ nat_lt 0 (length (filter test V))
+any-count : {E : Type 0} (test : E → Bool) (V : List E) → list_any test V ≡ nat_lt 0 (length (filter test V))
 any-count test [] = refl
 any-count test (e ∷ V) =
     elim (cases_Bool (test e)) [

@@ -1,6 +1,5 @@
 -- The places of an open transaction's operations: how many are at each object, in its log, in its lock list and in the transaction's row.
 use Rattle.std.proofs.Common.{◌≡◌, ℕ, zero, suc, ◌-◌, ◌<◌, true, false, ◌==◌, List, [], ◌∷◌, map, drop, length, Option, Some, All, option_map, slice_get, slice_index_or, refl, sym, ap, subst, ◌∙◌, arith}
-use Rattle.std.specs.Prelude.{nat_lt}
 use Rattle.std.specs.List.{list_any}
 use Rattle.std.proofs.lemmas.Bool.{eqb-true}
 use Rattle.std.proofs.lemmas.List.{length-map}
@@ -24,8 +23,8 @@ use Rattle.op_locks.specs.declared.held.Held.{Held}
 use Rattle.object_calls.specs.Ends.{count_at}
 use Rattle.open_transactions.specs.Transactions.{Row}
 use Rattle.store_laws.specs.Kept.{Keeping, held_of, as_held, objects_of, places_of, IsKept}
-use Rattle.store_laws.specs.Before.{IsOpenRow, last_places, PlacesAreInside, HeldAreOperations, HoldsWhereItWorks, HasWhatIsStruck}
-use Rattle.store_laws.proofs.Filters.{count-map, mine-within, filter-turned, any-count, count-none, count-drop}
+use Rattle.store_laws.specs.Before.{IsOpenRow, last_places, PlacesAreInside, HeldAreOperations, HasWhatIsStruck}
+use Rattle.store_laws.proofs.Filters.{count-map, mine-within, filter-turned, count-none, count-drop}
 use Rattle.store_laws.proofs.Lists.{inside-at}
 use Rattle.store_laws.proofs.Objects.{object-at}
 
@@ -101,14 +100,6 @@ module _ (k : Keeping) (H : List Event) (t : ℕ) (row : Row) (kept : IsKept k H
       ∙ count-map (λ (e : Entry). e.at) (λ y. y == x) (drop (length (of t (standing H)) - n) (of t (standing H))))
 
 -- ---- what the calls at the objects want
-
-pub holds_where_it_works : HoldsWhereItWorks
-holds_where_it_works = λ k H t row list kept there same. λ x l inside is.
-    let held : slice_get k.held x ≡ Some l.held = ap (λ all. slice_get all x) same ∙ held-at list x l is in
-    any-count (locks.is_by t) l.held
-    ∙ ap (nat_lt 0) (locks-count k H t row kept there x l.held held ∙ sym (own-count k H t row kept there x))
-    ∙ sym (any-count (λ y. y == x) row.places)
-    ∙ inside
 
 pub has_what_is_struck : LogsAreCounted → HasWhatIsStruck
 has_what_is_struck counted = λ k H t n row list kept there same.

@@ -10,7 +10,7 @@ use Rattle.serial_order.specs.History.{seen, is_open}
 use Rattle.serial_order.specs.Replay.{open_count}
 use Rattle.op_locks.specs.Locks.{Locks}
 use Rattle.op_locks.specs.declared.held.Held.{Held}
-use Rattle.object_calls.specs.Ends.{HoldsAt, HasLast}
+use Rattle.object_calls.specs.Ends.{HasLast}
 use Rattle.open_transactions.specs.Transactions.{Row}
 use Rattle.store_laws.specs.Kept.{Keeping, held_of, IsKept}
 
@@ -78,13 +78,7 @@ HeldAreOperations =
     (k : Keeping) (H : List Event) (x : ℕ) (m : Meaning) (held : List Held) → IsKept k H
     → slice_get k.meanings x ≡ Some m → slice_get k.held x ≡ Some held → All (λ e. e.op < length m.checked.file.table.ops) held
 
--- an open transaction holds something at each place of its operations
-abbrev pub HoldsWhereItWorks : Type 0
-HoldsWhereItWorks =
-    (k : Keeping) (H : List Event) (t : ℕ) (row : Row) (locks : List Locks) → IsKept k H → IsOpenRow k t row → k.held ≡ held_of locks
-    → HoldsAt t row.places locks
-
--- and wherever its last n operations are, it has as many open entries, and holds as many operations, as are struck there
+-- wherever an open transaction's last n operations are, it has as many open entries, and holds as many operations, as are struck there
 abbrev pub HasWhatIsStruck : Type 0
 HasWhatIsStruck =
     (k : Keeping) (H : List Event) (t n : ℕ) (row : Row) (locks : List Locks) → IsKept k H → IsOpenRow k t row → k.held ≡ held_of locks

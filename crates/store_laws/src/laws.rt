@@ -3,7 +3,7 @@
 
 ghost use Rattle.store_laws.specs.Moves.{StaysKept};
 ghost use Rattle.store_laws.specs.Words.{EndsAsHeld, StrikesAsHeld, BlocksAsHeld, AnswersAsDefined};
-ghost use Rattle.store_laws.specs.Before.{NewIsKept, RowsSayWhoIsOpen, RowsAreCounted, PlacesAreCounted, RowsAreFew, PlacesAreFew, PlacesAreInside, HeldAreOperations, HoldsWhereItWorks, HasWhatIsStruck};
+ghost use Rattle.store_laws.specs.Before.{NewIsKept, RowsSayWhoIsOpen, RowsAreCounted, PlacesAreCounted, RowsAreFew, PlacesAreFew, PlacesAreInside, HeldAreOperations, HasWhatIsStruck};
 ghost use Rattle.store_laws.specs.Events.{QuietMoves, BeginMoves, OpMoves, CommitMoves, AbortMoves, RollbackMoves, TypesStay, RoomAfter};
 
 use object_trait::{
@@ -125,12 +125,6 @@ pub fn held_are_operations()
 {
     operations_in_run();
 }
-
-/// An open transaction holds something at each place of its operations.
-#[tactic(auto, using(crate::proofs::Places::holds_where_it_works))]
-pub fn holds_where_it_works()
-    ensures { HoldsWhereItWorks }
-{}
 
 /// Wherever its last operations are, an open transaction has as many open entries, and holds as many
 /// operations, as a rollback strikes there.

@@ -3,7 +3,7 @@ use Rattle.std.proofs.Common.{◌≡◌, ◌⊎◌, ℕ, List, Option, None, Som
 use Rattle.type_text.specs.declared.type_file.TypeFile.{TypeFile}
 use Rattle.type_commands.specs.Made.{IsMadeOf, MakesFor, TellsMade, TellsTables, WritesFile, WritesTables}
 use Rattle.type_commands.specs.Request.{Wanted}
-use Rattle.type_commands.specs.Verdict.{Describes, ReadsFile}
+use Rattle.command_types.specs.Files.{Describes, ReadsFile}
 use Rattle.type_commands.proofs.VerdictLemmas.{not_no}
 use Rattle.std.specs.Io.KnownBytes.{Appends}
 use Rattle.type_text.specs.Canonical.{canonical_text}

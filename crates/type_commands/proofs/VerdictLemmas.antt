@@ -1,16 +1,10 @@
 -- Statuses and the texts of which they speak.
-use Rattle.std.proofs.Common.{◌≡◌, ◌≢◌, ◌⊎◌, ℕ, List, Option, None, Some, IfSome, Result, Ok, Err, subst, arith, inl, inr, ⊎_elim}
+use Rattle.std.proofs.Common.{◌≡◌, ◌≢◌, ◌⊎◌, ℕ, List, Option, None, Some, IfSome, Result, Ok, Err, subst, arith, ⊎_elim}
 use Rattle.std.specs.Result.{OnOk}
 use Rattle.type_table.specs.declared.kind.Kind.{Kind}
 use Rattle.type_text.specs.declared.type_file.TypeFile.{TypeFile}
-use Rattle.type_commands.specs.Verdict.{Tells, SaysYes, SaysNo, SaysOf, Writes, Describes, IsFaulty, ReadsFile, ReadsText}
-
--- what holds of the bytes that were read holds of what the source holds
-pub reads_held : (held : Option (List ℕ)) (text : List ℕ) (result : Result TypeFile ℕ) → IfSome held (λ content. text ≡ content) → ReadsText text result → ReadsFile held result
-reads_held None text (Ok file) same reads = tt
-reads_held None text (Err status) same reads = ⊎_elim (λ fault. inl (fault.0, tt)) (λ failed. inr failed) reads
-reads_held (Some content) text (Ok file) same reads = subst (λ (t : List ℕ). Describes t file) same reads
-reads_held (Some content) text (Err status) same reads = ⊎_elim (λ fault. inl (fault.0, subst IsFaulty same fault.1)) (λ failed. inr failed) reads
+use Rattle.command_types.specs.Files.{Describes, ReadsFile}
+use Rattle.type_commands.specs.Verdict.{Tells, SaysYes, SaysNo, SaysOf, Writes}
 
 -- what holds at a success holds of a result that is one
 pub at_success : {T E : Type 0} {P : Type 0} (result : Result T E) (value : T) → result ≡ Ok value → OnOk result P → P

@@ -9,7 +9,8 @@ use Rattle.table_maker.specs.declared.make_error.MakeError.TheVariants.{BadParam
 use Rattle.type_text.specs.Canonical.{canonical_text}
 use Rattle.type_text.specs.declared.type_file.TypeFile.{TypeFile}
 use Rattle.type_commands.specs.Request.{Fits, IsGood, Wanted, family_of}
-use Rattle.type_commands.specs.Verdict.{IsFaulty, SaysOf}
+use Rattle.command_types.specs.Files.{IsFaulty}
+use Rattle.type_commands.specs.Verdict.{SaysOf}
 
 -- the output took the canonical text of a file of which this holds
 pub record WritesFile (holds : TypeFile → Type 0) (old new : Option (List ℕ)) : Type 0 where

@@ -1,13 +1,14 @@
 //! `check`: whether a type file is good for a kind of recovery.
 
-ghost use Rattle.std.specs.Prelude.{◌≡◌, ◌≢◌, ◌≤◌, ◌⊎◌, ◌↔◌, Bool, true, None, IfSome, IfOk};
+ghost use Rattle.std.specs.Prelude.{◌≡◌, ◌≢◌, ◌≤◌, ◌⊎◌, ◌↔◌, Bool, true, None, IfSome};
 ghost use Rattle.std.specs.Io.KnownBytes.{Appends};
 ghost use Rattle.table_checker.specs.Checked.{IsStrong};
-ghost use Rattle.type_commands.specs.Verdict.{Tells, SaysYes, SaysNo, Writes, yes_line, no_line};
+ghost use Rattle.command_types.specs.Refusals.{no_line};
+ghost use Rattle.type_commands.specs.Verdict.{Tells, SaysYes, SaysNo, Writes, yes_line};
 
-use crate::read::read_file;
 use command_files::{FAILED, NO, Source, YES, out_of_memory};
-use std::alloc::{AllocError, Global};
+use command_types::{no_line, read_file};
+use std::alloc::Global;
 use std::thread::Threads;
 use table_checker::{CheckRefusal, CheckedType, check_parallel};
 use type_table::Kind;
@@ -90,21 +91,5 @@ fn say_no<W: Out, E: Out>(alloc: Global, refusal: CheckRefusal, out: &mut W, err
             Err(_) => FAILED,
         },
         Err(_) => out_of_memory(err),
-    }
-}
-
-/// The line of a no, spelled here and not by the refusal's `Display`, so that its bytes are proved.
-fn no_line(alloc: Global, refusal: CheckRefusal) -> Result<String, AllocError>
-    ensures { IfOk result (λ line. line.bytes.items ≡ no_line refusal) }
-{
-    match refusal {
-        CheckRefusal::InitialOutside => format!(in alloc; "no InitialOutside\n"),
-        CheckRefusal::NotClosed { s, k } => format!(in alloc; "no NotClosed {s} {k}\n"),
-        CheckRefusal::NotSimulation { s, t, k } => {
-            format!(in alloc; "no NotSimulation {s} {t} {k}\n")
-        }
-        CheckRefusal::NotCommuting { p, q, s } => {
-            format!(in alloc; "no NotCommuting {p} {q} {s}\n")
-        }
     }
 }

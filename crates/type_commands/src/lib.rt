@@ -4,7 +4,6 @@
 mod cannot_make;
 mod check;
 mod make;
-mod read;
 mod request;
 mod tables;
 mod write;

@@ -4,9 +4,9 @@ ghost use Rattle.std.specs.Prelude.{◌≡◌, ◌⊎◌, ◌≤◌, None, IfSom
 ghost use Rattle.type_commands.specs.Made.{IsMadeOf, TellsTables, WritesFile, WritesTables};
 
 use crate::cannot_make::cannot_make;
-use crate::read::read_file;
 use crate::write::write_file;
 use command_files::Source;
+use command_types::read_file;
 use std::alloc::Global;
 use table_maker::make_tables;
 use type_text::{Out, TypeFile};

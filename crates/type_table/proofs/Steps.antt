@@ -3,11 +3,11 @@ use Rattle.std.proofs.Common.{◌≡◌, ℕ, ◌+◌, ◌*◌, ◌<◌, Bool, t
 use Rattle.std.specs.List.{slice_get, list_all}
 use Rattle.std.proofs.lemmas.Bool.{false≢true, ltb-true, lt-ltb, cases_Bool, cases_lt}
 use Rattle.std.proofs.lemmas.Nat.{mul-add-lt}
-use Rattle.std.proofs.lemmas.Option.{slice_get_within, slice_get_read, get_or_from_slice_get}
+use Rattle.std.proofs.lemmas.Option.{slice_get_within, slice_get_read, slice_get-get_or, get_or_from_slice_get}
 use Rattle.std.proofs.lemmas.List.Folds.{list_all_at}
 use Rattle.std.proofs.Math.Nat.{mul-le-mul_left}
 use Rattle.type_table.specs.Counts.{is_inside}
-use Rattle.type_table.specs.Table.{Table, IsTable, next}
+use Rattle.type_table.specs.Table.{Table, IsTable, AreSteps, next}
 
 -- each element passes a test that all pass
 pub passes-at : {X : Type 0} (p : X → Bool) (xs : List X) (i : ℕ) (x : X) → list_all p xs ≡ true → slice_get xs i ≡ Some x → p x ≡ true
@@ -58,6 +58,12 @@ next-within T s k t h step =
       entry.0,
       ltb-true t T.states (passes-at (is_inside T.states) T.steps (s * length T.ops + k) (Some t) h.steps_inside entry.1),
     )
+
+-- the entries of a table say its steps
+pub steps-say : (T : Table) → IsTable T → AreSteps T T.steps
+steps-say T h = λ s k s_in k_in.
+    let at = slice_get-get_or T.steps (s * length T.ops + k) None (place_fits T s k h s_in k_in) in
+    at ∙ ap Some (entry-next T s k (get_or T.steps (s * length T.ops + k) None) k_in at)
 
 -- what is read at the place of a state and an operation is its step
 pub read-next : (T shown : Table) (s k ops : ℕ) (entry : Option ℕ) → shown ≡ T → ops ≡ length shown.ops → IsTable shown → s < T.states → k < length T.ops →

@@ -21,6 +21,10 @@ pub record Table : Type 0 where
 unfoldable pub next : Table → ℕ → ℕ → Option ℕ
 next T s k = if nat_lt k (length T.ops) then option_and_then (λ entry. entry) (slice_get T.steps (s * length T.ops + k)) else None
 
+-- entries that say the next state of each state under each operation
+abbrev pub AreSteps : Table → List (Option ℕ) → Type 0
+AreSteps T steps = (s k : ℕ) → s < T.states → k < length T.ops → slice_get steps (s * length T.ops + k) ≡ Some (next T s k)
+
 -- ---- calls
 
 -- the name of the call of operation k

@@ -34,7 +34,7 @@ impl Model for TypeTable {
 }
 
 impl TypeTable {
-    ghost use Rattle.type_table.specs.Table.{Table, IsTable, table_fault, next, first_op, is_same_call};
+    ghost use Rattle.type_table.specs.Table.{Table, IsTable, AreSteps, table_fault, next, first_op, is_same_call};
 
     /// A table of these parts. `steps` has the entry of state s and operation k at
     /// `s * ops.len() + k`.
@@ -125,6 +125,15 @@ impl TypeTable {
         ensures table { IsTable self.now }
     {
         self.ops.len() as u8
+    }
+
+    /// The steps. The entry of state s and operation k is at `s * ops().len() + k`, and is None where
+    /// k isn't legal in s.
+    pub fn steps(&self) -> &[Option<u16>]
+        ensures exact { result.now ≡ self.now.steps }
+        ensures next { AreSteps self.now result.now }
+    {
+        &self.steps
     }
 
     /// The next state of state s under operation k, where k is legal in s.

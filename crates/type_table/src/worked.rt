@@ -2,7 +2,7 @@
 #![tactic(auto, unfolding(crate::specs::Table::next, crate::specs::Table::table_fault))]
 
 ghost use Rattle.std.specs.Prelude.{◌≡◌, false, true, [], ◌∷◌, Some, None, codes};
-ghost use Rattle.type_table.specs.Table.{next, table_fault, first_op, is_same_call};
+ghost use Rattle.type_table.specs.Table.{AreSteps, next, table_fault, first_op, is_same_call};
 ghost use Rattle.type_table.specs.Run.{run, Looks};
 ghost use Rattle.type_table.specs.StateSet.{IsClosed};
 ghost use Rattle.type_table.specs.ConflictTable.{conflicts};
@@ -19,6 +19,11 @@ pub fn counter_steps()
     ensures empty { next counter 0 1 ≡ None }
     ensures outside { next counter 3 0 ≡ None }
     ensures other { next counter 0 2 ≡ None }
+{}
+
+pub fn counter_entries()
+    ensures its_own { AreSteps counter counter.steps }
+    ensures none { AreSteps counter [] → ⊥ }
 {}
 
 pub fn counter_runs()

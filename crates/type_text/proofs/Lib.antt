@@ -1,5 +1,7 @@
 pub mod Turns
 pub mod Members
+pub mod Rows
+pub mod RowFiles
 pub mod Steps
 pub mod Conflicts
 pub mod Twins

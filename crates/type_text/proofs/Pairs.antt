@@ -1,8 +1,9 @@
 -- The states and pairs of `reach` and `equi` lines, as lines are read.
-use Rattle.std.proofs.Common.{◌≡◌, ℕ, suc, ◌+◌, ◌<◌, ◌⊎◌, ◌↔◌, Bool, true, false, eqb, List, [], ◌∷◌, length, take, get_or, Contains, refl, sym, ap, ◌∙◌, inl, inr, arith}
+use Rattle.std.proofs.Common.{◌≡◌, ℕ, suc, ◌+◌, ◌<◌, ◌⊎◌, ◌↔◌, Bool, true, false, eqb, List, [], ◌∷◌, length, take, get_or, replicate, Contains, refl, sym, ap, ◌∙◌, inl, inr, arith}
 use Rattle.std.specs.List.{list_any}
 use Rattle.std.proofs.lemmas.List.Folds.{list_any_at}
-use Rattle.std.proofs.lemmas.Bool.{false≢true, eqb-true, eq-eqb}
+use Rattle.std.proofs.lemmas.Bool.{false≢true, eqb-true, eq-eqb, cases_lt}
+use Rattle.std.proofs.lemmas.List.{get_or_past, length-replicate}
 use Rattle.type_table.specs.StateSet.{has}
 use Rattle.equi_cert.specs.Relation.{relates}
 use Rattle.type_text.specs.Reach.{is_reach}
@@ -85,3 +86,11 @@ no_reach lines none s h = false≢true (sym none ∙ list_any_at is_reach lines 
 -- a set with a member isn't empty
 pub some_member : (members : List Bool) (s : ℕ) → s < length members → has members s ≡ true → list_any (λ member. member) members ≡ true
 some_member members s below h = list_any_at (λ member. member) members s false below h
+
+-- a member of the set of all states is one of them
+pub all_below : (n s : ℕ) → has (replicate n true) s ≡ true → s < n
+all_below n s h =
+    elim (cases_lt s n) [
+      | inl below ↦ below
+      | inr past ↦ absurd (false≢true (sym (get_or_past (replicate n true) s false (omega (arith, length-replicate n true))) ∙ h))
+    ]

@@ -20,6 +20,15 @@ nowhere n i t e =
       | inr past ↦ let none : get_or empty i None ≡ None = get_or_past empty i None (omega (arith, length-replicate {A = Option ℕ} n None)) in cc
     ]
 
+-- an entry of none is none
+pub none_at : (n i : ℕ) → let empty : List (Option ℕ) = replicate n None in get_or empty i None ≡ None
+none_at n i =
+    let empty : List (Option ℕ) = replicate n None in
+    elim (cases_lt i n) [
+      | inl inside ↦ get_or-replicate n i None None inside
+      | inr past ↦ get_or_past empty i None (omega (arith, length-replicate {A = Option ℕ} n None))
+    ]
+
 -- no step where there is no line
 pub steps_none : (ops n : ℕ) (steps : List (Option ℕ)) → steps ≡ replicate n None → AreStepsOf ops [] steps
 steps_none ops n steps empty = λ s k t below. (

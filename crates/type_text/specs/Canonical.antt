@@ -8,7 +8,6 @@ use Rattle.type_table.specs.Kind.{kind_word}
 use Rattle.type_table.specs.Table.{Table, IsTable, next}
 use Rattle.type_table.specs.StateSet.{has}
 use Rattle.type_table.specs.ConflictTable.{conflicts, IsSquare}
-use Rattle.type_table.specs.declared.kind.Kind.{Kind}
 use Rattle.type_table.specs.declared.kind.Kind.TheVariants.{Undo, Intentions}
 use Rattle.type_table.specs.declared.op.Op.{Op}
 use Rattle.equi_cert.specs.Relation.{relates, IsRelation}

@@ -7,30 +7,34 @@ ghost use Rattle.type_table.specs.declared.op.Op.{Op as OpValue};
 ghost use Rattle.type_table.specs.Counts.{is_inside};
 ghost use Rattle.type_table.specs.ConflictTable.{conflicts};
 ghost use Rattle.type_text.specs.TypeLines.{AreTypeLines, states_of, ops_of};
+ghost use Rattle.type_text.specs.Rows.{line_of_row, lines_of_rows};
+ghost use Rattle.type_text.specs.Kept.{kept_lines};
 ghost use Rattle.type_text.specs.TypeFile.{IsFileOf, IsTableOf, IsReached};
 ghost use Rattle.type_text.specs.Reach.{is_reach};
 ghost use Rattle.type_table.specs.StateSet.{has};
 ghost use Rattle.equi_cert.specs.Relation.{relates};
 
+use crate::row::{Row, line_of_row};
 use crate::type_file::TypeFile;
 use crate::type_line::TypeLine;
+use crate::type_lines::TypeLines;
 use equi_cert::Relation;
 use indexmap::IndexSet;
 use std::alloc::{AllocError, Global};
 use type_table::{ConflictTable, Kind, Name, Op, StateSet, TypeTable};
 
 /// The file that the lines describe.
-pub fn file_of(alloc: Global, lines: &[TypeLine]) -> Result<TypeFile, AllocError>
-    requires { AreTypeLines lines.now }
-    ensures { IfOk result (IsFileOf lines.now) }
+pub fn file_of(alloc: Global, lines: &TypeLines) -> Result<TypeFile, AllocError>
+    requires { AreTypeLines (kept_lines lines.now) }
+    ensures { IfOk result (IsFileOf (kept_lines lines.now)) }
 {
     let table = table_of(alloc, lines)?;
     let ops = table.op_count();
     let states = table.states();
-    let reach = reach_of(lines, states);
-    let relation = relation_of(alloc, lines, states)?;
-    let undo = conflicts_of(Kind::Undo, ops, lines);
-    let intentions = conflicts_of(Kind::Intentions, ops, lines);
+    let reach = reach_of(&lines.rows, states);
+    let relation = relation_of(alloc, &lines.rows, states)?;
+    let undo = conflicts_of(Kind::Undo, ops, &lines.rows);
+    let intentions = conflicts_of(Kind::Intentions, ops, &lines.rows);
     Ok(TypeFile {
         table,
         reach,
@@ -40,14 +44,15 @@ pub fn file_of(alloc: Global, lines: &[TypeLine]) -> Result<TypeFile, AllocError
     })
 }
 
-fn table_of(alloc: Global, lines: &[TypeLine]) -> Result<TypeTable, AllocError>
-    requires { AreTypeLines lines.now }
-    ensures { IfOk result (IsTableOf lines.now) }
+fn table_of(alloc: Global, lines: &TypeLines) -> Result<TypeTable, AllocError>
+    requires { AreTypeLines (kept_lines lines.now) }
+    ensures { IfOk result (IsTableOf (kept_lines lines.now)) }
 {
-    let ops = ops_of(alloc, lines)?;
-    let states = states_of(lines);
-    let steps = steps_of(alloc, lines, states, ops.len())?;
-    match TypeTable::new(name_of(lines), states, initial_of(lines), ops, steps) {
+    let head = lines.head.as_slice();
+    let ops = ops_of(alloc, head)?;
+    let states = states_of(head);
+    let steps = steps_of(alloc, &lines.rows, states, ops.len())?;
+    match TypeTable::new(name_of(head), states, initial_of(head), ops, steps) {
         Ok(table) => Ok(table),
         Err(_) => unreachable!(),
     }
@@ -119,32 +124,32 @@ fn listed(alloc: Global, ops: &IndexSet<Op>) -> Result<Vec<Op>, AllocError>
 /// The entries of a table: that of state s and operation k is at `s * ops + k`.
 fn steps_of(
     alloc: Global,
-    lines: &[TypeLine],
+    rows: &[Row],
     states: u16,
     ops: usize,
 ) -> Result<Vec<Option<u16>>, AllocError>
-    requires lines { AreTypeLines lines.now }
-    requires states { states ≡ states_of lines.now }
-    requires ops { ops ≡ length (ops_of lines.now) }
+    requires inside { (s k t : ℕ) → Contains (lines_of_rows rows.now) (TypeLine.Step s k t) → (s < states) × (k < ops) × (t < states) }
+    requires once { (s k t u : ℕ) → Contains (lines_of_rows rows.now) (TypeLine.Step s k t) → Contains (lines_of_rows rows.now) (TypeLine.Step s k u) → t ≡ u }
     requires fit { states ≤ 1024 }
+    requires ops_fit { ops ≤ 64 }
     ensures whole { IfOk result (λ steps. length steps.items ≡ states * ops) }
-    ensures exact { IfOk result (λ steps. (s k t : ℕ) → k < ops → (slice_index_or steps.items (s * ops + k) None ≡ Some t) ↔ Contains lines.now (TypeLine.Step s k t)) }
+    ensures exact { IfOk result (λ steps. (s k t : ℕ) → k < ops → (slice_index_or steps.items (s * ops + k) None ≡ Some t) ↔ Contains (lines_of_rows rows.now) (TypeLine.Step s k t)) }
 {
     let mut steps = vec![in alloc; None; states as usize * ops]?;
-    put_steps(&mut steps, ops, lines);
+    put_steps(&mut steps, ops, rows);
     Ok(steps)
 }
 
 /// Writes the entries of the `step` lines where there are none.
-fn put_steps(steps: &mut [Option<u16>], ops: usize, lines: &[TypeLine])
-    requires lines { AreTypeLines lines.now }
-    requires ops { ops ≡ length (ops_of lines.now) }
-    requires fit { states_of lines.now ≤ 1024 }
-    requires empty { steps.old ≡ replicate (states_of lines.now * ops) None }
-    ensures { (s k t : ℕ) → k < ops → (slice_index_or steps.new (s * ops + k) None ≡ Some t) ↔ Contains lines.now (TypeLine.Step s k t) }
+fn put_steps(steps: &mut [Option<u16>], ops: usize, rows: &[Row])
+    requires inside { (s k t : ℕ) → Contains (lines_of_rows rows.now) (TypeLine.Step s k t) → (s < 1024) × (k < ops) × (t < 1024) × (s * ops + k < length steps.old) }
+    requires once { (s k t u : ℕ) → Contains (lines_of_rows rows.now) (TypeLine.Step s k t) → Contains (lines_of_rows rows.now) (TypeLine.Step s k u) → t ≡ u }
+    requires fit { ops ≤ 64 }
+    requires empty { (i : ℕ) → slice_index_or steps.old i None ≡ None }
+    ensures { (s k t : ℕ) → k < ops → (slice_index_or steps.new (s * ops + k) None ≡ Some t) ↔ Contains (lines_of_rows rows.now) (TypeLine.Step s k t) }
 {
-    for line in lines {
-        put_step(steps, ops, *line);
+    for row in rows {
+        put_step(steps, ops, line_of_row(*row));
     }
 }
 
@@ -160,33 +165,38 @@ fn put_step(steps: &mut [Option<u16>], ops: usize, line: TypeLine)
 }
 
 /// The set of the `reach` lines, or of all states where there is no such line.
-fn reach_of(lines: &[TypeLine], states: u16) -> StateSet
-    requires lines { AreTypeLines lines.now }
-    requires states { states ≡ states_of lines.now }
+fn reach_of(rows: &[Row], states: u16) -> StateSet
+    requires inside { (s : ℕ) → Contains (lines_of_rows rows.now) (TypeLine.Reach s) → s < states }
     requires some { 0 < states }
     requires fit { states ≤ 1024 }
     ensures fits { length result ≡ states }
-    ensures exact { (s : ℕ) → (has result s ≡ true) ↔ IsReached lines.now states s }
+    ensures exact { (s : ℕ) → (has result s ≡ true) ↔ IsReached (lines_of_rows rows.now) states s }
     ensures some { list_any (λ member. member) result ≡ true }
 {
-    if !has_reach(lines) {
+    if !has_reach(rows) {
         return StateSet::all(states);
     }
     let mut set = StateSet::empty(states);
-    for line in lines {
-        add_reach(&mut set, *line);
+    for row in rows {
+        add_reach(&mut set, line_of_row(*row));
     }
     set
 }
 
 /// Whether a `reach` line is among the lines.
-fn has_reach(lines: &[TypeLine]) -> bool
-    ensures { result ≡ list_any is_reach lines.now }
+fn has_reach(rows: &[Row]) -> bool
+    ensures { result ≡ list_any (λ row. is_reach (line_of_row row)) rows.now }
 {
-    lines.iter().any(|line| match line {
+    rows.iter().any(|row| is_reach(line_of_row(*row)))
+}
+
+fn is_reach(line: TypeLine) -> bool
+    ensures { result ≡ is_reach line }
+{
+    match line {
         TypeLine::Reach(_) => true,
         _ => false,
-    })
+    }
 }
 
 /// Adds the state of a `reach` line.
@@ -201,17 +211,16 @@ fn add_reach(set: &mut StateSet, line: TypeLine)
 }
 
 /// The relation of the `equi` lines and of each state with itself.
-fn relation_of(alloc: Global, lines: &[TypeLine], states: u16) -> Result<Relation, AllocError>
-    requires lines { AreTypeLines lines.now }
-    requires states { states ≡ states_of lines.now }
+fn relation_of(alloc: Global, rows: &[Row], states: u16) -> Result<Relation, AllocError>
+    requires inside { (s t : ℕ) → Contains (lines_of_rows rows.now) (TypeLine.Equi s t) → (s < states) × (t < states) }
     requires some { 0 < states }
     requires fit { states ≤ 1024 }
     ensures fits { IfOk result (λ relation. length relation ≡ states) }
-    ensures exact { IfOk result (λ relation. (s t : ℕ) → s < states → t < states → (relates relation s t ≡ true) ↔ ((s ≡ t) ⊎ Contains lines.now (TypeLine.Equi s t))) }
+    ensures exact { IfOk result (λ relation. (s t : ℕ) → s < states → t < states → (relates relation s t ≡ true) ↔ ((s ≡ t) ⊎ Contains (lines_of_rows rows.now) (TypeLine.Equi s t))) }
 {
     let mut relation = Relation::new(alloc, states)?;
-    for line in lines {
-        add_equi(&mut relation, *line);
+    for row in rows {
+        add_equi(&mut relation, line_of_row(*row));
     }
     Ok(relation)
 }
@@ -228,15 +237,15 @@ fn add_equi(relation: &mut Relation, line: TypeLine)
 }
 
 /// The conflict table of a kind.
-fn conflicts_of(kind: Kind, ops: u8, lines: &[TypeLine]) -> ConflictTable
-    requires lines { AreTypeLines lines.now }
-    requires ops { ops ≡ length (ops_of lines.now) }
+fn conflicts_of(kind: Kind, ops: u8, rows: &[Row]) -> ConflictTable
+    requires inside { (p q : ℕ) → Contains (lines_of_rows rows.now) (TypeLine.Conflict kind p q) → (p < ops) × (q < ops) }
+    requires fit { ops ≤ 64 }
     ensures fits { length result ≡ ops }
-    ensures exact { (p q : ℕ) → (conflicts result p q ≡ true) ↔ Contains lines.now (TypeLine.Conflict kind p q) }
+    ensures exact { (p q : ℕ) → (conflicts result p q ≡ true) ↔ Contains (lines_of_rows rows.now) (TypeLine.Conflict kind p q) }
 {
     let mut table = ConflictTable::new(ops);
-    for line in lines {
-        add_conflict(&mut table, kind, *line);
+    for row in rows {
+        add_conflict(&mut table, kind, line_of_row(*row));
     }
     table
 }

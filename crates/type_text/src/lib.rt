@@ -4,11 +4,14 @@
 mod build;
 mod entries;
 mod file_conflicts;
+mod heads;
 mod laws;
 mod read;
+mod row;
 mod type_file;
 mod type_grammar;
 mod type_line;
+mod type_lines;
 mod write;
 
 pub use laws::{canonical_is_read, lines_tell_the_file, written_is_read};

@@ -1,12 +1,13 @@
 //! The grammar of type files: what a line says, and its tests behind the lines before it.
 
 ghost use Rattle.std.specs.Prelude.{◌≡◌, map};
-ghost use Rattle.std.specs.List.{list_any};
-ghost use Rattle.type_table.specs.Op.{is_same_op};
-ghost use Rattle.type_text.specs.TypeLines.{type_rules, line_of, type_name_of, states_of_words, initial_of_words, operation_of, step_of, reach_of_words, equi_of, conflict_of, end_of, states_in, states_of, is_twin};
+ghost use Rattle.type_text.specs.Kept.{kept_lines};
+ghost use Rattle.type_text.specs.TypeLines.{type_rules, line_of, type_name_of, states_of_words, initial_of_words, operation_of, step_of, reach_of_words, equi_of, conflict_of, end_of};
 
 use crate::type_line::TypeLine;
+use crate::type_lines::TypeLines;
 use line_text::{FaultKind, Grammar, Section, exactly, is_key, kind_at, name_at, number_at};
+use std::alloc::{AllocError, Global};
 use type_table::{Kind, Op};
 
 const ONE_LINE: Section = Section {
@@ -61,7 +62,19 @@ pub struct TypeGrammar;
 impl Grammar for TypeGrammar {
     type Item = TypeLine;
 
+    type Kept = TypeLines;
+
     ghost rules = { λ _. type_rules };
+
+    ghost kept = { kept_lines };
+
+    fn nothing(&self, alloc: Global) -> TypeLines {
+        TypeLines::new(alloc)
+    }
+
+    fn keep(&self, before: &mut TypeLines, item: TypeLine) -> Result<(), AllocError> {
+        before.push(item)
+    }
 
     #[tactic(auto, unfolding(crate::specs::TypeLines::line_of))]
     fn item(&self, words: &[&[u8]]) -> Result<TypeLine, FaultKind> {
@@ -109,12 +122,12 @@ impl Grammar for TypeGrammar {
         }
     }
 
-    fn misses(&self, _before: &[TypeLine], _counts: &[usize], _item: TypeLine) -> bool {
+    fn misses(&self, _before: &TypeLines, _counts: &[usize], _item: TypeLine) -> bool {
         false
     }
 
-    fn is_in_range(&self, before: &[TypeLine], counts: &[usize], item: TypeLine) -> bool {
-        let states = states_of(before);
+    fn is_in_range(&self, before: &TypeLines, counts: &[usize], item: TypeLine) -> bool {
+        let states = before.states();
         let ops = counts[OP_RANK];
         match item {
             TypeLine::States(states) => 1 <= states && states <= 1024,
@@ -137,32 +150,12 @@ impl Grammar for TypeGrammar {
         }
     }
 
-    fn has_twin(&self, before: &[TypeLine], item: TypeLine) -> bool {
+    fn has_twin(&self, before: &TypeLines, item: TypeLine) -> bool {
         match item {
-            TypeLine::Operation(op) => stands_in(before, op),
+            TypeLine::Operation(op) => before.has_op(op),
             _ => false,
         }
     }
-}
-
-/// The number of states, which the second line tells.
-fn states_of(lines: &[TypeLine]) -> u32
-    ensures { result ≡ states_of lines.now }
-{
-    match lines.get(1) {
-        Some(TypeLine::States(states)) => *states,
-        _ => 0,
-    }
-}
-
-/// Whether an `op` line of this operation is among the lines.
-fn stands_in(lines: &[TypeLine], op: Op) -> bool
-    ensures { result ≡ list_any (is_twin (TypeLine.Operation op)) lines.now }
-{
-    lines.iter().any(|line| match line {
-        TypeLine::Operation(other) => op == *other,
-        _ => false,
-    })
 }
 
 #[tactic(auto, unfolding(crate::specs::TypeLines::type_name_of))]

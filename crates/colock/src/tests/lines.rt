@@ -35,7 +35,20 @@ struct Example;
 impl Grammar for Example {
     type Item = Entry;
 
+    type Kept = Vec<Entry>;
+
     ghost rules = { λ _. example };
+
+    ghost kept = { λ entries. entries.items };
+
+    fn nothing(&self, alloc: Global) -> Vec<Entry> {
+        Vec::new(alloc)
+    }
+
+    fn keep(&self, before: &mut Vec<Entry>, item: Entry) -> Result<(), AllocError> {
+        before.push(item)?;
+        Ok(())
+    }
 
     fn item(&self, words: &[&[u8]]) -> Result<Entry, FaultKind> {
         entry_of(words)
@@ -49,11 +62,11 @@ impl Grammar for Example {
         item.0.min(4) as usize
     }
 
-    fn misses(&self, _before: &[Entry], counts: &[usize], item: Entry) -> bool {
+    fn misses(&self, _before: &Vec<Entry>, counts: &[usize], item: Entry) -> bool {
         item.0 == 3 && item.2 == 1 && counts[3] == 0
     }
 
-    fn is_in_range(&self, before: &[Entry], _counts: &[usize], item: Entry) -> bool {
+    fn is_in_range(&self, before: &Vec<Entry>, _counts: &[usize], item: Entry) -> bool {
         let size = size_of(before);
         match item.0 {
             0 => 1 <= item.1 && item.1 <= 9,
@@ -70,7 +83,7 @@ impl Grammar for Example {
         }
     }
 
-    fn has_twin(&self, before: &[Entry], item: Entry) -> bool {
+    fn has_twin(&self, before: &Vec<Entry>, item: Entry) -> bool {
         item.0 == 1 && before.iter().any(|other| is_twin(item, *other))
     }
 }

@@ -1,7 +1,7 @@
 //! The operations that transactions hold at an object.
 
-ghost use Rattle.std.specs.Prelude.{◌≡◌, IfOk, length};
-ghost use Rattle.op_locks.specs.Examples.{three_held};
+ghost use Rattle.std.specs.Prelude.{◌≡◌, [], ◌∷◌, ◌++◌, IfOk, OnOk, length};
+ghost use Rattle.op_locks.specs.Examples.{hold, three_held};
 
 use crate::tests::printed::are_debugged;
 use op_locks::{Held, OpLocks};
@@ -49,29 +49,40 @@ fn what_is_released_blocks_no_more(rt: HostRuntime) -> Result<(), Fail> {
     let mut locks = three_held(rt.alloc())?;
     locks.release(5);
     assert!(rt; locks.blocker(&table, 6, 0) == Some(4));
-    assert!(rt; !locks.holds(5));
     locks.release_last(4, 1);
     assert!(rt; locks.blocker(&table, 6, 0) == None);
-    assert!(rt; locks.holds(4));
+    let mut both = one_pair();
+    both.set(1, 0);
+    assert!(rt; locks.blocker(&both, 6, 1) == Some(4));
     Ok(())
 }
 
-/// Transaction 1 holds operation 3 so many times more.
-fn hold_more(locks: &mut OpLocks, count: u32) -> Result<(), AllocError> {
-    for _ in 0..count {
-        locks.reserve()?;
-        locks.hold(1, 3);
-    }
+/// Transaction 1 holds operation 1 once more.
+fn hold_one_more(locks: &mut OpLocks) -> Result<(), AllocError>
+    ensures { OnOk result (locks.new.held ≡ locks.old.held ++ hold 1 1 ∷ []) }
+{
+    locks.reserve()?;
+    locks.hold(1, 1);
     Ok(())
 }
 
+/// Nine are held, more than have their place in the list itself.
 #[test]
 fn many_are_held(rt: HostRuntime) -> Result<(), Fail> {
-    let mut locks = OpLocks::new(rt.alloc());
-    hold_more(&mut locks, 100)?;
-    assert!(rt; locks.holds(1) && !locks.holds(3));
+    let table = one_pair();
+    let mut locks = three_held(rt.alloc())?;
+    hold_one_more(&mut locks)?;
+    hold_one_more(&mut locks)?;
+    hold_one_more(&mut locks)?;
+    hold_one_more(&mut locks)?;
+    hold_one_more(&mut locks)?;
+    hold_one_more(&mut locks)?;
+    assert!(rt; locks.blocker(&table, 6, 0) == Some(5));
+    locks.release(5);
+    locks.release(4);
+    assert!(rt; locks.blocker(&table, 6, 0) == Some(1));
     locks.release(1);
-    assert!(rt; !locks.holds(1));
+    assert!(rt; locks.blocker(&table, 6, 0) == None);
     Ok(())
 }
 

@@ -8,6 +8,8 @@ mod made;
 mod random;
 mod reference;
 mod refused;
+mod run_scripts;
+mod run_scripts_memory;
 mod runs;
 mod scripts;
 

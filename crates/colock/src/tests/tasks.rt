@@ -48,8 +48,16 @@ fn run<R: AllocGlobal + Threads + Sync, W: Out>(
         files: files.as_slice(),
     };
     let mut errors = Sink::new(Vec::new(rt.alloc()));
-    let Next::Done(status) = prepare(rt, task, &mut source, output, &mut errors);
-    (status, errors.into_inner())
+    let next = prepare(rt, task, &mut source, output, &mut errors);
+    (status_of(&next), errors.into_inner())
+}
+
+/// The status of a task that has no plan.
+fn status_of(next: &Next) -> u8 {
+    match next {
+        Next::Done(status) => *status,
+        Next::Boxes(_) => u8::MAX,
+    }
 }
 
 /// That a task over this text says this of a fault, and has this status.
@@ -244,7 +252,14 @@ fn cannot_read_what_is_not_there(rt: HostRuntime) {
 
 #[test]
 fn writes_its_own_texts(rt: HostRuntime) {
-    for topic in [Topic::Program, Topic::Check, Topic::Make, Topic::Tables] {
+    for topic in [
+        Topic::Program,
+        Topic::Check,
+        Topic::Make,
+        Topic::Tables,
+        Topic::Run,
+        Topic::Audit,
+    ] {
         writes(&rt, Task::Help { topic }, b"", topic.text().as_bytes(), 0);
     }
     writes(&rt, Task::Version, b"", b"colock 0.1.0\n", 0);

@@ -29,6 +29,12 @@ fn has_parts(task: &Task<'_>, parts: &Parts) -> bool {
                 & (items.as_slice() == rest)
         }
         Task::Tables { path } => (command == "tables") & (first == *path),
+        Task::Run { script, types } => {
+            (command == "run") & (first == *script) & (types.as_slice() == rest)
+        }
+        Task::Audit { history, types } => {
+            (command == "audit") & (first == *history) & (types.as_slice() == rest)
+        }
         Task::Help { topic } => (command == "help") & (first == word_of(*topic)),
         Task::Version => (command == "version") & (first == VERSION),
     }
@@ -40,11 +46,13 @@ fn word_of(topic: Topic) -> &'static str {
         Topic::Check => "check",
         Topic::Make => "make",
         Topic::Tables => "tables",
+        Topic::Run => "run",
+        Topic::Audit => "audit",
     }
 }
 
 /// Words, and the task that they ask for.
-static TASKS: [(&[&str], Parts); 14] = [
+static TASKS: [(&[&str], Parts); 21] = [
     (
         &["check", "undo", "ctr2.type"],
         ("check", "undo", "ctr2.type", &[]),
@@ -63,7 +71,27 @@ static TASKS: [(&[&str], Parts); 14] = [
         ("make", "set", "0", &["2", "1", "a-b"]),
     ),
     (&["tables", "ctr2.type"], ("tables", "ctr2.type", "", &[])),
+    (
+        &["run", "a.script", "a.type"],
+        ("run", "a.script", "", &["a.type"]),
+    ),
+    (
+        &["run", "a.script", "a.type", "b.type", "a.type"],
+        ("run", "a.script", "", &["a.type", "b.type", "a.type"]),
+    ),
+    (
+        &["audit", "a.history", "a.type", "b.type"],
+        ("audit", "a.history", "", &["a.type", "b.type"]),
+    ),
     // Words with hyphens behind two.
+    (
+        &["run", "a.script", "--", "-x", "--"],
+        ("run", "a.script", "", &["-x", "--"]),
+    ),
+    (
+        &["audit", "--", "-a", "b.type"],
+        ("audit", "-a", "", &["b.type"]),
+    ),
     (
         &["make", "set", "0", "a", "--", "-b", "--"],
         ("make", "set", "0", &["a", "-b", "--"]),
@@ -76,6 +104,8 @@ static TASKS: [(&[&str], Parts); 14] = [
     (&["help", "check"], ("help", "check", "", &[])),
     (&["help", "make"], ("help", "make", "", &[])),
     (&["help", "tables"], ("help", "tables", "", &[])),
+    (&["help", "run"], ("help", "run", "", &[])),
+    (&["help", "audit"], ("help", "audit", "", &[])),
     (&["--version"], ("version", "colock 0.1.0\n", "", &[])),
     (&["-V"], ("version", "colock 0.1.0\n", "", &[])),
 ];
@@ -101,7 +131,7 @@ fn reads_tasks(rt: HostRuntime) {
 }
 
 /// Words that ask for no task.
-static REFUSED: [&[&str]; 26] = [
+static REFUSED: [&[&str]; 33] = [
     &[],
     &["prove"],
     &["check"],
@@ -121,6 +151,13 @@ static REFUSED: [&[&str]; 26] = [
     &["tables"],
     &["tables", "a", "b"],
     &["tables", "-x"],
+    &["run"],
+    &["run", "a.script"],
+    &["run", "a.script", "-x"],
+    &["run", "--workers", "2", "a.script", "a.type"],
+    &["audit"],
+    &["audit", "a.history"],
+    &["--", "audit", "a.history", "a.type"],
     &["help", "nosuch"],
     &["help", "check", "more"],
     &["help", "--", "check"],
@@ -157,13 +194,15 @@ fn usage_names_what_is_missing(rt: HostRuntime) {
 }
 
 /// Options that ask for a text of help.
-static HELP: [(&[&str], Topic); 6] = [
+static HELP: [(&[&str], Topic); 8] = [
     (&["--help"], Topic::Program),
     (&["-h"], Topic::Program),
     (&["check", "--help"], Topic::Check),
     (&["make", "--help"], Topic::Make),
     (&["make", "-h"], Topic::Make),
     (&["tables", "-h"], Topic::Tables),
+    (&["run", "-h"], Topic::Run),
+    (&["audit", "--help"], Topic::Audit),
 ];
 
 /// That each of these words are answered with their text.

@@ -187,6 +187,19 @@ impl Reference {
         }
     }
 
+    /// The state of x after what committed, one transaction after another in commit order; of update in
+    /// place, after what lives in the order of execution.
+    pub fn committed(&self, x: u32) -> Option<u16> {
+        let checked = self.types.get(x as usize)?;
+        match checked.kind() {
+            Kind::Undo => self.view(checked, x, 0),
+            Kind::Intentions => {
+                let table = checked.table();
+                run_at(table, Some(table.initial()), &self.serial, x, None)
+            }
+        }
+    }
+
     /// Who holds the earliest operation that keeps t from k at x.
     fn blocker(&self, checked: &CheckedType, x: u32, t: u32, k: u8) -> Option<u32> {
         let conflicts = checked.conflicts();

@@ -11,4 +11,6 @@ returns c =
     let bare_is = IfOk-weaker c.bin_name-bare.result _ _ (λ command named. ap app_of_fields named.0 ∙ set_is) c.bin_name-bare.ensures in
     let check_added = c.with_command-with_check.ensures _ _ bare_is checks.2 in
     let make_added = c.with_command-with_make.ensures _ _ check_added c.make_command.ensures in
-    (checks.0, checks.1, c.with_command.ensures _ _ make_added c.tables_command.ensures)
+    let tables_added = c.with_command-with_tables.ensures _ _ make_added c.tables_command.ensures in
+    let run_added = c.with_command-with_run.ensures _ _ tables_added c.store_command-run.ensures in
+    (checks.0, checks.1, c.with_command.ensures _ _ run_added c.store_command-audit.ensures)

@@ -1,15 +1,27 @@
-use Rattle.std.proofs.Common.{◌<◌, ◌≤◌, length, ◌∙◌, rules}
-use Rattle.intentions_manager.proofs.Seeing.{put_there, put_behind}
+use Rattle.std.proofs.Common.{arith, cond, set, sym, ap, subst, ◌∙◌}
+use Rattle.std.specs.List.{insert}
+use Rattle.intentions_manager.specs.Views.{place_of, IsAt}
+use Rattle.intentions_manager.specs.declared.views.View.{View}
+use Rattle.intentions_manager.proofs.Seeing.{place-within, seen_nowhere, put_there, put_before}
 use Rattle.intentions_manager.proofs.views.put_view.Goals as goal
 
-pub returns-then-at-len : goal.returns-then-at-len
-returns-then-at-len c =
-    let views = c.args.views.now.items in
-    let within : c.args.at < length views = search rules in
-    rw c.requires.place (put_there c.args.view views (rw c.requires.place at within))
+pub insert-requires : goal.insert-requires
+insert-requires c =
+    let within = place-within c.args.view.by c.args.views.now.items in
+    let place = c.requires.place in
+    let long = c.args.views.now.ok.0 in
+    omega (arith, within, place, long)
 
-pub returns-else-at-len : goal.returns-else-at-len
-returns-else-at-len c =
+pub returns-then-is_at : goal.returns-then-is_at
+returns-then-is_at c =
     let views = c.args.views.now.items in
-    let past : length views ≤ c.args.at = search rules in
-    c.push_reserved.ensures.items ∙ put_behind c.args.view views (rw c.requires.place at past)
+    let view = c.args.view in
+    ap (λ n. set views n view) c.requires.place ∙ put_there view views (subst (λ n. IsAt view.by n views) c.requires.place (c.is_at.ensures.there c.if-is_at.true))
+
+pub returns-else-is_at : goal.returns-else-is_at
+returns-else-is_at c =
+    let views = c.args.views.now.items in
+    let view = c.args.view in
+    let none : IsAt view.by (place_of view.by views) views → ⊥ = λ here. c.is_at.ensures.elsewhere c.if-is_at.false (subst (λ n. IsAt view.by n views) (sym c.requires.place) here) in
+    let room = c.requires.room (ap (λ (v : View). v.count) (seen_nowhere view.by 0 views c.requires.ordered none)) in
+    c.insert.ensures.items ∙ ap (λ b. cond b (insert views c.args.at view) views) (c.insert.ensures.succeeds room) ∙ ap (λ n. insert views n view) c.requires.place ∙ put_before view views none

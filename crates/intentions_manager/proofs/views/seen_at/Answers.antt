@@ -1,19 +1,17 @@
-use Rattle.std.proofs.Common.{◌≡◌, ◌<◌, ◌≤◌, length, get_or, sym, ◌∙◌}
-use Rattle.std.proofs.lemmas.Bool.{ltb-true, ltb-false}
-use Rattle.intentions_manager.specs.Views.{place_of}
+use Rattle.std.proofs.Common.{get_or, sym, ap, subst, ◌∙◌}
+use Rattle.intentions_manager.specs.Views.{IsAt}
 use Rattle.intentions_manager.proofs.Seeing.{seen_there, seen_nowhere}
 use Rattle.intentions_manager.proofs.views.seen_at.Goals as goal
 
-pub returns-in-Some : goal.returns-in-Some
-returns-in-Some c =
-    let found = c.in-Some.ensures.lookup in
+pub returns-then-is_at : goal.returns-then-is_at
+returns-then-is_at c =
+    let t = c.args.t in
     let views = c.args.views.now.items in
-    let within : c.args.at < length views = rw c.deref.ensures.value at (ltb-true c.args.at (length c.deref.result.now) (sym found.0)) in
-    let there : c.in-Some.view.now ≡ get_or views (place_of c.args.t views) c.in-Some.view.now = rw (c.deref.ensures.value, c.requires) at found.1 in
-    there ∙ seen_there c.args.t c.args.base views c.in-Some.view.now (rw c.requires at within)
+    let here = subst (λ n. IsAt t n views) c.requires.place (c.is_at.ensures.there c.if-is_at.true) in
+    c.index.ensures ∙ ap (λ n. get_or views n c.index.result.now) c.requires.place ∙ seen_there t c.args.base views c.index.result.now here
 
-pub returns-in-None : goal.returns-in-None
-returns-in-None c =
+pub returns-else-is_at : goal.returns-else-is_at
+returns-else-is_at c =
+    let t = c.args.t in
     let views = c.args.views.now.items in
-    let past : length views ≤ c.args.at = rw c.deref.ensures.value at (ltb-false c.args.at (length c.deref.result.now) (sym c.in-None.ensures.lookup.0)) in
-    sym (seen_nowhere c.args.t c.args.base views (rw c.requires at past))
+    sym (seen_nowhere t c.args.base views c.requires.ordered (λ here. c.is_at.ensures.elsewhere c.if-is_at.false (subst (λ n. IsAt t n views) (sym c.requires.place) here)))

@@ -5,7 +5,7 @@ use Rattle.intentions_manager.proofs.views.step_all.Given as goal
 -- the views so far are moved
 abbrev pub invariant-loop-i : goal.invariant-loop-i
 invariant-loop-i l = record {
-  fit : All (FitsTable l.table) l.views.items;
-  long : length l.views.items ≡ length l.initial.views.items;
-  exact : l.views.items ≡ map (moved l.table l.k) (take l.i l.initial.views.items) ++ drop l.i l.initial.views.items;
+  fit : All (FitsTable l.table) l.views;
+  long : length l.views ≡ length l.initial.views;
+  exact : l.views ≡ map (moved l.table l.k) (take l.i l.initial.views) ++ drop l.i l.initial.views;
 }

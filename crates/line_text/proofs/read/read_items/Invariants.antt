@@ -1,16 +1,17 @@
--- The lines in front of `rest` were read and passed, and their items stand and are counted.
+-- The lines in front of `rest` were read and passed, and their items are kept and known.
 use Rattle.std.proofs.Common.{length}
-use Rattle.line_text.specs.Rules.{IsCounted}
+use Rattle.line_text.specs.Steps.{IsKnown}
 use Rattle.line_text.proofs.Reading.{HasRead}
 use Rattle.line_text.proofs.read.read_items.Given as goal
 
-abbrev pub invariant-loop-next : goal.invariant-loop-next
-invariant-loop-next g l =
+abbrev pub invariant-loop-rest : goal.invariant-loop-rest
+invariant-loop-rest g l =
     let rules = g.G.Grammar.rules l.grammar in
+    let items = g.G.Grammar.kept l.stood.kept in
     record {
-      read : HasRead rules l.text l.rest l.line l.stood.items.items;
-      counted : IsCounted rules l.stood.items.items l.stood.counts.items;
+      read : HasRead rules l.text l.rest l.line items;
+      known : IsKnown rules items l.stood.counts.items l.stood.last l.stood.clear;
     }
 
-abbrev pub decreases-loop-next : goal.decreases-loop-next
-decreases-loop-next g l = length l.rest
+abbrev pub decreases-loop-rest : goal.decreases-loop-rest
+decreases-loop-rest g l = length l.rest

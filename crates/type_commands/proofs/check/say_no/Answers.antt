@@ -1,7 +1,7 @@
 use Rattle.std.specs.Prelude.{◌≡◌, ℕ, List}
 use Rattle.std.proofs.Common.{subst, ◌∙◌}
 use Rattle.std.specs.Io.KnownBytes.{Appends}
-use Rattle.type_commands.specs.Verdict.{no_line}
+use Rattle.command_types.specs.Refusals.{no_line}
 use Rattle.type_commands.proofs.VerdictLemmas.{at_success}
 use Rattle.type_commands.proofs.check.say_no.Goals as goal
 

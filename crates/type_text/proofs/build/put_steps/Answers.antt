@@ -1,32 +1,40 @@
-use Rattle.std.proofs.Common.{◌≡◌, ℕ, ◌*◌, ◌<◌, length, Option, None, ap, ◌∙◌, arith}
-use Rattle.std.proofs.lemmas.List.{take_all, length-replicate}
-use Rattle.std.proofs.lemmas.Nat.{mul-add-lt}
-use Rattle.type_text.specs.TypeLines.{states_of}
+use Rattle.std.proofs.Common.{◌≡◌, ◌<◌, length, get_or, sym, ◌∙◌, arith}
+use Rattle.std.proofs.lemmas.List.{take_all}
+use Rattle.type_text.specs.Rows.{lines_of_rows}
 use Rattle.type_text.proofs.Steps.{steps_more}
 use Rattle.type_text.proofs.Members.{at-place}
+use Rattle.type_text.proofs.Rows.{row_line, row_count}
 use Rattle.type_text.proofs.build.put_steps.Goals as goal
+
+pub loop-row-init : goal.loop-row-init
+loop-row-init c = λ s k t below. (
+  λ e. absurd (let clash = sym (c.requires.empty _) ∙ e in cc),
+  λ h. absurd (omega (arith, h.1)),
+)
 
 pub put_step-requires : goal.put_step-requires
 put_step-requires c = λ s k t e.
-    let lines = c.args.lines.now in
-    let long : length c.loop-line.steps ≡ states_of lines * c.args.ops = c.loop-line.auto.steps ∙ ap length c.requires.empty ∙ length-replicate {A = Option ℕ} (states_of lines * c.args.ops) None in
-    let inside = c.requires.lines.steps_inside s k t (rw e at (at-place lines c.loop-line.line-index c.line-item.result c.loop-line-test.true c.line-item.is)) in
-    let k_in : k < c.args.ops = omega (arith, inside.1, c.requires.ops) in (
-      omega (arith, inside.0, c.requires.fit),
-      omega (arith, inside.2, c.requires.fit),
-      omega (arith, c.requires.ops, c.requires.lines.ops_fit),
-      omega (arith, long, mul-add-lt s c.args.ops k (states_of lines) inside.0 k_in),
-    )
+    let rows = c.args.rows.now in
+    let i = c.loop-row.row-index in
+    let x = c.line_of_row.result in
+    let below : i < length (lines_of_rows rows) = omega (arith, row_count rows, c.loop-row-test.true) in
+    let here : x ≡ get_or (lines_of_rows rows) i x = row_line rows i _ x c.loop-row-test.true c.line_of_row.ensures in
+    let inside = c.requires.inside s k t (rw e at (at-place (lines_of_rows rows) i x below here)) in
+    (inside.0, inside.2, c.requires.fit, omega (arith, inside.3, c.loop-row.auto.steps))
 
-pub loop-line-preserved : goal.loop-line-preserved
-loop-line-preserved c =
-    let lines = c.args.lines.now in
-    let long : length c.loop-line.steps ≡ states_of lines * c.args.ops = c.loop-line.auto.steps ∙ ap length c.requires.empty ∙ length-replicate {A = Option ℕ} (states_of lines * c.args.ops) None in
-    steps_more c.args.ops c.loop-line.line-index lines c.line-item.result c.loop-line.steps c.put_step.new.steps c.loop-line-test.true c.line-item.is
-    (λ s k t h. let inside = c.requires.lines.steps_inside s k t h in
-    let k_in : k < c.args.ops = omega (arith, inside.1, c.requires.ops) in
-    (k_in, omega (arith, long, mul-add-lt s c.args.ops k (states_of lines) inside.0 k_in)))
-    c.requires.lines.steps_once c.put_step.ensures.step c.put_step.ensures.other c.loop-line.invariant
+pub loop-row-preserved : goal.loop-row-preserved
+loop-row-preserved c =
+    let rows = c.args.rows.now in
+    let i = c.loop-row.row-index in
+    let x = c.line_of_row.result in
+    let below : i < length (lines_of_rows rows) = omega (arith, row_count rows, c.loop-row-test.true) in
+    let here : x ≡ get_or (lines_of_rows rows) i x = row_line rows i _ x c.loop-row-test.true c.line_of_row.ensures in
+    steps_more c.args.ops i (lines_of_rows rows) x c.loop-row.steps c.put_step.new.steps below here
+    (λ s k t h. let inside = c.requires.inside s k t h in (inside.1, omega (arith, inside.3, c.loop-row.auto.steps)))
+    c.requires.once c.put_step.ensures.step c.put_step.ensures.other c.loop-row.invariant
 
 pub returns : goal.returns
-returns c = rw (take_all c.loop-line.line-index c.args.lines.now c.loop-line-test.false) at c.loop-line.invariant
+returns c =
+    let rows = c.args.rows.now in
+    let whole = take_all c.loop-row.row-index (lines_of_rows rows) (omega (arith, row_count rows, c.loop-row-test.false)) in
+    rw whole at c.loop-row.invariant

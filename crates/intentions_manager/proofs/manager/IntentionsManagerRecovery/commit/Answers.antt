@@ -6,12 +6,18 @@ use Rattle.object_trait.specs.Meaning.{Meaning}
 use Rattle.object_trait.specs.Steps.{IsCommit}
 use Rattle.intentions_manager.specs.Walk.{carried, FitsTable}
 use Rattle.intentions_manager.specs.declared.views.View.{View}
-use Rattle.intentions_manager.proofs.Keeping.{meant}
+use Rattle.intentions_manager.proofs.Keeping.{meant, all-open}
 use Rattle.intentions_manager.proofs.Committing.{CommitLaws, IsCommitted, committed, committed-commits, committed-kept}
 use Rattle.intentions_manager.proofs.manager.IntentionsManagerRecovery.commit.Goals as goal
 
-pub carry-requires-clause-states : goal.carry-requires-clause-states
-carry-requires-clause-states c =
+pub place_of_last-from-requires-clause-open : goal.place_of_last-from-requires-clause-open
+place_of_last-from-requires-clause-open c = all-open c.self.invariant
+
+pub carry_from-requires-clause-open : goal.carry_from-requires-clause-open
+carry_from-requires-clause-open c = all-open c.self.invariant
+
+pub carry_from-requires-clause-states : goal.carry_from-requires-clause-states
+carry_from-requires-clause-states c =
     let inside = c.self.inside in
     let T : Table = inside.checked.value.file.table in
     let table : c.table.result.now ≡ T = c.table.ensures ∙ ap (λ (x : Checked). x.file.table) c.deref.ensures in
@@ -19,7 +25,7 @@ carry-requires-clause-states c =
     (subst (λ V. All (FitsTable T) V) (sym c.drop_view.ensures) (All-filter (λ (v : View). not (eqb v.by c.args.t)) (FitsTable T) inside.views.items c.self.invariant.fit))
 
 -- the laws that are called
-laws : goal.After-cut_from → CommitLaws
+laws : goal.After-carry_from → CommitLaws
 laws c = record {
   along = c.runs_along.ensures;
   extends = c.equi_extends.ensures;
@@ -34,18 +40,18 @@ laws c = record {
 }
 
 -- what was done
-done : (c : goal.After-cut_from) → IsCommitted (meant c.self.inside) c.self.inside.views.items c.args.t c.place_of_last-from.result c.seen_by-view.result c.cut_from.new.log.items c.carry.new.views.items
+done : (c : goal.After-carry_from) → IsCommitted (meant c.self.inside) c.self.inside.views.items c.args.t c.place_of_last-from.result c.seen_at-view.result c.carry_from.new.log.items c.carry_from.new.views.items
 done c =
     let inside = c.self.inside in
     let T : Table = inside.checked.value.file.table in
     let table : c.table.result.now ≡ T = c.table.ensures ∙ ap (λ (x : Checked). x.file.table) c.deref.ensures in
     let part = drop c.place_of_last-from.result inside.log.items in
     record {
-      seen = c.seen_by-view.ensures;
+      seen = c.seen_at-view.ensures;
       counted = c.place_of_last-from.ensures.counted;
-      cut = c.cut_from.ensures;
-      on = c.carry.ensures.exact ∙ ap (λ x. carried x c.args.t part c.drop_view.new.views.items) table ∙ ap (carried T c.args.t part) c.drop_view.ensures;
-      fit = subst (λ x. All (FitsTable x) c.carry.new.views.items) table c.carry.ensures.states;
+      cut = c.carry_from.ensures.cut;
+      on = c.carry_from.ensures.exact ∙ ap (λ x. carried x c.args.t part c.drop_view.new.views.items) table ∙ ap (carried T c.args.t part) c.drop_view.ensures;
+      fit = subst (λ x. All (FitsTable x) c.carry_from.new.views.items) table c.carry_from.ensures.states;
     }
 
 pub invariant_of-self : goal.invariant_of-self
@@ -54,5 +60,5 @@ invariant_of-self c =
 
 pub returns : goal.returns
 returns c =
-    subst (λ (old : Meaning). IsCommit old c.args.t (committed (meant c.self.inside) c.seen_by-view.result c.cut_from.new.log.items)) c.self.view_is
+    subst (λ (old : Meaning). IsCommit old c.args.t (committed (meant c.self.inside) c.seen_at-view.result c.carry_from.new.log.items)) c.self.view_is
     (committed-commits (laws c) c.self.invariant (done c))

@@ -7,7 +7,7 @@ use Rattle.intentions_manager.proofs.manager.IntentionsManagerRecovery.open_coun
 counted : (c : goal.After-len) → (length c.self.inside.views.items ≡ length (open_transactions c.self.inside.log.items)) × (length c.self.inside.views.items ≤ length c.self.inside.log.items)
 counted c =
     let h = c.self.invariant in
-    count-views c.opens_are_counted.ensures c.self.inside.base c.self.inside.log.items c.self.inside.views.items h.some h.distinct (λ u. (h.seen u).counted)
+    count-views c.opens_are_counted.ensures c.self.inside.base c.self.inside.log.items c.self.inside.views.items h.some h.ordered (λ u. (h.seen u).counted)
 
 pub overflow_cast-result : goal.overflow_cast-result
 overflow_cast-result c =

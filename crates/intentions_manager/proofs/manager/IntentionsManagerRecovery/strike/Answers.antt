@@ -4,14 +4,17 @@ use Rattle.table_checker.specs.Checked.{Checked}
 use Rattle.object_trait.specs.Meaning.{Meaning, open_of}
 use Rattle.object_trait.specs.Steps.{Keeps}
 use Rattle.object_trait.specs.declared.log_entry.LogEntry.{LogEntry}
-use Rattle.intentions_manager.specs.Views.{with_view}
+use Rattle.intentions_manager.specs.Views.{seen_by, with_view}
 use Rattle.intentions_manager.specs.Walk.{walked}
 use Rattle.intentions_manager.specs.declared.views.View.{View}
-use Rattle.intentions_manager.proofs.Seeing.{some_place}
-use Rattle.intentions_manager.proofs.Keeping.{meant, seen-count}
-use Rattle.intentions_manager.proofs.Leaving.{own-count, ops-left}
+use Rattle.intentions_manager.proofs.Seeing.{count-any}
+use Rattle.intentions_manager.proofs.Keeping.{meant, all-open, seen-count}
+use Rattle.intentions_manager.proofs.Leaving.{own-count, ops-left, opens-left}
 use Rattle.intentions_manager.proofs.Rewinding.{StrikeLaws, RewindLaws, with_log, struck-keeps, dropped-kept, rewound-kept}
 use Rattle.intentions_manager.proofs.manager.IntentionsManagerRecovery.strike.Goals as goal
+
+pub take_out-requires-clause-open : goal.take_out-requires-clause-open
+take_out-requires-clause-open c = all-open c.self.invariant
 
 -- ---- nothing is left
 
@@ -33,8 +36,8 @@ returns-then-count-eq0 c =
 
 -- ---- something is left
 
-pub place_of_last-from-requires : goal.place_of_last-from-requires
-place_of_last-from-requires c =
+pub place_of_last-from-requires-clause-many : goal.place_of_last-from-requires-clause-many
+place_of_last-from-requires-clause-many c =
     let inside = c.self.inside in
     let t = c.args.t in
     let n = length (open_of t inside.log.items) - c.args.m in
@@ -42,6 +45,12 @@ place_of_last-from-requires c =
     let many : n ≤ length (open_of t inside.log.items) = omega arith in
     let left : length (open_of t c.take_out.new.log.items) ≡ n = own-count c.keeps_first.ensures t n inside.log.items c.take_out.new.log.items c.take_out.ensures many in
     omega arith
+
+pub place_of_last-from-requires-clause-open : goal.place_of_last-from-requires-clause-open
+place_of_last-from-requires-clause-open c =
+    let inside = c.self.inside in
+    let t = c.args.t in
+    opens-left t (length (open_of t inside.log.items) - c.args.m) inside.log.items c.take_out.new.log.items c.take_out.ensures (all-open c.self.invariant)
 
 pub walked-state-requires-clause-operations : goal.walked-state-requires-clause-operations
 walked-state-requires-clause-operations c =
@@ -57,9 +66,9 @@ put_view-requires-clause-room c =
     let inside = c.self.inside in
     let t = c.args.t in
     let some : 0 < c.seen_at-view.result.count = omega arith in
-    let below = some_place t inside.base inside.views.items (subst (λ (v : View). 0 < v.count) c.seen_at-view.ensures some) in
-    let place = c.place_of-at.ensures in
-    λ past. absurd (omega arith)
+    let seen : c.seen_at-view.result.count ≡ (seen_by t 0 inside.views.items).count =
+    ap (λ (v : View). v.count) c.seen_at-view.ensures ∙ count-any t inside.base 0 inside.views.items in
+    λ none. absurd (omega (arith, some, seen, none))
 
 pub invariant_of-self-2 : goal.invariant_of-self-2
 invariant_of-self-2 c =

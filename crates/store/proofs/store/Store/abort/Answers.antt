@@ -8,7 +8,7 @@ use Rattle.serial_order.specs.declared.refusal.Refusal.TheVariants.{NotOpen}
 use Rattle.open_transactions.specs.Transactions.{count_open}
 use Rattle.store_laws.specs.Kept.{Keeping, keeping, objects_of}
 use Rattle.store.proofs.Stored.{refused-shown}
-use Rattle.store.proofs.Opens.{open-alike, lists-alike, places-inside, places-held}
+use Rattle.store.proofs.Opens.{open-alike, lists-alike, places-inside}
 use Rattle.store.proofs.Endings.{abort-refusal, end-room, end-whole, end-shown}
 use Rattle.store.proofs.store.Store.abort.Goals as goal
 
@@ -36,13 +36,6 @@ abort_at-requires-clause-inside g c =
     let inside = c.self.inside in
     places-inside (map g.R.Recovery.meaning inside.objects.items) inside.locks.items inside.transactions.rows inside.history.items c.args.t c.places.result.now c.self.invariant.store.kept
     (sym c.is_open.ensures ∙ c.if-not-is_open.false) c.places.ensures c.places_are_inside.ensures (length inside.objects.items) (length-map inside.objects.items g.R.Recovery.meaning)
-
-pub abort_at-requires-clause-holds : goal.abort_at-requires-clause-holds
-abort_at-requires-clause-holds g c =
-    λ κs outlives.
-    let inside = c.self.inside in
-    places-held (map g.R.Recovery.meaning inside.objects.items) inside.locks.items inside.transactions.rows inside.history.items c.args.t c.places.result.now c.self.invariant.store.kept
-    (sym c.is_open.ensures ∙ c.if-not-is_open.false) c.places.ensures c.holds_where_it_works.ensures
 
 pub push_reserved-requires : goal.push_reserved-requires
 push_reserved-requires g c =

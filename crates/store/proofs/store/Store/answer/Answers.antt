@@ -78,7 +78,7 @@ execute-executed-requires-clause-may g c κs within = λ m there.
     let room : is_full inside.max_events H 1 ≡ false =
     room-tested c.rows_are_counted.ensures ms inside.locks.items inside.transactions.rows H c.deref.result.now c.open_count-opened.result inside.max_events c.has_room.result true
     c.self.invariant.store.kept c.open_count-opened.ensures.exact c.deref.ensures.value c.has_room.ensures c.if-not-has_room.false in
-    let may = reply-may called c.choose-answer.ensures c.answers_as_defined.ensures c.answer_may_follow.ensures c.machine_may_apply.ensures c.logs_are_counted.ensures
+    let may = reply-may called c.choose-answer.ensures c.answers_are_known.ensures.defined c.answers_are_known.ensures.least c.answers_are_known.ensures.follows c.answers_are_known.ensures.applies c.answers_are_known.ensures.counted
     c.in-Reply.k inside.max_events c.in-Reply.is room (omega arith) in
     subst (λ (z : Meaning). MayApply z c.args.t c.in-Reply.k) (one-at ms c.args.x (g.R.Recovery.meaning c.index.result.now) m called.there there) may
 
@@ -159,7 +159,7 @@ invariant_of-self-2 g c =
     (still-open c.rows_say_who_is_open.ensures ms inside.locks.items inside.transactions.rows H inside.max_events c.args.self.now c.args.t
     c.self.view_is c.self.invariant.store.kept c.requires.still_open) done.0 (appended g c)
     c.stays_kept.ensures c.room_after.ensures c.rows_are_counted.ensures inside.calls.items (vec_capacity inside.history) (vec_capacity c.push_reserved.new.self) inside.max_events
-    c.open_count-opened.result c.self.invariant (answer-follows (called g c) (done.1 ∙ c.choose-answer.ensures) c.answers_as_defined.ensures c.answer_may_follow.ensures c.args.w)
+    c.open_count-opened.result c.self.invariant (answer-follows (called g c) (done.1 ∙ c.choose-answer.ensures) c.answers_are_known.ensures.defined c.answers_are_known.ensures.least c.answers_are_known.ensures.follows c.args.w)
     c.open_count-opened.ensures.exact (omega arith)
     (omega (arith, made, same_room, c.reserve.ensures.len, c.push_reserved.ensures.capacity, inside.history.ok.0)) (roomy g c))
 
@@ -175,4 +175,4 @@ returns g c =
     c.args.w c.args.t c.args.x c.args.call.first c.match-answer.answer c.self.invariant.store.kept
     (still-open c.rows_say_who_is_open.ensures ms inside.locks.items inside.transactions.rows H inside.max_events c.args.self.now c.args.t
     c.self.view_is c.self.invariant.store.kept c.requires.still_open) done.0 (appended g c) inside.max_events c.args.self.now c.self.view_is (roomy g c)
-    (answer-defined (called g c) (done.1 ∙ c.choose-answer.ensures) c.answers_as_defined.ensures))
+    (answer-defined (called g c) (done.1 ∙ c.choose-answer.ensures) c.answers_are_known.ensures.defined))

@@ -7,4 +7,4 @@ use Rattle.colock.proofs.tests.lines.ExampleGrammar.has_twin.Goals as goal
 pub returns-else-item-eq1 : goal.returns-else-item-eq1
 returns-else-item-eq1 c =
     let other = ne_eqb c.args.item.0 1 c.if-item-eq1.false in
-    other ∙ sym (list_any_none (is_twin c.args.item) c.args.before.now (λ k d below. rw other))
+    other ∙ sym (list_any_none (is_twin c.args.item) c.args.before.now.items (λ k d below. rw other))

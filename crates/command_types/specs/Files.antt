@@ -1,0 +1,28 @@
+-- Type files and their texts.
+use Rattle.std.specs.Prelude.{◌≡◌, ◌⊎◌, ℕ, List, Option, IfSome, Result, Ok, Err}
+use Rattle.line_text.specs.Outcome.{outcome_of}
+use Rattle.line_text.specs.declared.fault.TextFault.{TextFault}
+use Rattle.type_text.specs.TypeLines.{type_rules}
+use Rattle.type_text.specs.TypeFile.{IsFileOf}
+use Rattle.type_text.specs.declared.type_line.TypeLine.{TypeLine}
+use Rattle.type_text.specs.declared.type_file.TypeFile.{TypeFile}
+
+-- the file that a text describes
+pub record Describes (text : List ℕ) (file : TypeFile) : Type 0 where
+  pub lines : List TypeLine
+  pub accepted : outcome_of type_rules text ≡ Ok lines
+  pub described : IsFileOf lines file
+
+-- the text has a fault
+abbrev pub IsFaulty : List ℕ → Type 0
+IsFaulty text = (f : TextFault) × (outcome_of type_rules text ≡ Err f)
+
+-- a text was read: its file, or status 2 where it has a fault, or status 3
+abbrev pub ReadsText : List ℕ → Result TypeFile ℕ → Type 0
+ReadsText text (Ok file) = Describes text file
+ReadsText text (Err status) = ((status ≡ 2) × IsFaulty text) ⊎ (status ≡ 3)
+
+-- the same, where the source tells the text
+abbrev pub ReadsFile : Option (List ℕ) → Result TypeFile ℕ → Type 0
+ReadsFile held (Ok file) = IfSome held (λ text. Describes text file)
+ReadsFile held (Err status) = ((status ≡ 2) × IfSome held IsFaulty) ⊎ (status ≡ 3)

@@ -1,0 +1,10 @@
+use Rattle.std.proofs.Common.{rules}
+use Rattle.clap.specs.Simple.{new_app}
+use Rattle.command_words.specs.Program.{IsCommand}
+use Rattle.command_words.proofs.program.store_command.Goals as goal
+
+pub returns : goal.returns
+returns c =
+    let bare_is : IsCommand (new_app c.args.name.now) c.override_help-bare.result = search rules in
+    let path_added = c.with_word-with_path.ensures _ _ bare_is c.wanted.ensures in
+    c.with_word.ensures _ _ path_added c.types_arg.ensures

@@ -1,0 +1,162 @@
+-- What an event leaves as it was: the operations of committed transactions, and so their places in the serial order.
+use Rattle.std.proofs.Common.{◌≡◌, ℕ, suc, ◌<◌, ◌≤◌, Bool, true, false, not, ◌&&◌, ◌==◌, nat_lt, List, [], ◌∷◌, ◌++◌, length, take, Some, slice_get, refl, sym, ap, subst, ◌∙◌, inl, inr, append-nil, append_assoc, arith}
+use Rattle.std.specs.List.{AllByRecursion}
+use Rattle.std.proofs.lemmas.Bool.{cases_Bool, eqb-true, false≢true}
+use Rattle.std.proofs.lemmas.Grind.{flat_map-append}
+use Rattle.std.proofs.lemmas.List.{take-append-le}
+use Rattle.std.proofs.lemmas.Option.{slice_get_within}
+use Rattle.type_table.specs.Table.{Table}
+use Rattle.type_table.specs.Run.{run}
+use Rattle.object_trait.specs.declared.event.Event.{Event}
+use Rattle.object_trait.specs.declared.event.EventKind.{EventKind}
+use Rattle.object_trait.specs.declared.event.EventKind.TheVariants as kind
+use Rattle.object_trait.specs.declared.event.EventKind.TheVariants.{Begin, Op, Busy, Commit, Abort, Rollback}
+use Rattle.serial_order.specs.Operations.{is_among, ops, at_object, is_by, of, serial}
+use Rattle.serial_order.specs.History.{Seen, seen, is_open, commits, committed_by, standing, IsOperation, MayStand, GoesOn}
+use Rattle.serial_order.specs.Serial.{standing_at, serial_at}
+use Rattle.serial_order.specs.After.{after, SeenAfter}
+use Rattle.serial_order.specs.Held.{OwnAfter}
+use Rattle.serial_order.specs.declared.entry.Entry.{Entry}
+use Rattle.history_audit.specs.Audit.{IsIllegalAt, IsFirstIllegal, serial_up_to}
+use Rattle.history_audit.proofs.Lists.{slice_get-front, filter-turned, among-at, among-take, serial-same, each-append, each-keep_first}
+
+-- ---- one more event
+
+-- a history goes on by an event that may stand behind it
+pub goes-more : (tables : List Table) (before H : List Event) (e : Event) → GoesOn tables before H → MayStand tables (seen (before ++ H)) e.kind → GoesOn tables before (H ++ e ∷ [])
+goes-more tables before [] e goes may = (rw (append-nil before) at may, tt)
+goes-more tables before (f ∷ H) e goes may =
+    (goes.0, goes-more tables (before ++ f ∷ []) H e goes.1 (rw (append_assoc before (f ∷ []) H) may))
+
+-- each operation that lives is one of an object that is there
+pub there-after : (tables : List Table) (s : Seen) (happened : EventKind) → MayStand tables s happened
+    → AllByRecursion (λ (e : Entry). IsOperation (slice_get tables e.at) e.op) s.stands → AllByRecursion (λ (e : Entry). IsOperation (slice_get tables e.at) e.op) (after s happened).stands
+there-after tables s (Begin t) may known = known
+there-after tables s (Op t x k) may known = each-append (λ (e : Entry). IsOperation (slice_get tables e.at) e.op) s.stands ((record { by = t; at = x; op = k }) ∷ []) known (may.1, tt)
+there-after tables s (Busy c t x u) may known = known
+there-after tables s (kind.None t x c) may known = known
+there-after tables s (Commit t) may known = known
+there-after tables s (Abort t) may known = each-keep_first (λ (e : Entry). IsOperation (slice_get tables e.at) e.op) (is_by t) 0 s.stands known
+there-after tables s (Rollback t n) may known = each-keep_first (λ (e : Entry). IsOperation (slice_get tables e.at) e.op) (is_by t) _ s.stands known
+
+-- ---- committed transactions
+
+-- what passes three such tests fails the second one
+second-fails : (a b c : Bool) → (a && (not b && not c)) ≡ true → b ≡ false
+second-fails true false c is = refl
+second-fails true true c is = absurd (false≢true is)
+second-fails false b c is = absurd (false≢true is)
+
+-- an open transaction is no committed one
+other-than-open : (s : Seen) (t u : ℕ) → is_open s t ≡ true → is_among s.committed u ≡ true → (t == u) ≡ false
+other-than-open s t u opened committed =
+    elim (cases_Bool (t == u)) [
+      | inl is ↦
+          let P : ℕ → Type 0 = λ v. is_among s.committed v ≡ false in
+          absurd (false≢true (sym (subst P (eqb-true t u is) (second-fails (nat_lt t s.begun) (is_among s.committed t) (is_among s.aborted t) opened)) ∙ committed))
+      | inr other ↦ other
+    ]
+
+-- the operations of a committed transaction are the same after any event
+same-own : OwnAfter → (tables : List Table) (s : Seen) (happened : EventKind) (u : ℕ) → MayStand tables s happened → is_among s.committed u ≡ true → of u (after s happened).stands ≡ of u s.stands
+same-own own tables s (Begin t) u may committed = refl
+same-own own tables s (Op t x k) u may committed = rw (other-than-open s t u may.0 committed) at (own s (Op t x k) u)
+same-own own tables s (Busy c t x v) u may committed = refl
+same-own own tables s (kind.None t x c) u may committed = refl
+same-own own tables s (Commit t) u may committed = refl
+same-own own tables s (Abort t) u may committed = rw (other-than-open s t u may committed) at (own s (Abort t) u)
+same-own own tables s (Rollback t n) u may committed = rw (other-than-open s t u may.0 committed) at (own s (Rollback t n) u)
+
+-- a commit is the last in commit order
+committed-after : (s : Seen) (happened : EventKind) → (after s happened).committed ≡ s.committed ++ committed_by happened
+committed-after s (Begin t) = sym (append-nil s.committed)
+committed-after s (Op t x k) = sym (append-nil s.committed)
+committed-after s (Busy c t x u) = sym (append-nil s.committed)
+committed-after s (kind.None t x c) = sym (append-nil s.committed)
+committed-after s (Commit t) = refl
+committed-after s (Abort t) = sym (append-nil s.committed)
+committed-after s (Rollback t n) = sym (append-nil s.committed)
+
+-- the longer history has the commits of the other one and these, and each of the other's committed transactions has the operations that it had
+pub record KeepsCommitted (H K : List Event) (more : List ℕ) : Type 0 where
+  pub commits_are : commits K ≡ commits H ++ more
+  pub same : (x u : ℕ) → is_among (commits H) u ≡ true → of u (standing_at x K) ≡ of u (standing_at x H)
+
+pub keeps-committed : SeenAfter → OwnAfter → (tables : List Table) (H : List Event) (e : Event) → MayStand tables (seen H) e.kind → KeepsCommitted H (H ++ e ∷ []) (committed_by e.kind)
+keeps-committed seen_after own tables H e may = record {
+  commits_are = ap (λ (s : Seen). s.committed) (seen_after H e) ∙ committed-after (seen H) e.kind;
+  same = λ x u committed.
+      filter-turned (is_by u) (λ f. f.at == x) (standing (H ++ e ∷ []))
+      ∙ ap (at_object x) (ap (λ (s : Seen). of u s.stands) (seen_after H e) ∙ same-own own tables (seen H) e.kind u may committed)
+      ∙ sym (filter-turned (is_by u) (λ f. f.at == x) (standing H));
+}
+
+-- ---- places in the serial order
+
+module _ (H K : List Event) (more : List ℕ) (kept : KeepsCommitted H K more) where
+  -- the serial order of the transactions that had committed
+  pub serial-kept : (x : ℕ) → serial (commits H) (standing_at x K) ≡ serial_at x H
+  serial-kept x = serial-same (commits H) (standing_at x K) (standing_at x H) (kept.same x)
+
+  -- and with those that committed since
+  pub serial-more : (x : ℕ) → serial_at x K ≡ serial_at x H ++ serial more (standing_at x K)
+  serial-more x =
+      ap (λ C. serial C (standing_at x K)) kept.commits_are
+      ∙ flat_map-append (λ t. of t (standing_at x K)) (commits H) more
+      ∙ ap (λ V. V ++ serial more (standing_at x K)) (serial-kept x)
+
+  place-kept : (i : ℕ) → i < length (commits H) → slice_get (commits K) i ≡ slice_get (commits H) i
+  place-kept i inside = ap (λ C. slice_get C i) kept.commits_are ∙ slice_get-front (commits H) more i inside
+
+  -- the first commits
+  pub front-kept : (i : ℕ) → i ≤ length (commits H) → take i (commits K) ≡ take i (commits H)
+  front-kept i inside = ap (take i) kept.commits_are ∙ take-append-le i (commits H) more inside
+
+  up_to-kept : (i u x j : ℕ) → slice_get (commits H) i ≡ Some u → serial_up_to K i u x j ≡ serial_up_to H i u x j
+  up_to-kept i u x j at =
+      let inside = slice_get_within (commits H) i u at in
+      let first = front-kept i (omega (arith, inside)) in
+      let same = serial-same (take i (commits H)) (standing_at x K) (standing_at x H) (λ t is. kept.same x t (among-take (commits H) i t is)) in
+      ap (λ C. ops (serial C (standing_at x K) ++ take (suc j) (of u (standing_at x K)))) first
+      ∙ ap (λ V. ops (V ++ take (suc j) (of u (standing_at x K)))) same
+      ∙ ap (λ V. ops (serial (take i (commits H)) (standing_at x H) ++ take (suc j) V)) (kept.same x u (among-at (commits H) i u at))
+
+  -- an operation of them that isn't legal stays so
+  illegal-kept : (tables : List Table) (i x j : ℕ) → IsIllegalAt tables H i x j → IsIllegalAt tables K i x j
+  illegal-kept tables i x j wrong =
+      let inside = slice_get_within (commits H) i wrong.t wrong.committed in
+      record {
+        t = wrong.t;
+        table = wrong.table;
+        committed = place-kept i inside ∙ wrong.committed;
+        object = wrong.object;
+        there = rw (kept.same x wrong.t (among-at (commits H) i wrong.t wrong.committed)) wrong.there;
+        illegal = ap (run wrong.table (Some wrong.table.initial)) (up_to-kept i wrong.t x j wrong.committed) ∙ wrong.illegal;
+      }
+
+  -- and was so
+  pub illegal-back : (tables : List Table) (i x j : ℕ) → i < length (commits H) → IsIllegalAt tables K i x j → IsIllegalAt tables H i x j
+  illegal-back tables i x j inside wrong =
+      let at = sym (place-kept i inside) ∙ wrong.committed in
+      record {
+        t = wrong.t;
+        table = wrong.table;
+        committed = at;
+        object = wrong.object;
+        there = rw (kept.same x wrong.t (among-at (commits H) i wrong.t at)) at wrong.there;
+        illegal = ap (run wrong.table (Some wrong.table.initial)) (sym (up_to-kept i wrong.t x j at)) ∙ wrong.illegal;
+      }
+
+  -- the first one stays the first
+  pub first-kept : (tables : List Table) (i x j : ℕ) → IsFirstIllegal tables H i x j → IsFirstIllegal tables K i x j
+  first-kept tables i x j known =
+      let inside = slice_get_within (commits H) i known.illegal.t known.illegal.committed in
+      record {
+        illegal = illegal-kept tables i x j known.illegal;
+        first = λ k y l before wrong.
+            let front : k < length (commits H) = elim before [
+              | inl less ↦ omega (arith, inside, less)
+              | inr same ↦ let e = same.0 in omega (arith, inside, e)
+            ] in
+            known.first k y l before (illegal-back tables k y l front wrong);
+      }

@@ -1,0 +1,10 @@
+pub mod Turns
+pub mod Lines
+pub mod Serials
+pub mod Said
+pub mod Lists
+pub mod Replayed
+pub mod Kept
+pub mod Committed
+pub mod Audited
+pub mod Examples

@@ -1,0 +1,28 @@
+ghost use Rattle.std.specs.Prelude.{map};
+ghost use Rattle.history_audit.specs.Audit.{Audits};
+
+use crate::auditor::Auditor;
+use crate::outcome::{Audit, AuditFault};
+use object_trait::Event;
+use std::alloc::{AllocError, Global};
+use type_table::TypeTable;
+
+/// Audits events at objects of these tables, in time linear in the events. At `Ok` the events are a history and
+/// serially legal.
+///
+/// # Errors
+///
+/// `BadEvent` where the events are no history, with the first bad one; `IllegalOp` where they are one that isn't
+/// serially legal, with the first illegal operation; `NoMemory` where memory was refused.
+pub fn audit(alloc: Global, events: &[Event], tables: &[&TypeTable]) -> Result<Audit, AuditFault>
+    ensures { Audits (map (λ t. t.now) tables.now) events.now result }
+{
+    let mut auditor = match Auditor::new(alloc, tables) {
+        Ok(auditor) => auditor,
+        Err(AllocError) => return Err(AuditFault::NoMemory),
+    };
+    for at in 0..events.len() {
+        auditor.take(tables, events, at)?;
+    }
+    auditor.outcome()
+}

@@ -1,0 +1,4 @@
+pub mod Rows
+pub mod Moves
+pub mod Judges
+pub mod Examples

@@ -1,0 +1,10 @@
+pub mod Taken
+pub mod Turns
+pub mod LineEnds
+pub mod Writing
+pub mod Follows
+pub mod Accepted
+pub mod Spelled
+pub mod Said
+pub mod CanonicalRead
+pub mod Fit

@@ -1,0 +1,40 @@
+-- What the lines of a canonical text say.
+use Rattle.std.proofs.Common.{◌≡◌, ℕ, List, [], ◌∷◌, ◌++◌, map, refl, ap, ◌∙◌}
+use Rattle.object_trait.specs.declared.event.Event.{Event}
+use Rattle.object_trait.specs.declared.event.EventKind.{EventKind}
+use Rattle.object_trait.specs.declared.event.EventKind.TheVariants as kind
+use Rattle.store_text.specs.Said.{objects_of, entries_of}
+use Rattle.store_text.specs.declared.line.Line.TheVariants.{End}
+use Rattle.store_text.specs.declared.line.ObjectLine.{ObjectLine}
+use Rattle.history_text.specs.Events.{event_of, line_at}
+use Rattle.history_text.specs.Canonical.{event_line, canonical_lines}
+
+-- the lines of events say no object
+no_object : (happened : List Event) → objects_of (map event_line happened ++ End ∷ []) ≡ []
+no_object [] = refl
+no_object (e ∷ happened) = no_object happened
+
+-- the lines of a history say its objects
+pub objects_said : (objects : List ObjectLine) (happened : List Event) → objects_of (canonical_lines objects happened) ≡ objects
+objects_said [] happened = no_object happened
+objects_said (o ∷ objects) happened = ap (λ rest. o ∷ rest) (objects_said objects happened)
+
+-- the line of an event says it
+event_again : (w : ℕ) (k : EventKind) → event_of (line_at w k) ≡ record { worker = w; kind = k }
+event_again w (kind.Begin t) = refl
+event_again w (kind.Op t x k) = refl
+event_again w (kind.Busy c t x u) = refl
+event_again w (kind.None t x c) = refl
+event_again w (kind.Commit t) = refl
+event_again w (kind.Abort t) = refl
+event_again w (kind.Rollback t n) = refl
+
+-- the lines of the events say them
+events_again : (happened : List Event) → map event_of (entries_of (map event_line happened ++ End ∷ [])) ≡ happened
+events_again [] = refl
+events_again (e ∷ happened) = ap (λ f. f ∷ map event_of (entries_of (map event_line happened ++ End ∷ []))) (event_again e.worker e.kind) ∙ ap (λ rest. e ∷ rest) (events_again happened)
+
+-- and those of a history its events
+pub events_said : (objects : List ObjectLine) (happened : List Event) → map event_of (entries_of (canonical_lines objects happened)) ≡ happened
+events_said [] happened = events_again happened
+events_said (o ∷ objects) happened = events_said objects happened

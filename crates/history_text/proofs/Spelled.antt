@@ -1,0 +1,225 @@
+-- The words of a line say it.
+use Rattle.std.proofs.Common.{◌≡◌, ℕ, ◌+◌, ◌*◌, ◌<◌, ◌≤◌, ◌^◌, Bool, true, ◌&&◌, leb, List, [], ◌∷◌, length, map, refl, arith}
+use Rattle.std.specs.Prelude.{codes}
+use Rattle.std.specs.Fmt.{decimal}
+use Rattle.std.specs.List.{AllByRecursion, list_all}
+use Rattle.std.proofs.lemmas.Bool.{leb-true, and_parts}
+use Rattle.std.proofs.lemmas.List.{length-append}
+use Rattle.type_table.specs.declared.kind.Kind.{Kind}
+use Rattle.type_table.specs.declared.kind.Kind.TheVariants.{Undo, Intentions}
+use Rattle.line_text.specs.Shapes.{exactly, number_at, kind_at, is_key}
+use Rattle.line_text.specs.Spelling.{spaced, IsWord, Spells, NumberIsReadAgain}
+use Rattle.store_text.specs.Body.{store_rules, line_of, object_of_words, end_of_words}
+use Rattle.store_text.specs.declared.line.Line.TheVariants.{Object, Entry, End}
+use Rattle.history_text.specs.declared.event_line.EventLine.{EventLine}
+use Rattle.history_text.specs.declared.event_line.EventLine.TheVariants.{Begin, Op, Busy, Nothing, Commit, Abort, Rollback}
+use Rattle.history_text.specs.Events.{events, event_line_of, begin_of, op_of, busy_of, nothing_of, commit_of, abort_of, rollback_of, is_in_range, is_worker, is_transaction, is_object, is_operation}
+use Rattle.history_text.specs.Canonical.{words_of}
+
+-- ---- words
+
+-- a byte that a word may have, as a test
+abbrev is_word_byte : ℕ → Bool
+is_word_byte b = leb 33 b && leb b 126
+
+-- bytes that pass the test
+word_bytes : (w : List ℕ) → list_all is_word_byte w ≡ true → AllByRecursion (λ b. (33 ≤ b) × (b ≤ 126)) w
+word_bytes [] h = tt
+word_bytes (b ∷ w) h =
+    let parts = and_parts (is_word_byte b) (list_all is_word_byte w) h in
+    let ends = and_parts (leb 33 b) (leb b 126) parts.0 in
+    ((leb-true 33 b ends.0, leb-true b 126 ends.1), word_bytes w parts.1)
+
+-- a keyword is a word
+keyword : (w : List ℕ) → leb 1 (length w) ≡ true → list_all is_word_byte w ≡ true → IsWord w
+keyword w some each = (omega (arith, leb-true 1 (length w) some), word_bytes w each)
+
+-- the length of a line with one more word in front
+length-spaced : (w v : List ℕ) (ws : List (List ℕ)) → length (spaced (w ∷ v ∷ ws)) ≡ length w + 1 + length (spaced (v ∷ ws))
+length-spaced w v ws = omega (arith, length-append w (32 ∷ spaced (v ∷ ws)))
+
+-- ---- ranges
+
+-- numbers of at most seven digits
+abbrev pub AreSmall : List ℕ → Type 0
+AreSmall ns = AllByRecursion (λ n. n < 10 ^ 7) ns
+
+worker : (w : ℕ) → is_worker w ≡ true → w < 10 ^ 7
+worker w h = omega (arith, leb-true w 255 h)
+
+transaction : (t : ℕ) → is_transaction t ≡ true → t < 10 ^ 7
+transaction t h = omega (arith, leb-true t 999999 h)
+
+object : (x : ℕ) → is_object x ≡ true → x < 10 ^ 7
+object x h = omega (arith, leb-true x 255 h)
+
+operation : (k : ℕ) → is_operation k ≡ true → k < 10 ^ 7
+operation k h = omega (arith, leb-true k 63 h)
+
+module _ (numbers : (n : ℕ) → n < 10 ^ 7 → NumberIsReadAgain n) where
+  -- numbers are words
+  are_words : (ns : List ℕ) → AreSmall ns → AllByRecursion IsWord (map decimal ns)
+  are_words [] h = tt
+  are_words (n ∷ ns) h = ((numbers n h.0).is_word, are_words ns h.1)
+
+  -- a line of a word and some numbers is short
+  short_line : (w : List ℕ) (ns : List ℕ) → AreSmall ns → length (spaced (w ∷ map decimal ns)) ≤ length w + 8 * length ns
+  short_line w [] h = omega arith
+  short_line w (n ∷ ns) h = omega (arith, length-spaced w (decimal n) (map decimal ns), short_line (decimal n) ns h.1, (numbers n h.0).short)
+
+  -- the words of an `object` line
+  object_spells : (kind : Kind) (file : ℕ) → file < 10 ^ 7 → Spells (store_rules events) (Object kind file) (words_of (Object kind file))
+  unfolding line_of object_of_words exactly number_at kind_at is_key
+  object_spells Undo file small = record {
+    some = omega arith;
+    each = (keyword (codes "object") refl refl, (keyword (codes "undo") refl refl, are_words (file ∷ []) (small, tt)));
+    no_comment = λ e. omega (arith, e);
+    short = omega (arith, length-spaced (codes "object") (codes "undo") (decimal file ∷ []), short_line (codes "undo") (file ∷ []) (small, tt));
+    said = rw (numbers file small).read refl;
+  }
+  object_spells Intentions file small = record {
+    some = omega arith;
+    each = (keyword (codes "object") refl refl, (keyword (codes "intentions") refl refl, are_words (file ∷ []) (small, tt)));
+    no_comment = λ e. omega (arith, e);
+    short = omega (arith, length-spaced (codes "object") (codes "intentions") (decimal file ∷ []), short_line (codes "intentions") (file ∷ []) (small, tt));
+    said = rw (numbers file small).read refl;
+  }
+
+  -- the words of a `begin` line
+  begin_spells : (w t : ℕ) → w < 10 ^ 7 → t < 10 ^ 7 → Spells (store_rules events) (Entry (Begin w t)) (words_of (Entry (Begin w t)))
+  unfolding line_of event_line_of begin_of exactly number_at is_key
+  begin_spells w t w_small t_small =
+      let small : AreSmall (w ∷ t ∷ []) = (w_small, (t_small, tt)) in
+      record {
+        some = omega arith;
+        each = (keyword (codes "begin") refl refl, are_words (w ∷ t ∷ []) small);
+        no_comment = λ e. omega (arith, e);
+        short = omega (arith, short_line (codes "begin") (w ∷ t ∷ []) small);
+        said = rw ((numbers w w_small).read, (numbers t t_small).read) refl;
+      }
+
+  -- the words of a `op` line
+  op_spells : (w t x k : ℕ) → w < 10 ^ 7 → t < 10 ^ 7 → x < 10 ^ 7 → k < 10 ^ 7 → Spells (store_rules events) (Entry (Op w t x k)) (words_of (Entry (Op w t x k)))
+  unfolding line_of event_line_of op_of exactly number_at is_key
+  op_spells w t x k w_small t_small x_small k_small =
+      let small : AreSmall (w ∷ t ∷ x ∷ k ∷ []) = (w_small, (t_small, (x_small, (k_small, tt)))) in
+      record {
+        some = omega arith;
+        each = (keyword (codes "op") refl refl, are_words (w ∷ t ∷ x ∷ k ∷ []) small);
+        no_comment = λ e. omega (arith, e);
+        short = omega (arith, short_line (codes "op") (w ∷ t ∷ x ∷ k ∷ []) small);
+        said = rw ((numbers w w_small).read, (numbers t t_small).read, (numbers x x_small).read, (numbers k k_small).read) refl;
+      }
+
+  -- the words of a `busy` line
+  busy_spells : (w t x c u : ℕ) → w < 10 ^ 7 → t < 10 ^ 7 → x < 10 ^ 7 → c < 10 ^ 7 → u < 10 ^ 7 → Spells (store_rules events) (Entry (Busy w t x c u)) (words_of (Entry (Busy w t x c u)))
+  unfolding line_of event_line_of busy_of exactly number_at is_key
+  busy_spells w t x c u w_small t_small x_small c_small u_small =
+      let small : AreSmall (w ∷ t ∷ x ∷ c ∷ u ∷ []) = (w_small, (t_small, (x_small, (c_small, (u_small, tt))))) in
+      record {
+        some = omega arith;
+        each = (keyword (codes "busy") refl refl, are_words (w ∷ t ∷ x ∷ c ∷ u ∷ []) small);
+        no_comment = λ e. omega (arith, e);
+        short = omega (arith, short_line (codes "busy") (w ∷ t ∷ x ∷ c ∷ u ∷ []) small);
+        said = rw ((numbers w w_small).read, (numbers t t_small).read, (numbers x x_small).read, (numbers c c_small).read, (numbers u u_small).read) refl;
+      }
+
+  -- the words of a `none` line
+  nothing_spells : (w t x c : ℕ) → w < 10 ^ 7 → t < 10 ^ 7 → x < 10 ^ 7 → c < 10 ^ 7 → Spells (store_rules events) (Entry (Nothing w t x c)) (words_of (Entry (Nothing w t x c)))
+  unfolding line_of event_line_of nothing_of exactly number_at is_key
+  nothing_spells w t x c w_small t_small x_small c_small =
+      let small : AreSmall (w ∷ t ∷ x ∷ c ∷ []) = (w_small, (t_small, (x_small, (c_small, tt)))) in
+      record {
+        some = omega arith;
+        each = (keyword (codes "none") refl refl, are_words (w ∷ t ∷ x ∷ c ∷ []) small);
+        no_comment = λ e. omega (arith, e);
+        short = omega (arith, short_line (codes "none") (w ∷ t ∷ x ∷ c ∷ []) small);
+        said = rw ((numbers w w_small).read, (numbers t t_small).read, (numbers x x_small).read, (numbers c c_small).read) refl;
+      }
+
+  -- the words of a `commit` line
+  commit_spells : (w t : ℕ) → w < 10 ^ 7 → t < 10 ^ 7 → Spells (store_rules events) (Entry (Commit w t)) (words_of (Entry (Commit w t)))
+  unfolding line_of event_line_of commit_of exactly number_at is_key
+  commit_spells w t w_small t_small =
+      let small : AreSmall (w ∷ t ∷ []) = (w_small, (t_small, tt)) in
+      record {
+        some = omega arith;
+        each = (keyword (codes "commit") refl refl, are_words (w ∷ t ∷ []) small);
+        no_comment = λ e. omega (arith, e);
+        short = omega (arith, short_line (codes "commit") (w ∷ t ∷ []) small);
+        said = rw ((numbers w w_small).read, (numbers t t_small).read) refl;
+      }
+
+  -- the words of a `abort` line
+  abort_spells : (w t : ℕ) → w < 10 ^ 7 → t < 10 ^ 7 → Spells (store_rules events) (Entry (Abort w t)) (words_of (Entry (Abort w t)))
+  unfolding line_of event_line_of abort_of exactly number_at is_key
+  abort_spells w t w_small t_small =
+      let small : AreSmall (w ∷ t ∷ []) = (w_small, (t_small, tt)) in
+      record {
+        some = omega arith;
+        each = (keyword (codes "abort") refl refl, are_words (w ∷ t ∷ []) small);
+        no_comment = λ e. omega (arith, e);
+        short = omega (arith, short_line (codes "abort") (w ∷ t ∷ []) small);
+        said = rw ((numbers w w_small).read, (numbers t t_small).read) refl;
+      }
+
+  -- the words of a `rollback` line
+  rollback_spells : (w t n : ℕ) → w < 10 ^ 7 → t < 10 ^ 7 → n < 10 ^ 7 → Spells (store_rules events) (Entry (Rollback w t n)) (words_of (Entry (Rollback w t n)))
+  unfolding line_of event_line_of rollback_of exactly number_at is_key
+  rollback_spells w t n w_small t_small n_small =
+      let small : AreSmall (w ∷ t ∷ n ∷ []) = (w_small, (t_small, (n_small, tt))) in
+      record {
+        some = omega arith;
+        each = (keyword (codes "rollback") refl refl, are_words (w ∷ t ∷ n ∷ []) small);
+        no_comment = λ e. omega (arith, e);
+        short = omega (arith, short_line (codes "rollback") (w ∷ t ∷ n ∷ []) small);
+        said = rw ((numbers w w_small).read, (numbers t t_small).read, (numbers n n_small).read) refl;
+      }
+
+  -- the words of the `end` line
+  pub end_spells : Spells (store_rules events) End (words_of End)
+  unfolding line_of end_of_words exactly is_key
+  end_spells = record {
+    some = omega arith;
+    each = (keyword (codes "end") refl refl, tt);
+    no_comment = λ e. omega (arith, e);
+    short = omega arith;
+    said = refl;
+  }
+
+  -- the line of an object is said by its words
+  pub object_line_spells : (kind : Kind) (file : ℕ) → file ≤ 255 → Spells (store_rules events) (Object kind file) (words_of (Object kind file))
+  object_line_spells kind file fit = object_spells kind file (omega (arith, fit))
+
+  -- so is that of an event whose numbers are in range
+  pub event_line_spells : (x : EventLine) → is_in_range x ≡ true → Spells (store_rules events) (Entry x) (words_of (Entry x))
+  event_line_spells (Begin w t) h =
+      let p1 : ((is_worker w) ≡ true) × ((is_transaction t) ≡ true) = and_parts _ _ h in
+      begin_spells w t (worker w p1.0) (transaction t p1.1)
+  event_line_spells (Op w t x k) h =
+      let p3 : ((is_worker w && is_transaction t && is_object x) ≡ true) × ((is_operation k) ≡ true) = and_parts _ _ h in
+      let p2 : ((is_worker w && is_transaction t) ≡ true) × ((is_object x) ≡ true) = and_parts _ _ p3.0 in
+      let p1 : ((is_worker w) ≡ true) × ((is_transaction t) ≡ true) = and_parts _ _ p2.0 in
+      op_spells w t x k (worker w p1.0) (transaction t p1.1) (object x p2.1) (operation k p3.1)
+  event_line_spells (Busy w t x c u) h =
+      let p4 : ((is_worker w && is_transaction t && is_object x && is_operation c) ≡ true) × ((is_transaction u) ≡ true) = and_parts _ _ h in
+      let p3 : ((is_worker w && is_transaction t && is_object x) ≡ true) × ((is_operation c) ≡ true) = and_parts _ _ p4.0 in
+      let p2 : ((is_worker w && is_transaction t) ≡ true) × ((is_object x) ≡ true) = and_parts _ _ p3.0 in
+      let p1 : ((is_worker w) ≡ true) × ((is_transaction t) ≡ true) = and_parts _ _ p2.0 in
+      busy_spells w t x c u (worker w p1.0) (transaction t p1.1) (object x p2.1) (operation c p3.1) (transaction u p4.1)
+  event_line_spells (Nothing w t x c) h =
+      let p3 : ((is_worker w && is_transaction t && is_object x) ≡ true) × ((is_operation c) ≡ true) = and_parts _ _ h in
+      let p2 : ((is_worker w && is_transaction t) ≡ true) × ((is_object x) ≡ true) = and_parts _ _ p3.0 in
+      let p1 : ((is_worker w) ≡ true) × ((is_transaction t) ≡ true) = and_parts _ _ p2.0 in
+      nothing_spells w t x c (worker w p1.0) (transaction t p1.1) (object x p2.1) (operation c p3.1)
+  event_line_spells (Commit w t) h =
+      let p1 : ((is_worker w) ≡ true) × ((is_transaction t) ≡ true) = and_parts _ _ h in
+      commit_spells w t (worker w p1.0) (transaction t p1.1)
+  event_line_spells (Abort w t) h =
+      let p1 : ((is_worker w) ≡ true) × ((is_transaction t) ≡ true) = and_parts _ _ h in
+      abort_spells w t (worker w p1.0) (transaction t p1.1)
+  event_line_spells (Rollback w t n) h =
+      let p3 : ((is_worker w && is_transaction t && leb 1 n) ≡ true) × ((leb n 999999) ≡ true) = and_parts _ _ h in
+      let p2 : ((is_worker w && is_transaction t) ≡ true) × ((leb 1 n) ≡ true) = and_parts _ _ p3.0 in
+      let p1 : ((is_worker w) ≡ true) × ((is_transaction t) ≡ true) = and_parts _ _ p2.0 in
+      rollback_spells w t n (worker w p1.0) (transaction t p1.1) (omega (arith, leb-true n 999999 p3.1))

@@ -1,0 +1,87 @@
+-- The canonical text of a history: its objects and its events in order, one line for each, and `end`.
+use Rattle.std.specs.Prelude.{◌≡◌, ℕ, ◌<◌, ◌≤◌, true, List, [], ◌∷◌, ◌++◌, length, map, Ok, codes}
+use Rattle.std.specs.Fmt.{decimal}
+use Rattle.std.specs.List.{AllByRecursion}
+use Rattle.type_table.specs.Kind.{kind_word}
+use Rattle.object_trait.specs.declared.event.Event.{Event}
+use Rattle.line_text.specs.Outcome.{outcome_of}
+use Rattle.line_text.specs.Spelling.{text_of}
+use Rattle.store_text.specs.Body.{store_rules}
+use Rattle.store_text.specs.Parts.{Reads}
+use Rattle.store_text.specs.Said.{objects_of, entries_of}
+use Rattle.store_text.specs.declared.line.Line.{Line}
+use Rattle.store_text.specs.declared.line.Line.TheVariants.{Max, Object, Entry, End}
+use Rattle.store_text.specs.declared.line.ObjectLine.{ObjectLine}
+use Rattle.history_text.specs.declared.event_line.EventLine.{EventLine}
+use Rattle.history_text.specs.declared.event_line.EventLine.TheVariants.{Begin, Op, Busy, Nothing, Commit, Abort, Rollback}
+use Rattle.history_text.specs.declared.history_file.HistoryFile.{HistoryFile}
+use Rattle.history_text.specs.Events.{events, event_of, line_of, is_in_range}
+use Rattle.history_text.specs.History.{IsHistoryOf}
+
+-- ---- a line
+
+-- the words of an event's line
+abbrev pub event_words : EventLine → List (List ℕ)
+event_words (Begin w t) = codes "begin" ∷ decimal w ∷ decimal t ∷ []
+event_words (Op w t x k) = codes "op" ∷ decimal w ∷ decimal t ∷ decimal x ∷ decimal k ∷ []
+event_words (Busy w t x c u) = codes "busy" ∷ decimal w ∷ decimal t ∷ decimal x ∷ decimal c ∷ decimal u ∷ []
+event_words (Nothing w t x c) = codes "none" ∷ decimal w ∷ decimal t ∷ decimal x ∷ decimal c ∷ []
+event_words (Commit w t) = codes "commit" ∷ decimal w ∷ decimal t ∷ []
+event_words (Abort w t) = codes "abort" ∷ decimal w ∷ decimal t ∷ []
+event_words (Rollback w t n) = codes "rollback" ∷ decimal w ∷ decimal t ∷ decimal n ∷ []
+
+-- the words of a line; a history has no `max` line
+abbrev pub words_of : Line EventLine → List (List ℕ)
+words_of (Max most) = codes "max" ∷ decimal most ∷ []
+words_of (Object kind file) = codes "object" ∷ kind_word kind ∷ decimal file ∷ []
+words_of (Entry x) = event_words x
+words_of End = codes "end" ∷ []
+
+-- ---- the text
+
+-- the line of an object
+abbrev pub object_line : ObjectLine → Line EventLine
+object_line o = Object o.kind o.file
+
+-- the line of an event
+abbrev pub event_line : Event → Line EventLine
+event_line e = Entry (line_of e)
+
+abbrev pub canonical_lines : List ObjectLine → List Event → List (Line EventLine)
+canonical_lines objects happened = map object_line objects ++ (map event_line happened ++ End ∷ [])
+
+abbrev pub canonical_text : List ObjectLine → List Event → List ℕ
+canonical_text objects happened = text_of words_of (canonical_lines objects happened)
+
+-- ---- that it is read again
+
+-- every number and count is in its range
+pub record AreInRange (objects : List ObjectLine) (happened : List Event) : Type 0 where
+  pub some_object : 0 < length objects
+  pub objects_fit : length objects ≤ 256
+  pub files_fit : AllByRecursion (λ (o : ObjectLine). o.file ≤ 255) objects
+  pub events_fit : length happened ≤ 1000000
+  pub numbers_fit : AllByRecursion (λ e. is_in_range (line_of e) ≡ true) happened
+
+-- the text is read, and its lines say these objects and events
+pub record IsReadBack (objects : List ObjectLine) (happened : List Event) : Type 0 where
+  pub read : outcome_of (store_rules events) (canonical_text objects happened) ≡ Ok (canonical_lines objects happened)
+  pub objects_said : objects_of (canonical_lines objects happened) ≡ objects
+  pub events_said : map event_of (entries_of (canonical_lines objects happened)) ≡ happened
+
+-- ---- statements of laws
+
+-- the canonical text of a history is read as that history
+abbrev pub CanonicalIsRead : Type 0
+CanonicalIsRead = (objects : List ObjectLine) (happened : List Event) → AreInRange objects happened → IsReadBack objects happened
+
+-- the objects and events of a file
+pub record IsFileWith (objects : List ObjectLine) (happened : List Event) (file : HistoryFile) : Type 0 where
+  pub objects_are : file.objects.items ≡ objects
+  pub events_are : file.events.items ≡ happened
+
+-- what a reading answers of the canonical text of a history is that history
+abbrev pub WrittenIsRead : Type 0
+WrittenIsRead =
+    (objects : List ObjectLine) (happened : List Event) (back : HistoryFile) → AreInRange objects happened
+    → Reads events IsHistoryOf (Ok back) (canonical_text objects happened) → IsFileWith objects happened back

@@ -1,0 +1,144 @@
+-- The event lines of a history.
+use Rattle.std.specs.Prelude.{ℕ, Bool, false, ◌&&◌, nat_le, List, if◌then◌else◌, Result, Ok, Err, codes}
+use Rattle.object_trait.specs.declared.event.Event.{Event}
+use Rattle.object_trait.specs.declared.event.EventKind.{EventKind}
+use Rattle.object_trait.specs.declared.event.EventKind.TheVariants as kind
+use Rattle.line_text.specs.Shapes.{◌>>=◌, exactly, number_at, is_key}
+use Rattle.line_text.specs.declared.fault.FaultKind.{FaultKind}
+use Rattle.line_text.specs.declared.fault.FaultKind.TheVariants.{UnknownWord}
+use Rattle.store_text.specs.Body.{Body}
+use Rattle.history_text.specs.declared.event_line.EventLine.{EventLine}
+use Rattle.history_text.specs.declared.event_line.EventLine.TheVariants.{Begin, Op, Busy, Nothing, Commit, Abort, Rollback}
+
+-- ---- what a line says
+
+unfoldable pub begin_of : List (List ℕ) → Result EventLine FaultKind
+begin_of words = do
+  done ← exactly words 3
+  w ← number_at words 1
+  t ← number_at words 2
+  Ok (Begin w t)
+
+unfoldable pub op_of : List (List ℕ) → Result EventLine FaultKind
+op_of words = do
+  done ← exactly words 5
+  w ← number_at words 1
+  t ← number_at words 2
+  x ← number_at words 3
+  k ← number_at words 4
+  Ok (Op w t x k)
+
+unfoldable pub busy_of : List (List ℕ) → Result EventLine FaultKind
+busy_of words = do
+  done ← exactly words 6
+  w ← number_at words 1
+  t ← number_at words 2
+  x ← number_at words 3
+  c ← number_at words 4
+  u ← number_at words 5
+  Ok (Busy w t x c u)
+
+unfoldable pub nothing_of : List (List ℕ) → Result EventLine FaultKind
+nothing_of words = do
+  done ← exactly words 5
+  w ← number_at words 1
+  t ← number_at words 2
+  x ← number_at words 3
+  c ← number_at words 4
+  Ok (Nothing w t x c)
+
+unfoldable pub commit_of : List (List ℕ) → Result EventLine FaultKind
+commit_of words = do
+  done ← exactly words 3
+  w ← number_at words 1
+  t ← number_at words 2
+  Ok (Commit w t)
+
+unfoldable pub abort_of : List (List ℕ) → Result EventLine FaultKind
+abort_of words = do
+  done ← exactly words 3
+  w ← number_at words 1
+  t ← number_at words 2
+  Ok (Abort w t)
+
+unfoldable pub rollback_of : List (List ℕ) → Result EventLine FaultKind
+rollback_of words = do
+  done ← exactly words 4
+  w ← number_at words 1
+  t ← number_at words 2
+  n ← number_at words 3
+  Ok (Rollback w t n)
+
+-- by the keyword
+unfoldable pub event_line_of : List (List ℕ) → Result EventLine FaultKind
+event_line_of words =
+    if is_key words (codes "begin") then begin_of words
+    else (if is_key words (codes "op") then op_of words
+    else (if is_key words (codes "busy") then busy_of words
+    else (if is_key words (codes "none") then nothing_of words
+    else (if is_key words (codes "commit") then commit_of words
+    else (if is_key words (codes "abort") then abort_of words
+    else (if is_key words (codes "rollback") then rollback_of words
+    else Err UnknownWord))))))
+
+-- ---- the event of a line
+
+abbrev event : ℕ → EventKind → Event
+event w kind = record { worker = w; kind = kind }
+
+-- the event that a line says
+abbrev pub event_of : EventLine → Event
+event_of (Begin w t) = event w (kind.Begin t)
+event_of (Op w t x k) = event w (kind.Op t x k)
+event_of (Busy w t x c u) = event w (kind.Busy c t x u)
+event_of (Nothing w t x c) = event w (kind.None t x c)
+event_of (Commit w t) = event w (kind.Commit t)
+event_of (Abort w t) = event w (kind.Abort t)
+event_of (Rollback w t n) = event w (kind.Rollback t n)
+
+-- the line of a kind of event at a worker's call
+abbrev pub line_at : ℕ → EventKind → EventLine
+line_at w (kind.Begin t) = Begin w t
+line_at w (kind.Op t x k) = Op w t x k
+line_at w (kind.Busy c t x u) = Busy w t x c u
+line_at w (kind.None t x c) = Nothing w t x c
+line_at w (kind.Commit t) = Commit w t
+line_at w (kind.Abort t) = Abort w t
+line_at w (kind.Rollback t n) = Rollback w t n
+
+-- the line of an event
+abbrev pub line_of : Event → EventLine
+line_of e = line_at e.worker e.kind
+
+-- ---- the ranges
+
+abbrev pub is_worker : ℕ → Bool
+is_worker w = nat_le w 255
+
+abbrev pub is_transaction : ℕ → Bool
+is_transaction t = nat_le t 999999
+
+abbrev pub is_object : ℕ → Bool
+is_object x = nat_le x 255
+
+-- an operation, or a call, which is named by its least operation
+abbrev pub is_operation : ℕ → Bool
+is_operation k = nat_le k 63
+
+abbrev pub is_in_range : EventLine → Bool
+is_in_range (Begin w t) = is_worker w && is_transaction t
+is_in_range (Op w t x k) = is_worker w && is_transaction t && is_object x && is_operation k
+is_in_range (Busy w t x c u) = is_worker w && is_transaction t && is_object x && is_operation c && is_transaction u
+is_in_range (Nothing w t x c) = is_worker w && is_transaction t && is_object x && is_operation c
+is_in_range (Commit w t) = is_worker w && is_transaction t
+is_in_range (Abort w t) = is_worker w && is_transaction t
+is_in_range (Rollback w t n) = is_worker w && is_transaction t && nat_le 1 n && nat_le n 999999
+
+-- a history has no limit; an event may come at any place
+abbrev pub events : Body EventLine
+events = record {
+  has_max = false;
+  entry_of = event_line_of;
+  is_in_range = is_in_range;
+  wants_another = λ x. false;
+}

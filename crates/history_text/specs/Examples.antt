@@ -1,0 +1,84 @@
+-- Texts of histories whose outcome was worked out by hand.
+use Rattle.std.specs.Prelude.{◌≡◌, ℕ, List, [], ◌∷◌, ◌++◌, slice_set, Ok, Err, codes}
+use Rattle.std.specs.List.{flat_map}
+use Rattle.type_table.specs.declared.kind.Kind.TheVariants.{Undo, Intentions}
+use Rattle.object_trait.specs.declared.event.Event.{Event}
+use Rattle.object_trait.specs.declared.event.EventKind.{EventKind}
+use Rattle.object_trait.specs.declared.event.EventKind.TheVariants as kind
+use Rattle.line_text.specs.Outcome.{fault_on, outcome_of}
+use Rattle.line_text.specs.declared.fault.FaultKind.{FaultKind}
+use Rattle.store_text.specs.Body.{store_rules}
+use Rattle.store_text.specs.declared.line.Line.{Line}
+use Rattle.store_text.specs.declared.line.Line.TheVariants.{Object, Entry, End}
+use Rattle.store_text.specs.declared.line.ObjectLine.{ObjectLine}
+use Rattle.history_text.specs.declared.event_line.EventLine.{EventLine}
+use Rattle.history_text.specs.declared.event_line.EventLine.TheVariants.{Begin, Op, Busy, Nothing, Commit, Abort, Rollback}
+use Rattle.history_text.specs.Events.{events}
+
+-- a history over two objects, which has each kind of event
+abbrev pub history_text : List (List ℕ)
+history_text =
+    codes "object undo 0"
+    ∷ codes "object intentions 255"
+    ∷ codes "begin 0 0"
+    ∷ codes "begin 255 1"
+    ∷ codes "op 0 0 1 63"
+    ∷ codes "busy 255 1 1 2 0"
+    ∷ codes "none 255 1 0 3"
+    ∷ codes "rollback 0 0 1"
+    ∷ codes "commit 0 0"
+    ∷ codes "abort 255 1"
+    ∷ codes "end"
+    ∷ []
+
+-- what its lines say
+abbrev pub history_lines : List (Line EventLine)
+history_lines =
+    Object Undo 0
+    ∷ Object Intentions 255
+    ∷ Entry (Begin 0 0)
+    ∷ Entry (Begin 255 1)
+    ∷ Entry (Op 0 0 1 63)
+    ∷ Entry (Busy 255 1 1 2 0)
+    ∷ Entry (Nothing 255 1 0 3)
+    ∷ Entry (Rollback 0 0 1)
+    ∷ Entry (Commit 0 0)
+    ∷ Entry (Abort 255 1)
+    ∷ End
+    ∷ []
+
+-- its objects
+abbrev pub some_objects : List ObjectLine
+some_objects = record { kind = Undo; file = 0 } ∷ record { kind = Intentions; file = 255 } ∷ []
+
+abbrev at_worker : ℕ → EventKind → Event
+at_worker w kind = record { worker = w; kind = kind }
+
+-- its events
+abbrev pub some_events : List Event
+some_events =
+    at_worker 0 (kind.Begin 0)
+    ∷ at_worker 255 (kind.Begin 1)
+    ∷ at_worker 0 (kind.Op 0 1 63)
+    ∷ at_worker 255 (kind.Busy 2 1 1 0)
+    ∷ at_worker 255 (kind.None 1 0 3)
+    ∷ at_worker 0 (kind.Rollback 0 1)
+    ∷ at_worker 0 (kind.Commit 0)
+    ∷ at_worker 255 (kind.Abort 1)
+    ∷ []
+
+-- the bytes of lines, each ended by a LF
+abbrev pub ended : List (List ℕ) → List ℕ
+ended text = flat_map (λ l. l ++ 10 ∷ []) text
+
+-- these lines are read as these
+abbrev pub Says : List (List ℕ) → List (Line EventLine) → Type 0
+Says text lines = outcome_of (store_rules events) (ended text) ≡ Ok lines
+
+-- a text is refused at a line
+abbrev pub Refuses : List (List ℕ) → ℕ → FaultKind → Type 0
+Refuses text line kind = outcome_of (store_rules events) (ended text) ≡ Err (fault_on line kind)
+
+-- the history's text with another line in place of the one at a place, counted from 0
+abbrev pub history_with : ℕ → List ℕ → List (List ℕ)
+history_with place line = slice_set history_text place line

@@ -1,0 +1,177 @@
+//! An event as its line says it, with numbers that may be too great for an event.
+
+ghost use Rattle.std.specs.Prelude.{◌≡◌, true};
+ghost use Rattle.history_text.specs.Events.{event_of, line_of, is_in_range, is_worker, is_transaction, is_object, is_operation};
+
+use object_trait::{Event, EventKind};
+
+/// What a line of a history says of an event: its worker w, transactions t and u, an object x, an
+/// operation k, a call c, and how many operations are struck.
+#[derive(Clone, Copy)]
+pub enum EventLine {
+    /// `begin W T`
+    Begin {
+        w: u32,
+        t: u32,
+    },
+    /// `op W T X K`
+    Op {
+        w: u32,
+        t: u32,
+        x: u32,
+        k: u32,
+    },
+    /// `busy W T X C U`
+    Busy {
+        w: u32,
+        t: u32,
+        x: u32,
+        c: u32,
+        u: u32,
+    },
+    /// `none W T X C`
+    Nothing {
+        w: u32,
+        t: u32,
+        x: u32,
+        c: u32,
+    },
+    /// `commit W T`
+    Commit {
+        w: u32,
+        t: u32,
+    },
+    /// `abort W T`
+    Abort {
+        w: u32,
+        t: u32,
+    },
+    /// `rollback W T N`
+    Rollback {
+        w: u32,
+        t: u32,
+        n: u32,
+    },
+}
+
+impl EventLine {
+    /// Whether the numbers are those of an event.
+    pub fn is_in_range(self) -> bool
+        ensures { result ≡ is_in_range self }
+    {
+        match self {
+            EventLine::Begin { w, t } => is_worker(w) && is_transaction(t),
+            EventLine::Op { w, t, x, k } => {
+                is_worker(w) && is_transaction(t) && is_object(x) && is_operation(k)
+            }
+            EventLine::Busy { w, t, x, c, u } => {
+                is_worker(w)
+                    && is_transaction(t)
+                    && is_object(x)
+                    && is_operation(c)
+                    && is_transaction(u)
+            }
+            EventLine::Nothing { w, t, x, c } => {
+                is_worker(w) && is_transaction(t) && is_object(x) && is_operation(c)
+            }
+            EventLine::Commit { w, t } => is_worker(w) && is_transaction(t),
+            EventLine::Abort { w, t } => is_worker(w) && is_transaction(t),
+            EventLine::Rollback { w, t, n } => {
+                is_worker(w) && is_transaction(t) && 1 <= n && n <= 999_999
+            }
+        }
+    }
+
+    /// The event.
+    pub fn event(self) -> Event
+        requires { is_in_range self ≡ true }
+        ensures { result ≡ event_of self }
+    {
+        match self {
+            EventLine::Begin { w, t } => event(w, EventKind::Begin { t }),
+            EventLine::Op { w, t, x, k } => event(w, EventKind::Op { t, x, k: k as u8 }),
+            EventLine::Busy { w, t, x, c, u } => {
+                event(
+                    w,
+                    EventKind::Busy {
+                        t,
+                        x,
+                        c: c as u8,
+                        u,
+                    },
+                )
+            }
+            EventLine::Nothing { w, t, x, c } => event(w, EventKind::None { t, x, c: c as u8 }),
+            EventLine::Commit { w, t } => event(w, EventKind::Commit { t }),
+            EventLine::Abort { w, t } => event(w, EventKind::Abort { t }),
+            EventLine::Rollback { w, t, n } => event(w, EventKind::Rollback { t, n }),
+        }
+    }
+
+    /// The line of an event.
+    pub fn of(event: &Event) -> EventLine
+        ensures { result ≡ line_of event.now }
+    {
+        let w = event.worker as u32;
+        match event.kind {
+            EventKind::Begin { t } => EventLine::Begin { w, t },
+            EventKind::Op { t, x, k } => EventLine::Op {
+                w,
+                t,
+                x,
+                k: k as u32,
+            },
+            EventKind::Busy { t, x, c, u } => EventLine::Busy {
+                w,
+                t,
+                x,
+                c: c as u32,
+                u,
+            },
+            EventKind::None { t, x, c } => EventLine::Nothing {
+                w,
+                t,
+                x,
+                c: c as u32,
+            },
+            EventKind::Commit { t } => EventLine::Commit { w, t },
+            EventKind::Abort { t } => EventLine::Abort { w, t },
+            EventKind::Rollback { t, n } => EventLine::Rollback { w, t, n },
+        }
+    }
+}
+
+/// The event of a kind at a worker's call.
+fn event(w: u32, kind: EventKind) -> Event
+    requires { is_worker w ≡ true }
+    ensures { result ≡ record { worker = w; kind = kind } }
+{
+    Event {
+        worker: w as u8,
+        kind,
+    }
+}
+
+fn is_worker(w: u32) -> bool
+    ensures { result ≡ is_worker w }
+{
+    w <= 255
+}
+
+fn is_transaction(t: u32) -> bool
+    ensures { result ≡ is_transaction t }
+{
+    t <= 999_999
+}
+
+fn is_object(x: u32) -> bool
+    ensures { result ≡ is_object x }
+{
+    x <= 255
+}
+
+fn is_operation(k: u32) -> bool
+    ensures { result ≡ is_operation k }
+{
+    k <= 63
+}

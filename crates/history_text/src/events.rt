@@ -1,0 +1,129 @@
+//! The event lines of a history.
+
+ghost use Rattle.std.specs.Prelude.{◌≡◌, map};
+ghost use Rattle.history_text.specs.Events.{events, event_line_of, begin_of, op_of, busy_of, nothing_of, commit_of, abort_of, rollback_of};
+
+use crate::event_line::EventLine;
+use line_text::{FaultKind, exactly, is_key, number_at};
+use store_text::Entries;
+
+/// The events of a history.
+#[derive(Clone, Copy, Debug)]
+pub struct Events;
+
+impl Entries for Events {
+    type Entry = EventLine;
+
+    ghost body = { λ _. events };
+
+    fn has_max(&self) -> bool {
+        false
+    }
+
+    #[tactic(auto, unfolding(crate::specs::Events::event_line_of))]
+    fn entry(&self, words: &[&[u8]]) -> Result<EventLine, FaultKind> {
+        if is_key(words, "begin") {
+            begin_of(words)
+        } else if is_key(words, "op") {
+            op_of(words)
+        } else if is_key(words, "busy") {
+            busy_of(words)
+        } else if is_key(words, "none") {
+            nothing_of(words)
+        } else if is_key(words, "commit") {
+            commit_of(words)
+        } else if is_key(words, "abort") {
+            abort_of(words)
+        } else if is_key(words, "rollback") {
+            rollback_of(words)
+        } else {
+            Err(FaultKind::UnknownWord)
+        }
+    }
+
+    fn is_in_range(&self, entry: EventLine) -> bool {
+        entry.is_in_range()
+    }
+
+    fn wants_another(&self, _entry: EventLine) -> bool {
+        false
+    }
+}
+
+#[tactic(auto, unfolding(crate::specs::Events::begin_of))]
+fn begin_of(words: &[&[u8]]) -> Result<EventLine, FaultKind>
+    ensures { result ≡ begin_of (map (λ w. w.now) words.now) }
+{
+    exactly(words, 3)?;
+    let w = number_at(words, 1)?;
+    let t = number_at(words, 2)?;
+    Ok(EventLine::Begin { w, t })
+}
+
+#[tactic(auto, unfolding(crate::specs::Events::op_of))]
+fn op_of(words: &[&[u8]]) -> Result<EventLine, FaultKind>
+    ensures { result ≡ op_of (map (λ w. w.now) words.now) }
+{
+    exactly(words, 5)?;
+    let w = number_at(words, 1)?;
+    let t = number_at(words, 2)?;
+    let x = number_at(words, 3)?;
+    let k = number_at(words, 4)?;
+    Ok(EventLine::Op { w, t, x, k })
+}
+
+#[tactic(auto, unfolding(crate::specs::Events::busy_of))]
+fn busy_of(words: &[&[u8]]) -> Result<EventLine, FaultKind>
+    ensures { result ≡ busy_of (map (λ w. w.now) words.now) }
+{
+    exactly(words, 6)?;
+    let w = number_at(words, 1)?;
+    let t = number_at(words, 2)?;
+    let x = number_at(words, 3)?;
+    let c = number_at(words, 4)?;
+    let u = number_at(words, 5)?;
+    Ok(EventLine::Busy { w, t, x, c, u })
+}
+
+#[tactic(auto, unfolding(crate::specs::Events::nothing_of))]
+fn nothing_of(words: &[&[u8]]) -> Result<EventLine, FaultKind>
+    ensures { result ≡ nothing_of (map (λ w. w.now) words.now) }
+{
+    exactly(words, 5)?;
+    let w = number_at(words, 1)?;
+    let t = number_at(words, 2)?;
+    let x = number_at(words, 3)?;
+    let c = number_at(words, 4)?;
+    Ok(EventLine::Nothing { w, t, x, c })
+}
+
+#[tactic(auto, unfolding(crate::specs::Events::commit_of))]
+fn commit_of(words: &[&[u8]]) -> Result<EventLine, FaultKind>
+    ensures { result ≡ commit_of (map (λ w. w.now) words.now) }
+{
+    exactly(words, 3)?;
+    let w = number_at(words, 1)?;
+    let t = number_at(words, 2)?;
+    Ok(EventLine::Commit { w, t })
+}
+
+#[tactic(auto, unfolding(crate::specs::Events::abort_of))]
+fn abort_of(words: &[&[u8]]) -> Result<EventLine, FaultKind>
+    ensures { result ≡ abort_of (map (λ w. w.now) words.now) }
+{
+    exactly(words, 3)?;
+    let w = number_at(words, 1)?;
+    let t = number_at(words, 2)?;
+    Ok(EventLine::Abort { w, t })
+}
+
+#[tactic(auto, unfolding(crate::specs::Events::rollback_of))]
+fn rollback_of(words: &[&[u8]]) -> Result<EventLine, FaultKind>
+    ensures { result ≡ rollback_of (map (λ w. w.now) words.now) }
+{
+    exactly(words, 4)?;
+    let w = number_at(words, 1)?;
+    let t = number_at(words, 2)?;
+    let n = number_at(words, 3)?;
+    Ok(EventLine::Rollback { w, t, n })
+}

@@ -1,0 +1,101 @@
+//! The canonical text of a history.
+
+ghost use Rattle.std.specs.Prelude.{◌≡◌, ◌++◌, ◌∷◌, [], map, None};
+ghost use Rattle.line_text.specs.Spelling.{spaced, text_of};
+ghost use Rattle.outputs.specs.Out.{Puts};
+ghost use Rattle.store_text.specs.declared.line.Line.TheVariants.{End};
+ghost use Rattle.history_text.specs.Canonical.{canonical_text, words_of, object_line, event_line};
+
+use crate::event_line::EventLine;
+use crate::line_end::put_numbers;
+use itoa::Buffer;
+use object_trait::Event;
+use outputs::{Out, OutFault, items_in_turn, put_line, texts_in_turn};
+use store_text::ObjectLine;
+
+/// Writes the canonical text of a history: a line for each object and then for each event, with one
+/// space between words, and `end`. Where every number and count is in its range, what is read from
+/// the text is this history (`written_is_read`). It takes no memory itself.
+///
+/// # Errors
+///
+/// The fault that stopped the output, which then took a beginning of the text.
+pub fn write_history<W: Out>(
+    objects: &[ObjectLine],
+    events: &[Event],
+    out: &mut W,
+) -> Result<(), OutFault>
+    requires { W.fault out.old ≡ None }
+    ensures { Puts (W.taken out.old) (W.taken out.new) (W.fault out.new) (canonical_text objects.now events.now) result }
+{
+    texts_in_turn();
+    write_objects(out, objects)?;
+    write_events(out, events)?;
+    put_line(out, b"end", &[])
+}
+
+/// Writes the `object` lines.
+fn write_objects<W: Out>(out: &mut W, objects: &[ObjectLine]) -> Result<(), OutFault>
+    requires { W.fault out.old ≡ None }
+    ensures { Puts (W.taken out.old) (W.taken out.new) (W.fault out.new) (text_of words_of (map object_line objects.now)) result }
+{
+    texts_in_turn();
+    items_in_turn::<ObjectLine>();
+    for object in objects {
+        write_object(out, object)?;
+    }
+    Ok(())
+}
+
+/// Writes the lines of the events.
+fn write_events<W: Out>(out: &mut W, events: &[Event]) -> Result<(), OutFault>
+    requires { W.fault out.old ≡ None }
+    ensures { Puts (W.taken out.old) (W.taken out.new) (W.fault out.new) (text_of words_of (map event_line events.now)) result }
+{
+    texts_in_turn();
+    items_in_turn::<Event>();
+    for event in events {
+        write_event(out, event)?;
+    }
+    Ok(())
+}
+
+/// Writes the `object` line of an object.
+///
+/// # Errors
+///
+/// The fault that stopped the output, which then took a beginning of the line.
+pub fn write_object<W: Out>(out: &mut W, object: &ObjectLine) -> Result<(), OutFault>
+    requires { W.fault out.old ≡ None }
+    ensures { Puts (W.taken out.old) (W.taken out.new) (W.fault out.new) (spaced (words_of (object_line object.now)) ++ 10 ∷ []) result }
+{
+    let mut file = Buffer::new();
+    put_line(
+        out,
+        b"object",
+        &[
+            object.kind.word().as_bytes(),
+            file.format(object.file).as_bytes(),
+        ],
+    )
+}
+
+/// Writes the line of an event. The output is offered it as one piece.
+///
+/// # Errors
+///
+/// The fault that stopped the output, which then took a beginning of the line.
+pub fn write_event<W: Out>(out: &mut W, event: &Event) -> Result<(), OutFault>
+    requires { W.fault out.old ≡ None }
+    ensures { Puts (W.taken out.old) (W.taken out.new) (W.fault out.new) (spaced (words_of (event_line event.now)) ++ 10 ∷ []) result }
+{
+    match EventLine::of(event) {
+        EventLine::Begin { w, t } => put_numbers(out, b"begin", &[w, t]),
+        EventLine::Op { w, t, x, k } => put_numbers(out, b"op", &[w, t, x, k]),
+        EventLine::Busy { w, t, x, c, u } => put_numbers(out, b"busy", &[w, t, x, c, u]),
+        EventLine::Nothing { w, t, x, c } => put_numbers(out, b"none", &[w, t, x, c]),
+        EventLine::Commit { w, t } => put_numbers(out, b"commit", &[w, t]),
+        EventLine::Abort { w, t } => put_numbers(out, b"abort", &[w, t]),
+        EventLine::Rollback { w, t, n } => put_numbers(out, b"rollback", &[w, t, n]),
+    }
+}

@@ -1,0 +1,43 @@
+-- Lists that are read from their front, and elements that are replaced.
+use Rattle.std.proofs.Common.{◌≡◌, ◌⊎◌, ℕ, zero, suc, ◌+◌, ◌-◌, ◌<◌, ◌≤◌, List, [], ◌∷◌, length, take, drop, get_or, Some, refl, sym, ap, ◌∙◌, inl, inr, arith}
+use Rattle.std.specs.List.{AllByRecursion, slice_get}
+use Rattle.std.specs.Prelude.{slice_set}
+use Rattle.std.proofs.Math.Seq.{drop-cons}
+use Rattle.std.proofs.lemmas.Bool.{cases_order}
+use Rattle.std.proofs.lemmas.List.{get_or-set_same, get_or-set_other, length-set, take_all, length-drop}
+use Rattle.std.proofs.lemmas.Option.{none-some, same_Some, slice_get_within, slice_get-get_or, get_or_from_slice_get}
+
+-- what is left begins with the element at the place
+pub drop-next : {X : Type 0} (xs : List X) (i : ℕ) (x : X) → i < length xs → x ≡ get_or xs i x → drop i xs ≡ x ∷ drop (i + 1) xs
+drop-next xs i x below at =
+    let next : suc i ≡ i + 1 = omega arith in
+    drop-cons xs i x below ∙ ap (λ y. y ∷ drop (suc i) xs) (sym at) ∙ ap (λ n. x ∷ drop n xs) next
+
+-- nothing is left behind the last element
+pub drop_past : {X : Type 0} (xs : List X) (i : ℕ) → length xs ≤ i → drop i xs ≡ []
+drop_past [] zero h = refl
+drop_past [] (suc i) h = refl
+drop_past (x ∷ xs) zero h = absurd (omega (arith, h))
+drop_past (x ∷ xs) (suc i) h = drop_past xs i (omega (arith, h))
+
+-- a slice up to the end is what is left
+pub slice_behind : {X : Type 0} (xs : List X) (i : ℕ) → take (length xs - i) (drop i xs) ≡ drop i xs
+slice_behind xs i = take_all (length xs - i) (drop i xs) (omega (arith, length-drop i xs))
+
+-- a fact of each element holds of one that is found
+pub all_found : {X : Type 0} (P : X → Type 0) (xs : List X) (i : ℕ) (x : X) → AllByRecursion P xs → slice_get xs i ≡ Some x → P x
+all_found P [] i x h at = absurd (none-some x at)
+all_found P (y ∷ xs) zero x h at = rw (← same_Some y x at) h.0
+all_found P (y ∷ xs) (suc i) x h at = all_found P xs i x h.1 at
+
+-- what is found where one element was replaced is that one, or was there before
+pub set_found : {X : Type 0} (xs : List X) (v w : ℕ) (y z : X) → v < length xs → slice_get (slice_set xs v y) w ≡ Some z
+    → ((w ≡ v) × (z ≡ y)) ⊎ ((w ≡ v → ⊥) × (slice_get xs w ≡ Some z))
+set_found xs v w y z below at = elim (cases_order w v) [
+  | inl same ↦ inl (same, sym (get_or_from_slice_get (slice_set xs v y) w z z at) ∙ ap (λ n. get_or (slice_set xs v y) n z) same ∙ get_or-set_same xs v y z below)
+  | inr apart ↦
+      let other : w ≡ v → ⊥ = λ e. elim apart [ inl less ↦ absurd (omega (arith, e, less)) | inr more ↦ absurd (omega (arith, e, more)) ] in
+      let within : w < length xs = omega (arith, slice_get_within (slice_set xs v y) w z at, length-set xs v y) in
+      let was : get_or xs w z ≡ z = sym (get_or-set_other xs v w y z other) ∙ get_or_from_slice_get (slice_set xs v y) w z z at in
+      inr (other, slice_get-get_or xs w z within ∙ ap Some was)
+]

@@ -1,0 +1,6 @@
+-- The jobs so far are those that the lines so far open.
+use Rattle.jobs_text.proofs.Adding.{AreSoFar}
+use Rattle.jobs_text.proofs.build.jobs_of.Given as goal
+
+abbrev pub invariant-loop-place : goal.invariant-loop-place
+invariant-loop-place l = AreSoFar l.workers l.lines l.place l.lists.items

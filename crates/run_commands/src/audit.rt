@@ -1,0 +1,75 @@
+//! The audit of a store's history.
+
+ghost use Rattle.std.specs.Prelude.{◌≡◌, ◌⊎◌, None, map, IfOk};
+ghost use Rattle.type_table.specs.Table.{Table};
+ghost use Rattle.command_files.specs.Gathered.{under, waiting, taken_by};
+ghost use Rattle.history_audit.specs.Audit.{Audits};
+ghost use Rattle.store_files.specs.Types.{value_of};
+ghost use Rattle.run_commands.specs.Performs.{PassesAudit, table_of};
+
+use command_files::{FAILED, Gathered};
+use history_audit::{Audit, AuditFault, audit, serial_histories_pass, write_audit};
+use history_commands::status_of;
+use object_trait::{Event, Recovery};
+use outputs::Out;
+use serial_order::run_is_history;
+use std::alloc::{AllocError, Global};
+use std::sync::Arc;
+use store::Store;
+use store_files::Plan;
+use table_checker::CheckedType;
+use type_table::TypeTable;
+
+/// Audits the history of a store of the plan's types, writes the lines, and hands on what is gathered.
+/// The audit is a yes, or memory was refused: the history of a store is serial.
+pub(crate) fn audit_store<R: Recovery, W: Out, E: Out>(
+    alloc: Global,
+    store: &Store<R>,
+    plan: &Plan,
+    out: &mut Gathered<W>,
+    err: &mut E,
+) -> u8
+    requires out_takes { W.fault (under out.old) ≡ None }
+    requires err_takes { E.fault err.old ≡ None }
+    requires types { store.now.types ≡ map value_of plan.now.types.items }
+    ensures { PassesAudit store.now result (taken_by W.taken out.old) (taken_by W.taken out.new) (waiting out.new) }
+{
+    run_is_history();
+    serial_histories_pass();
+    let outcome = audit_types(alloc, &plan.types, store.history());
+    match write_audit(&outcome, out) {
+        Ok(()) => match out.flush() {
+            Ok(()) => status_of(&outcome, err),
+            Err(_) => FAILED,
+        },
+        Err(_) => FAILED,
+    }
+}
+
+/// Audits events with the tables of these types.
+fn audit_types(
+    alloc: Global,
+    types: &[Arc<CheckedType>],
+    events: &[Event],
+) -> Result<Audit, AuditFault>
+    ensures { Audits (map table_of types.now) events.now result }
+{
+    match tables_of(alloc, types) {
+        Ok(tables) => audit(alloc, events, &tables),
+        Err(_) => Err(AuditFault::NoMemory),
+    }
+}
+
+/// The tables of these types.
+fn tables_of<'a>(
+    alloc: Global,
+    types: &'a [Arc<CheckedType>],
+) -> Result<Vec<&'a TypeTable>, AllocError>
+    ensures { IfOk result (λ tables. map (λ t. t.now) tables.items ≡ map table_of types.now) }
+{
+    let mut tables = Vec::with_capacity(alloc, types.len())?;
+    for checked in types {
+        tables.push_reserved(checked.table());
+    }
+    Ok(tables)
+}

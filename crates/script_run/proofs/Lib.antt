@@ -1,0 +1,9 @@
+pub mod Turns
+pub mod ObjectLines
+pub mod Asked
+pub mod Commands
+pub mod Aborts
+pub mod KeptLines
+pub mod Scripts
+pub mod Histories
+pub mod Told

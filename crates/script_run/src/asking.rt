@@ -1,0 +1,90 @@
+//! The commands of a running script.
+
+ghost use Rattle.std.specs.Prelude.{◌≡◌, ◌++◌, ◌∷◌, [], List, None};
+ghost use Rattle.object_trait.specs.declared.event.Event.{Event as EventValue};
+ghost use Rattle.line_text.specs.Spelling.{spaced};
+ghost use Rattle.outputs.specs.Out.{Puts};
+ghost use Rattle.script_run.specs.Lines.{event_words};
+ghost use Rattle.script_run.specs.Running.{Asks, RunsCommands};
+
+use crate::lines::write_refused;
+use history_text::write_event;
+use line_text::names_are_words;
+use object_trait::{Event, Recovery};
+use outputs::{Out, OutFault};
+use serial_order::{Command, Refusal, command_appends};
+use std::str;
+use store::Store;
+use type_table::Name;
+
+/// Asks the commands of a store, in order, as worker 0, and writes the line of each before it asks the
+/// next: that of its event, or that of its refusal.
+///
+/// # Errors
+///
+/// The fault that stopped the output. No further command was asked.
+pub(crate) fn run_commands<R: Recovery, W: Out>(
+    store: &mut Store<R>,
+    commands: &[Command],
+    out: &mut W,
+) -> Result<(), OutFault>
+    requires { W.fault out.old ≡ None }
+    ensures { RunsCommands store.old commands.now (W.taken out.old) (W.taken out.new) (W.fault out.new) store.new result }
+{
+    for command in commands {
+        run_command(store, command, out)?;
+    }
+    Ok(())
+}
+
+/// Asks one command, and writes its line.
+fn run_command<R: Recovery, W: Out>(
+    store: &mut Store<R>,
+    command: &Command,
+    out: &mut W,
+) -> Result<(), OutFault>
+    requires { W.fault out.old ≡ None }
+    ensures { RunsCommands store.old (command.now ∷ []) (W.taken out.old) (W.taken out.new) (W.fault out.new) store.new result }
+{
+    command_appends();
+    match ask(store, command) {
+        Some(refusal) => write_refused(out, refusal),
+        None => write_last(out, store.history()),
+    }
+}
+
+/// Asks one command as worker 0: why it is refused.
+fn ask<R: Recovery>(store: &mut Store<R>, command: &Command) -> Option<Refusal>
+    ensures { Asks store.old command.now result store.new }
+{
+    match command {
+        Command::Begin => store.begin(0).err(),
+        Command::Call { t, x, call } => store.call(0, *t, *x, text_of(call)).err(),
+        Command::Commit { t } => store.commit(0, *t).err(),
+        Command::Abort { t } => store.abort(0, *t).err(),
+        Command::Rollback { t, n } => store.rollback(0, *t, *n).err(),
+    }
+}
+
+/// The text of a name. The bytes of a name are a text always.
+fn text_of(name: &Name) -> &str
+    ensures { result.now ≡ name.now }
+{
+    names_are_words();
+    match str::from_utf8(name.as_bytes()) {
+        Ok(text) => text,
+        Err(_) => "",
+    }
+}
+
+/// Writes the line of the last event of a history that has one.
+pub(crate) fn write_last<W: Out>(out: &mut W, history: &[Event]) -> Result<(), OutFault>
+    requires { W.fault out.old ≡ None }
+    ensures { (before : List EventValue) (e : EventValue) → history.now ≡ before ++ e ∷ []
+        → Puts (W.taken out.old) (W.taken out.new) (W.fault out.new) (spaced (event_words e) ++ 10 ∷ []) result }
+{
+    match history.last() {
+        Some(event) => write_event(out, event),
+        None => Ok(()),
+    }
+}

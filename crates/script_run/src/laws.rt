@@ -1,0 +1,38 @@
+//! Laws of the turns of a script: each is a function that does nothing, whose contract is the law. It
+//! calls the laws on which it depends.
+
+ghost use Rattle.script_run.specs.Laws.{AllReplayed, EachReplayed, AllAborted, EachAborted, NoneStaysOpen, TextTellsHistory};
+
+use serial_order::{command_appends, opens_after, run_goes_on, seen_after, transactions_in_run};
+
+/// The turns of the commands have the histories that `serial_order` defines: after all of them the
+/// replay of all, and at each the replay of the commands up to its own.
+pub fn commands_replay()
+    ensures all { AllReplayed }
+    ensures each { EachReplayed }
+{}
+
+/// The turns behind the commands append an abort of each open transaction, in ascending order, one at
+/// each turn.
+pub fn closing_aborts()
+    ensures all { AllAborted }
+    ensures each { EachAborted }
+{}
+
+/// After the turns behind the commands no transaction is open.
+pub fn closing_ends()
+    ensures { NoneStaysOpen }
+{
+    run_goes_on();
+    seen_after();
+    transactions_in_run();
+    opens_after();
+}
+
+/// The lines of a script that aren't comments are the canonical text of its history, which an audit
+/// reads.
+pub fn text_tells_history()
+    ensures { TextTellsHistory }
+{
+    command_appends();
+}

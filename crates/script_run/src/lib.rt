@@ -1,0 +1,18 @@
+//! Running a script: its commands are asked of a store one after another, and each line of the text
+//! is handed to the output before the next command is asked.
+#![tactic(auto)]
+
+mod asking;
+mod closing;
+mod kept;
+mod laws;
+mod lines;
+mod objects;
+mod running;
+
+pub use laws::{closing_aborts, closing_ends, commands_replay, text_tells_history};
+pub use outputs::{Out, OutFault};
+pub use running::run_script;
+pub use script_text::Script;
+
+pub mod worked;

@@ -1,0 +1,56 @@
+-- Texts of scripts whose outcome was worked out by hand.
+use Rattle.std.specs.Prelude.{◌≡◌, ℕ, List, [], ◌∷◌, ◌++◌, slice_set, Ok, Err, codes}
+use Rattle.std.specs.List.{flat_map}
+use Rattle.type_table.specs.declared.kind.Kind.TheVariants.{Undo, Intentions}
+use Rattle.line_text.specs.Outcome.{fault_on, outcome_of}
+use Rattle.line_text.specs.declared.fault.FaultKind.{FaultKind}
+use Rattle.serial_order.specs.declared.command.Command.{Command}
+use Rattle.serial_order.specs.declared.command.Command.TheVariants.{Begin, Call, Commit, Abort, Rollback}
+use Rattle.store_text.specs.Body.{store_rules}
+use Rattle.store_text.specs.declared.line.Line.{Line}
+use Rattle.store_text.specs.declared.line.Line.TheVariants.{Max, Object, Entry, End}
+use Rattle.script_text.specs.Commands.{commands}
+
+-- a script over two objects
+abbrev pub script_text : List (List ℕ)
+script_text =
+    codes "max 20"
+    ∷ codes "object undo 0"
+    ∷ codes "object intentions 1"
+    ∷ codes "begin"
+    ∷ codes "call 0 1 inc:1"
+    ∷ codes "rollback 0 1"
+    ∷ codes "commit 0"
+    ∷ codes "abort 7"
+    ∷ codes "end"
+    ∷ []
+
+-- what its lines say
+abbrev pub script_lines : List (Line Command)
+script_lines =
+    Max 20
+    ∷ Object Undo 0
+    ∷ Object Intentions 1
+    ∷ Entry Begin
+    ∷ Entry (Call 0 1 (codes "inc:1"))
+    ∷ Entry (Rollback 0 1)
+    ∷ Entry (Commit 0)
+    ∷ Entry (Abort 7)
+    ∷ End
+    ∷ []
+
+-- the bytes of lines, each ended by a LF
+abbrev pub ended : List (List ℕ) → List ℕ
+ended text = flat_map (λ l. l ++ 10 ∷ []) text
+
+-- these lines are read as these
+abbrev pub Says : List (List ℕ) → List (Line Command) → Type 0
+Says text lines = outcome_of (store_rules commands) (ended text) ≡ Ok lines
+
+-- a text is refused at a line
+abbrev pub Refuses : List (List ℕ) → ℕ → FaultKind → Type 0
+Refuses text line kind = outcome_of (store_rules commands) (ended text) ≡ Err (fault_on line kind)
+
+-- the script's text with another line in place of the one at a place, counted from 0
+abbrev pub script_with : ℕ → List ℕ → List (List ℕ)
+script_with place line = slice_set script_text place line

@@ -1,0 +1,95 @@
+//! The command lines of a script.
+
+ghost use Rattle.std.specs.Prelude.{◌≡◌, map};
+ghost use Rattle.script_text.specs.Commands.{commands, command_of, begin_of, call_of, commit_of, abort_of, rollback_of};
+
+use line_text::{FaultKind, exactly, is_key, name_at, number_at};
+use serial_order::Command;
+use store_text::Entries;
+
+/// The commands of a script. Their transactions and objects may have any number, since the store
+/// refuses those that aren't there.
+#[derive(Clone, Copy, Debug)]
+pub struct Commands;
+
+impl Entries for Commands {
+    type Entry = Command;
+
+    ghost body = { λ _. commands };
+
+    fn has_max(&self) -> bool {
+        true
+    }
+
+    #[tactic(auto, unfolding(crate::specs::Commands::command_of))]
+    fn entry(&self, words: &[&[u8]]) -> Result<Command, FaultKind> {
+        if is_key(words, "begin") {
+            begin_of(words)
+        } else if is_key(words, "call") {
+            call_of(words)
+        } else if is_key(words, "commit") {
+            commit_of(words)
+        } else if is_key(words, "abort") {
+            abort_of(words)
+        } else if is_key(words, "rollback") {
+            rollback_of(words)
+        } else {
+            Err(FaultKind::UnknownWord)
+        }
+    }
+
+    fn is_in_range(&self, _entry: Command) -> bool {
+        true
+    }
+
+    fn wants_another(&self, _entry: Command) -> bool {
+        false
+    }
+}
+
+#[tactic(auto, unfolding(crate::specs::Commands::begin_of))]
+fn begin_of(words: &[&[u8]]) -> Result<Command, FaultKind>
+    ensures { result ≡ begin_of (map (λ w. w.now) words.now) }
+{
+    exactly(words, 1)?;
+    Ok(Command::Begin)
+}
+
+#[tactic(auto, unfolding(crate::specs::Commands::call_of))]
+fn call_of(words: &[&[u8]]) -> Result<Command, FaultKind>
+    ensures { result ≡ call_of (map (λ w. w.now) words.now) }
+{
+    exactly(words, 4)?;
+    let call = name_at(words, 3)?;
+    let t = number_at(words, 1)?;
+    let x = number_at(words, 2)?;
+    Ok(Command::Call { t, x, call })
+}
+
+#[tactic(auto, unfolding(crate::specs::Commands::commit_of))]
+fn commit_of(words: &[&[u8]]) -> Result<Command, FaultKind>
+    ensures { result ≡ commit_of (map (λ w. w.now) words.now) }
+{
+    exactly(words, 2)?;
+    let t = number_at(words, 1)?;
+    Ok(Command::Commit { t })
+}
+
+#[tactic(auto, unfolding(crate::specs::Commands::abort_of))]
+fn abort_of(words: &[&[u8]]) -> Result<Command, FaultKind>
+    ensures { result ≡ abort_of (map (λ w. w.now) words.now) }
+{
+    exactly(words, 2)?;
+    let t = number_at(words, 1)?;
+    Ok(Command::Abort { t })
+}
+
+#[tactic(auto, unfolding(crate::specs::Commands::rollback_of))]
+fn rollback_of(words: &[&[u8]]) -> Result<Command, FaultKind>
+    ensures { result ≡ rollback_of (map (λ w. w.now) words.now) }
+{
+    exactly(words, 3)?;
+    let t = number_at(words, 1)?;
+    let n = number_at(words, 2)?;
+    Ok(Command::Rollback { t, n })
+}

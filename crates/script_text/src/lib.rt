@@ -1,0 +1,13 @@
+//! Texts of scripts: the objects of a store and the commands that it is asked in turn.
+#![tactic(auto)]
+
+mod commands;
+mod read;
+mod script;
+
+pub use line_text::{FaultKind, TextFault};
+pub use read::read_script;
+pub use script::Script;
+pub use store_text::ObjectLine;
+
+pub mod worked;

@@ -1,0 +1,32 @@
+ghost use Rattle.std.specs.Prelude.{IfOk};
+ghost use Rattle.store_text.specs.Parts.{Reads};
+ghost use Rattle.script_text.specs.Commands.{commands};
+ghost use Rattle.script_text.specs.Script.{IsScriptOf, IsFit};
+
+use crate::commands::Commands;
+use crate::script::Script;
+use line_text::TextFault;
+use std::alloc::Global;
+use store_text::{Parts, StoreGrammar, read_parts};
+
+/// The script of a text, or the text's first fault.
+///
+/// `NoMemory` comes in place of either where memory was refused; its line is the one that was
+/// being read, or the first where the lines were read and the script was being built.
+pub fn read_script(alloc: Global, text: &[u8]) -> Result<Script, TextFault>
+    ensures exact { Reads commands IsScriptOf result text.now }
+    ensures fit { IfOk result IsFit }
+{
+    let grammar = StoreGrammar { entries: Commands };
+    let parts = read_parts(alloc, &grammar, text)?;
+    let Parts {
+        max,
+        objects,
+        entries,
+    } = parts;
+    Ok(Script {
+        max,
+        objects,
+        commands: entries,
+    })
+}

@@ -1,0 +1,9 @@
+use Rattle.std.proofs.Common.{sym, rules, get_or, ◌≡◌}
+use denote.Enum.Bare.{same_true}
+use Rattle.type_table.specs.contracts.kind.Kind.{the_type}
+use Rattle.store_files.proofs.Objects.{same_line}
+use Rattle.store_files.proofs.accept.place_of.Goals as goal
+
+pub returns-then-other-line : goal.returns-then-other-line
+returns-then-other-line c =
+    same_line c.args.lines.now c.loop-place.place _ c.args.line c.loop-place-test.true (same_true the_type (search rules) _ _ (sym c.if-eq.ensures)) c.if-other-line.true

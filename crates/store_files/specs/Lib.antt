@@ -1,0 +1,4 @@
+pub mod Types
+pub mod Lines
+pub mod Scripts
+pub mod Plans

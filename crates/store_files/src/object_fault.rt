@@ -1,0 +1,32 @@
+ghost use Rattle.std.specs.Prelude.{◌≡◌};
+ghost use Rattle.store_files.specs.declared.object_fault.ObjectFault.TheVariants.{NoMemory};
+
+use std::alloc::{AllocError, AllocFailed};
+use table_checker::CheckRefusal;
+
+/// Why the objects of a text don't all have a type: the first object that has none, counted from 0.
+#[derive(Clone, Copy, Debug, PartialEq, Eq)]
+pub enum ObjectFault {
+    /// No TYPE word is at the place that object x names.
+    NoType { x: usize, place: u8 },
+    /// The type of object x isn't accepted for its kind.
+    Refused { x: usize, refusal: CheckRefusal },
+    /// A growth was refused.
+    NoMemory,
+}
+
+impl From<AllocError> for ObjectFault {
+    ghost from_gives = { λ _ fault. fault ≡ NoMemory };
+
+    fn from(_error: AllocError) -> ObjectFault {
+        ObjectFault::NoMemory
+    }
+}
+
+impl<T: Drop> From<AllocFailed<T>> for ObjectFault {
+    ghost from_gives = { λ _ fault. fault ≡ NoMemory };
+
+    fn from(_error: AllocFailed<T>) -> ObjectFault {
+        ObjectFault::NoMemory
+    }
+}

@@ -1,0 +1,34 @@
+-- What the lines of a text about a store's objects say, section by section.
+use Rattle.std.specs.Prelude.{ℕ, ◌≤◌, List, Contains, Option, Some, None}
+use Rattle.std.specs.List.{filter_map}
+use Rattle.type_table.specs.declared.kind.Kind.{Kind}
+use Rattle.store_text.specs.declared.line.Line.{Line}
+use Rattle.store_text.specs.declared.line.Line.TheVariants.{Max, Object, Entry}
+use Rattle.store_text.specs.declared.line.ObjectLine.{ObjectLine}
+
+-- the number of a `max` line
+abbrev pub max_in : {A : Type 0} → Option (Line A) → ℕ
+max_in (Some (Max most)) = most
+max_in _ = 0
+
+-- the object of an `object` line
+abbrev pub object_in : {A : Type 0} → Line A → Option ObjectLine
+object_in (Object kind file) = Some (record { kind = kind; file = file })
+object_in _ = None
+
+-- the objects, numbered from 0 in the order of their lines
+abbrev pub objects_of : {A : Type 0} → List (Line A) → List ObjectLine
+objects_of lines = filter_map object_in lines
+
+-- the entry of a line
+abbrev pub entry_in : {A : Type 0} → Line A → Option A
+entry_in (Entry x) = Some x
+entry_in _ = None
+
+-- the entries in order
+abbrev pub entries_of : {A : Type 0} → List (Line A) → List A
+entries_of lines = filter_map entry_in lines
+
+-- the files of the objects have numbers of one byte
+abbrev pub AreSmall : {A : Type 0} → List (Line A) → Type 0
+AreSmall lines = (kind : Kind) (file : ℕ) → Contains lines (Object kind file) → file ≤ 255

@@ -1,0 +1,15 @@
+//! What the texts about a store's objects have in common: a limit, the objects, entries of the
+//! text's own, and `end`; one grammar and one reader for all of them.
+#![tactic(auto)]
+
+mod entries;
+mod grammar;
+mod line;
+mod parts;
+mod read;
+
+pub use entries::Entries;
+pub use grammar::StoreGrammar;
+pub use line::{Line, ObjectLine};
+pub use parts::Parts;
+pub use read::read_parts;
