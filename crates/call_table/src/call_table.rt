@@ -45,10 +45,17 @@ impl CallTable {
     pub fn by_name(&self, name: &str) -> Option<Call>
         ensures { result ≡ by_name self.now name.now }
     {
+        self.by_bytes(name.as_bytes())
+    }
+
+    /// The call whose name has these bytes.
+    pub fn by_bytes(&self, name: &[u8]) -> Option<Call>
+        ensures { result ≡ by_name self.now name.now }
+    {
         let named = self
             .calls
             .iter()
-            .find(|named| named.name.as_bytes() == name.as_bytes())?;
+            .find(|named| named.name.as_bytes() == name)?;
         Some(named.call)
     }
 

@@ -8,6 +8,7 @@ mod locks;
 mod managers;
 mod memory_source;
 mod printed;
+mod programs;
 mod readme;
 mod relations;
 mod sinks;

@@ -1,8 +1,8 @@
 -- What is handed on, and what is gathered.
-use Rattle.std.proofs.Common.{◌≡◌, ℕ, ◌+◌, ◌-◌, ◌≤◌, List, [], ◌++◌, length, take, drop, Option, None, Ok, ◌==◌, false, sym, ap, ◌∙◌, subst, arith, take-append-drop}
-use Rattle.std.proofs.lemmas.List.{take_rest, drop-append-le, drop-drop}
+use Rattle.std.proofs.Common.{◌≡◌, ℕ, ◌+◌, ◌-◌, List, ◌++◌, length, take, drop, Option, None, Ok, ◌==◌, false, sym, ap, ◌∙◌, subst, arith, take-append-drop}
+use Rattle.std.proofs.lemmas.List.{take_rest, drop-drop}
 use Rattle.std.proofs.Math.Seq.{take-add}
-use Rattle.std.proofs.KnownBytes.{Appends-trans, append_known-grown, append_known-moved, Keeps-refl}
+use Rattle.std.proofs.KnownBytes.{Appends-trans, append_known-moved}
 use Rattle.std.proofs.lemmas.Bool.Decides.{nat_tests}
 use Rattle.std.specs.Io.KnownBytes.{Appends, Keeps, append_known}
 use Rattle.outputs.specs.Out.{fault_after}

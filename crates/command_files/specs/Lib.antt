@@ -1,3 +1,4 @@
 pub mod Source
 pub mod Text
 pub mod Gathered
+pub mod Examples

@@ -15,3 +15,5 @@ pub use gathered::Gathered;
 pub use own_text::write_text;
 pub use source::{FileSource, Source, SourceFault};
 pub use status::{BAD_INPUT, FAILED, NO, YES};
+
+pub mod worked;

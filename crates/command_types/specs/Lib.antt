@@ -1,2 +1,3 @@
 pub mod Files
 pub mod Refusals
+pub mod Examples

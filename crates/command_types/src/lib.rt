@@ -6,3 +6,5 @@ mod refusal_line;
 
 pub use read::read_file;
 pub use refusal_line::no_line;
+
+pub mod worked;

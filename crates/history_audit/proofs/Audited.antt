@@ -18,10 +18,12 @@ use Rattle.serial_order.specs.declared.entry.Entry.{Entry}
 use Rattle.history_judge.specs.Judges.{Judges}
 use Rattle.history_judge.specs.Rows.{plain, operations_of, committed_in, AreRows}
 use Rattle.history_judge.specs.declared.operation.Operation.{Operation}
+use Rattle.history_judge.specs.declared.event_fault.EventFault.{EventFault}
+use Rattle.history_judge.specs.declared.event_fault.EventFault.TheVariants as judge_fault
 use Rattle.history_judge.specs.declared.event_fault.EventFault.TheVariants.{Bad}
 use Rattle.history_audit.specs.Audit.{Audits, IsAudit, IsFirstBad}
 use Rattle.history_audit.specs.Replay.{AreOperations, AreStates}
-use Rattle.history_audit.specs.Auditor.{AuditsSoFar, IsAuditing, AreInitial, ReplaysFrom, Commits}
+use Rattle.history_audit.specs.Auditor.{AuditsSoFar, IsAuditing, AreInitial, fault_at, ReplaysFrom, Commits}
 use Rattle.history_audit.specs.declared.auditor.Auditor.{Auditor}
 use Rattle.history_audit.specs.declared.auditor.Illegal.{Illegal}
 use Rattle.history_audit.specs.declared.outcome.Audit.{Audit}
@@ -189,6 +191,27 @@ pub bad-taken : (tables : List Table) (events : List Event) (at : ℕ) (a : Audi
     → Judges tables a.judge (get_or events at start).kind (Err Bad) rows → IsFirstBad tables events at
 bad-taken tables events at a rows inside known judged =
     bad-audited tables events at (get_or events at start) a rows (slice_get-get_or events at start inside) known judged
+
+-- whatever fault it has
+pub fault-taken : (tables : List Table) (events : List Event) (at : ℕ) (a : Auditor) (rows : List (Option (List Operation))) (fault : EventFault) → at < length events
+    → IsAuditing tables (take at events) a → Judges tables a.judge (get_or events at start).kind (Err fault) rows → Audits tables events (Err (fault_at fault at))
+fault-taken tables events at a rows Bad inside known judged = bad-taken tables events at a rows inside known judged
+fault-taken tables events at a rows judge_fault.NoMemory inside known judged = tt
+
+-- what is judged of a kind of event is judged of each event of that kind
+pub judged-of : (tables : List Table) (old rows : List (Option (List Operation))) (result : Result (Option (List Operation)) EventFault) (event happened : EventKind) → event ≡ happened
+    → Judges tables old happened result rows → Judges tables old event result rows
+judged-of tables old rows result event happened is judged = let P : EventKind → Type 0 = λ k. Judges tables old k result rows in subst P (sym is) judged
+
+-- an event that is no commit commits nothing
+pub none-committed : (happened : EventKind) (s : Seen) (its : Option (List Operation)) → ((t : ℕ) → happened ≡ Commit t → ⊥) → its ≡ committed_in happened s → its ≡ None
+none-committed (Commit t) s its other is = absurd (other t refl)
+none-committed (Begin t) s its other is = is
+none-committed (Op t x k) s its other is = is
+none-committed (Busy c t x u) s its other is = is
+none-committed (kind.None t x c) s its other is = is
+none-committed (Abort t) s its other is = is
+none-committed (Rollback t n) s its other is = is
 
 -- ---- behind the last event
 

@@ -9,11 +9,16 @@ use Rattle.serial_order.specs.History.{seen, standing, IsOperation, IsHistory}
 use Rattle.serial_order.specs.declared.entry.Entry.{Entry}
 use Rattle.history_judge.specs.Rows.{AreRows}
 use Rattle.history_judge.specs.declared.operation.Operation.{Operation}
+use Rattle.history_judge.specs.declared.event_fault.EventFault.{EventFault}
+use Rattle.history_judge.specs.declared.event_fault.EventFault.TheVariants.{Bad, NoMemory}
 use Rattle.history_audit.specs.Audit.{IsAudit, IsFirstIllegal}
 use Rattle.history_audit.specs.Replay.{ops_at, AreStates, AreReplayed}
 use Rattle.history_audit.specs.declared.replay.Stop.{Stop}
 use Rattle.history_audit.specs.declared.auditor.Illegal.{Illegal}
 use Rattle.history_audit.specs.declared.auditor.Auditor.{Auditor}
+use Rattle.history_audit.specs.declared.outcome.AuditFault.{AuditFault}
+use Rattle.history_audit.specs.declared.outcome.AuditFault.TheVariants as fault
+use Rattle.history_audit.specs.declared.outcome.AuditFault.TheVariants.{BadEvent}
 
 -- so far no committed operation isn't legal, and the order and the states are those of an audit; or this is the first one
 abbrev pub AuditsSoFar : List Table → List Event → List ℕ → List ℕ → Option Illegal → Type 0
@@ -32,6 +37,11 @@ pub record IsAuditing (tables : List Table) (H : List Event) (a : Auditor) : Typ
 pub record AreInitial (tables : List Table) (states : List ℕ) : Type 0 where
   pub ready : AreStates tables states
   pub initial : (x : ℕ) (T : Table) (s : ℕ) → slice_get tables x ≡ Some T → slice_get states x ≡ Some s → s ≡ T.initial
+
+-- why the audit has no yes, where the event at this place isn't taken
+abbrev pub fault_at : EventFault → ℕ → AuditFault
+fault_at Bad at = BadEvent at
+fault_at NoMemory at = fault.NoMemory
 
 -- ---- a commit
 

@@ -4,7 +4,7 @@ ghost use Rattle.std.specs.Prelude.{◌≡◌, ◌+◌, ◌<◌, ◌≤◌, [], 
 ghost use Rattle.std.specs.Result.{IsOkAnd};
 ghost use Rattle.history_audit.specs.Audit.{Audits};
 ghost use Rattle.history_audit.specs.Replay.{AreOperations, AreStates};
-ghost use Rattle.history_audit.specs.Auditor.{AreInitial, IsAuditing, illegal_at, Replays, Commits};
+ghost use Rattle.history_audit.specs.Auditor.{AreInitial, IsAuditing, fault_at, illegal_at, Replays, Commits};
 
 use crate::outcome::{Audit, AuditFault};
 use crate::replay::{Stop, count_at, replay};
@@ -66,11 +66,15 @@ impl Auditor {
         own_after();
         runs_along();
         let event = events[at];
-        match self.judge.judge(tables, event.kind) {
-            Ok(None) => Ok(()),
-            Ok(Some(operations)) => self.commit(tables, event.kind, operations.as_slice()),
-            Err(EventFault::Bad) => Err(AuditFault::BadEvent { at }),
-            Err(EventFault::NoMemory) => Err(AuditFault::NoMemory),
+        match event.kind {
+            EventKind::Commit { t } => match self.judge.commit(t) {
+                Ok(operations) => self.commit(tables, event.kind, operations.as_slice()),
+                Err(fault) => Err(fault_at(fault, at)),
+            },
+            kind => match self.judge.judge(tables, kind) {
+                Ok(()) => Ok(()),
+                Err(fault) => Err(fault_at(fault, at)),
+            },
         }
     }
 
@@ -138,6 +142,16 @@ impl Auditor {
                 finals: states,
             }),
         }
+    }
+}
+
+/// Why the audit has no yes, where the event at this place isn't taken.
+fn fault_at(fault: EventFault, at: usize) -> AuditFault
+    ensures { result ≡ fault_at fault at }
+{
+    match fault {
+        EventFault::Bad => AuditFault::BadEvent { at },
+        EventFault::NoMemory => AuditFault::NoMemory,
     }
 }
 

@@ -1,6 +1,5 @@
 -- What the status of an audit tells.
-use Rattle.std.proofs.Common.{◌≡◌, ◌≢◌, ◌⊎◌, ◌≤◌, ℕ, List, Option, Result, Ok, Err, IfSome, subst, arith, inl, inr, ⊎_elim}
-use Rattle.std.specs.Io.KnownBytes.{Appends}
+use Rattle.std.proofs.Common.{◌≡◌, ◌≢◌, ℕ, List, Option, Result, Ok, Err, IfSome, subst, arith, inl, ⊎_elim}
 use Rattle.type_table.specs.Table.{Table}
 use Rattle.type_text.specs.declared.type_file.TypeFile.{TypeFile}
 use Rattle.history_text.specs.declared.history_file.HistoryFile.{HistoryFile}
@@ -8,16 +7,15 @@ use Rattle.object_trait.specs.declared.event.Event.{Event}
 use Rattle.store_text.specs.declared.line.ObjectLine.{ObjectLine}
 use Rattle.command_types.specs.Files.{Describes}
 use Rattle.history_audit.specs.Audit.{Audits}
-use Rattle.history_audit.specs.Text.{audit_text}
 use Rattle.history_audit.specs.declared.outcome.Audit.{Audit}
 use Rattle.history_audit.specs.declared.outcome.AuditFault.{AuditFault}
 use Rattle.history_audit.specs.declared.outcome.AuditFault.TheVariants as fault
 use Rattle.store_files.specs.Lines.{SaysFault}
-use Rattle.store_files.specs.Types.{Held, AreFilesAt, AreTablesOf, IsFirstUnplaced, IsTypeFault}
+use Rattle.store_files.specs.Types.{Held, AreFilesAt, AreTablesOf, IsFirstUnplaced}
 use Rattle.store_files.specs.declared.object_fault.ObjectFault.{ObjectFault}
 use Rattle.store_files.specs.declared.object_fault.ObjectFault.TheVariants.{NoType, Refused, NoMemory}
-use Rattle.history_commands.specs.Audits.{AreAuditFiles, HasFaultyText, IsSaid, IsStatusOf, IsTold, SaysAudit, TellsAudit, TellsRead, WritesAudit}
-use Rattle.history_commands.specs.Histories.{DescribesHistory, IsFaultyHistory, ReadsHistoryFile}
+use Rattle.history_commands.specs.Audits.{IsSaid, SaysAudit, TellsAudit, TellsRead, WritesAudit}
+use Rattle.history_commands.specs.Histories.{DescribesHistory}
 
 -- ---- of what was read
 

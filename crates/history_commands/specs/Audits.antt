@@ -8,7 +8,7 @@ use Rattle.history_audit.specs.Audit.{Audits}
 use Rattle.history_audit.specs.Text.{audit_text}
 use Rattle.history_audit.specs.declared.outcome.Audit.{Audit}
 use Rattle.history_audit.specs.declared.outcome.AuditFault.{AuditFault}
-use Rattle.history_audit.specs.declared.outcome.AuditFault.TheVariants.{BadEvent, IllegalOp, NoMemory}
+use Rattle.history_audit.specs.declared.outcome.AuditFault.TheVariants.{NoMemory}
 use Rattle.store_files.specs.Types.{Held, AreFilesAt, AreTablesOf, HasPlace, IsFirstFaulty, IsFirstWith}
 use Rattle.store_files.specs.declared.object_fault.ObjectFault.TheVariants.{NoType}
 use Rattle.history_commands.specs.Histories.{DescribesHistory, IsFaultyHistory}

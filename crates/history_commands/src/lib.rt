@@ -8,3 +8,5 @@ mod status;
 
 pub use audit::audit_history;
 pub use status::status_of;
+
+pub mod worked;

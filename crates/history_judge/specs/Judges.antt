@@ -1,5 +1,5 @@
 -- When an event is judged rightly.
-use Rattle.std.specs.Prelude.{◌≡◌, ℕ, List, [], ◌∷◌, ◌++◌, Bool, true, false, Option, Result, Ok, Err}
+use Rattle.std.specs.Prelude.{◌≡◌, ℕ, List, [], ◌∷◌, ◌++◌, Bool, true, false, Option, Some, Result, Ok, Err}
 use Rattle.type_table.specs.Table.{Table}
 use Rattle.object_trait.specs.declared.event.Event.{Event}
 use Rattle.object_trait.specs.declared.event.EventKind.{EventKind}
@@ -25,3 +25,13 @@ Judges tables old event (Ok its) new =
     → MayStand tables (seen H) event × AreRows new (seen (H ++ (record { worker = w; kind = event }) ∷ [])) × (its ≡ committed_in event (seen H))
 Judges tables old event (Err Bad) new = (H : List Event) → AreRows old (seen H) → MayStand tables (seen H) event → ⊥
 Judges tables old event (Err NoMemory) new = takes_memory event ≡ true
+
+-- the event is judged, whatever it commits
+abbrev pub Takes : List Table → List (Option (List Operation)) → EventKind → Result (Unit {0}) EventFault → List (Option (List Operation)) → Type 0
+Takes tables old event (Ok done) new = (its : Option (List Operation)) × Judges tables old event (Ok its) new
+Takes tables old event (Err fault) new = Judges tables old event (Err fault) new
+
+-- what a commit hands out is what it commits
+abbrev pub handed : Result (List Operation) EventFault → Result (Option (List Operation)) EventFault
+handed (Ok its) = Ok (Some its)
+handed (Err fault) = Err fault

@@ -1,4 +1,5 @@
 pub mod Rows
 pub mod Moves
+pub mod Slots
 pub mod Judges
 pub mod Examples

@@ -2,25 +2,26 @@ ghost use Rattle.std.specs.Prelude.{◌≡◌, ◌↔◌, ℕ, [], List, map, sl
 ghost use Rattle.type_table.specs.Table.{Table};
 ghost use Rattle.serial_order.specs.History.{IsOperation};
 ghost use Rattle.object_trait.specs.declared.event.EventKind.TheVariants as kind;
-ghost use Rattle.history_judge.specs.Judges.{Judges};
+ghost use Rattle.history_judge.specs.Judges.{Judges, Takes, handed};
 
 use crate::event_fault::EventFault;
 use crate::laws::moved_rows_agree;
 use crate::operation::Operation;
 use crate::operations::Operations;
+use crate::slots::Slots;
 use object_trait::EventKind;
 use std::alloc::Global;
 use std::marker::Model;
 use type_table::TypeTable;
 
-/// What comes of an event: the operations that it commits, or why it isn't taken.
-type Verdict = Result<Option<Operations>, EventFault>;
+/// What comes of an event: it is taken, or why it isn't.
+type Verdict = Result<(), EventFault>;
 
 /// Judges events one after another, and keeps of those before what that takes: for each transaction that
 /// began its operations that live, and nothing where it ended.
 #[derive(Drop)]
 pub struct Judge {
-    rows: Vec<Option<Operations>>,
+    rows: Slots,
 }
 
 impl Model for Judge {
@@ -29,7 +30,7 @@ impl Model for Judge {
 
     ghost Value = { List (Option (List Operation)) };
 
-    ghost view = { λ a. a.rows.items };
+    ghost view = { λ a. a.rows };
 }
 
 impl Judge {
@@ -38,18 +39,14 @@ impl Judge {
         ensures { result ≡ [] }
     {
         Judge {
-            rows: Vec::new(alloc),
+            rows: Slots::new(alloc),
         }
     }
 
-    /// Judges one more event. At a commit it hands out the operations of its transaction that live, in order.
-    /// Where it is bad or memory was refused, nothing changes.
-    pub fn judge(
-        &mut self,
-        tables: &[&TypeTable],
-        event: EventKind,
-    ) -> Result<Option<Operations>, EventFault>
-        ensures judged { Judges (map (λ t. t.now) tables.now) self.old event result self.new }
+    /// Judges one more event. What a commit commits is let go: `commit` hands it out. Where the event is bad or
+    /// memory was refused, nothing changes.
+    pub fn judge(&mut self, tables: &[&TypeTable], event: EventKind) -> Result<(), EventFault>
+        ensures judged { Takes (map (λ t. t.now) tables.now) self.old event result self.new }
         ensures kept { OnErr result (self.new ≡ self.old) }
     {
         match event {
@@ -57,117 +54,105 @@ impl Judge {
             EventKind::Op { t, x, k } => self.op(tables, t, Operation { x, k }),
             EventKind::Busy { c, t, x, .. } => self.unanswered(tables, t, Operation { x, k: c }),
             EventKind::None { t, x, c } => self.unanswered(tables, t, Operation { x, k: c }),
-            EventKind::Commit { t } => self.commit(t),
+            EventKind::Commit { t } => match self.commit(t) {
+                Ok(_) => Ok(()),
+                Err(fault) => Err(fault),
+            },
             EventKind::Abort { t } => self.abort(t),
             EventKind::Rollback { t, n } => self.rollback(t, n),
         }
     }
 
-    // A transaction's number is the number of those before it.
-    fn begin(&mut self, t: u32) -> Verdict
-        ensures judged { (tables : List Table) → Judges tables self.old (kind.Begin t) result self.new }
+    /// Judges a commit of t, and hands out the operations of t that live, in order. Where it is bad, nothing
+    /// changes.
+    pub fn commit(&mut self, t: u32) -> Result<Operations, EventFault>
+        ensures judged { (tables : List Table) → Judges tables self.old (kind.Commit t) (handed result) self.new }
         ensures kept { OnErr result (self.new ≡ self.old) }
     {
         moved_rows_agree();
-        if t as usize != self.rows.len() {
+        if !self.rows.is_open(t) {
             return Err(EventFault::Bad);
         }
-        let none = Operations::new(*self.rows.allocator());
-        match self.rows.push(Some(none)) {
-            Ok(()) => Ok(None),
+        Ok(self.rows.end(t))
+    }
+
+    // A transaction's number is the number of those before it.
+    fn begin(&mut self, t: u32) -> Verdict
+        ensures judged { (tables : List Table) → Takes tables self.old (kind.Begin t) result self.new }
+        ensures kept { OnErr result (self.new ≡ self.old) }
+    {
+        moved_rows_agree();
+        if t as usize != self.rows.begun() {
+            return Err(EventFault::Bad);
+        }
+        match self.rows.begin(t) {
+            Ok(()) => Ok(()),
             Err(_) => Err(EventFault::NoMemory),
         }
     }
 
     // An operation of an open transaction.
     fn op(&mut self, tables: &[&TypeTable], t: u32, operation: Operation) -> Verdict
-        ensures judged { Judges (map (λ t. t.now) tables.now) self.old (kind.Op t operation.x operation.k) result self.new }
+        ensures judged { Takes (map (λ t. t.now) tables.now) self.old (kind.Op t operation.x operation.k) result self.new }
         ensures kept { OnErr result (self.new ≡ self.old) }
     {
         moved_rows_agree();
         if !is_operation(tables, operation) {
             return Err(EventFault::Bad);
         }
-        let Some(row) = self.rows.get_mut(t as usize) else {
+        if !self.rows.is_open(t) {
             return Err(EventFault::Bad);
-        };
-        let Some(operations) = row else {
-            return Err(EventFault::Bad);
-        };
-        match operations.push(operation) {
-            Ok(()) => Ok(None),
+        }
+        match self.rows.add(t, operation) {
+            Ok(()) => Ok(()),
             Err(_) => Err(EventFault::NoMemory),
         }
     }
 
     // An answer to an open transaction that isn't an operation, which changes nothing.
     fn unanswered(&self, tables: &[&TypeTable], t: u32, operation: Operation) -> Verdict
-        ensures busy { (u : ℕ) → Judges (map (λ t. t.now) tables.now) self.now (kind.Busy operation.k t operation.x u) result self.now }
-        ensures none { Judges (map (λ t. t.now) tables.now) self.now (kind.None t operation.x operation.k) result self.now }
+        ensures busy { (u : ℕ) → Takes (map (λ t. t.now) tables.now) self.now (kind.Busy operation.k t operation.x u) result self.now }
+        ensures none { Takes (map (λ t. t.now) tables.now) self.now (kind.None t operation.x operation.k) result self.now }
     {
         moved_rows_agree();
         if !is_operation(tables, operation) {
             return Err(EventFault::Bad);
         }
-        let Some(row) = self.rows.get(t as usize) else {
+        if !self.rows.is_open(t) {
             return Err(EventFault::Bad);
-        };
-        match row {
-            Some(_) => Ok(None),
-            None => Err(EventFault::Bad),
         }
-    }
-
-    // The end of an open transaction, whose operations are handed out.
-    fn commit(&mut self, t: u32) -> Verdict
-        ensures judged { (tables : List Table) → Judges tables self.old (kind.Commit t) result self.new }
-        ensures kept { OnErr result (self.new ≡ self.old) }
-    {
-        moved_rows_agree();
-        let Some(row) = self.rows.get_mut(t as usize) else {
-            return Err(EventFault::Bad);
-        };
-        match row.take() {
-            Some(operations) => Ok(Some(operations)),
-            None => Err(EventFault::Bad),
-        }
+        Ok(())
     }
 
     // The end of an open transaction, whose operations are struck.
     fn abort(&mut self, t: u32) -> Verdict
-        ensures judged { (tables : List Table) → Judges tables self.old (kind.Abort t) result self.new }
+        ensures judged { (tables : List Table) → Takes tables self.old (kind.Abort t) result self.new }
         ensures kept { OnErr result (self.new ≡ self.old) }
     {
         moved_rows_agree();
-        let Some(row) = self.rows.get_mut(t as usize) else {
-            return Err(EventFault::Bad);
-        };
-        if row.is_none() {
+        if !self.rows.is_open(t) {
             return Err(EventFault::Bad);
         }
-        *row = None;
-        Ok(None)
+        let _ = self.rows.end(t);
+        Ok(())
     }
 
     // A strike of the last n operations of an open transaction.
     fn rollback(&mut self, t: u32, n: u32) -> Verdict
-        ensures judged { (tables : List Table) → Judges tables self.old (kind.Rollback t n) result self.new }
+        ensures judged { (tables : List Table) → Takes tables self.old (kind.Rollback t n) result self.new }
         ensures kept { OnErr result (self.new ≡ self.old) }
     {
         moved_rows_agree();
-        let Some(row) = self.rows.get_mut(t as usize) else {
+        if !self.rows.is_open(t) {
             return Err(EventFault::Bad);
-        };
-        let Some(operations) = row else {
-            return Err(EventFault::Bad);
-        };
+        }
         let n = n as usize;
-        let count = operations.len();
+        let count = self.rows.count(t);
         if n == 0 || n > count {
             return Err(EventFault::Bad);
         }
-        operations.truncate(count - n);
-        Ok(None)
+        self.rows.keep(t, count - n);
+        Ok(())
     }
 }
 

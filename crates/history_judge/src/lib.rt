@@ -6,6 +6,7 @@ mod judge;
 mod laws;
 mod operation;
 mod operations;
+mod slots;
 
 pub use event_fault::EventFault;
 pub use judge::Judge;

@@ -9,7 +9,7 @@ use std::marker::Model;
 /// list of them.
 #[derive(Drop)]
 pub struct Operations {
-    list: SmallVec<Operation, 4>,
+    list: SmallVec<Operation, 8>,
 }
 
 impl Model for Operations {

@@ -8,3 +8,4 @@ pub mod Spelled
 pub mod Said
 pub mod CanonicalRead
 pub mod Fit
+pub mod PlainEvents

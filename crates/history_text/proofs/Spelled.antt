@@ -31,7 +31,7 @@ word_bytes (b ∷ w) h =
     ((leb-true 33 b ends.0, leb-true b 126 ends.1), word_bytes w parts.1)
 
 -- a keyword is a word
-keyword : (w : List ℕ) → leb 1 (length w) ≡ true → list_all is_word_byte w ≡ true → IsWord w
+pub keyword : (w : List ℕ) → leb 1 (length w) ≡ true → list_all is_word_byte w ≡ true → IsWord w
 keyword w some each = (omega (arith, leb-true 1 (length w) some), word_bytes w each)
 
 -- the length of a line with one more word in front

@@ -4,6 +4,7 @@ ghost use Rattle.std.specs.Prelude.{◌≡◌, map};
 ghost use Rattle.history_text.specs.Events.{events, event_line_of, begin_of, op_of, busy_of, nothing_of, commit_of, abort_of, rollback_of};
 
 use crate::event_line::EventLine;
+use crate::plain::keep_plain;
 use line_text::{FaultKind, exactly, is_key, number_at};
 use store_text::Entries;
 
@@ -39,6 +40,10 @@ impl Entries for Events {
         } else {
             Err(FaultKind::UnknownWord)
         }
+    }
+
+    fn keep_plain<'a>(&self, entries: &mut Vec<EventLine>, text: &'a [u8]) -> Option<&'a [u8]> {
+        keep_plain(entries, text)
     }
 
     fn is_in_range(&self, entry: EventLine) -> bool {

@@ -1,7 +1,7 @@
 use crate::event_line::EventLine;
 use object_trait::Event;
 use std::mem::size_of;
-use store_text::{Line, ObjectLine};
+use store_text::ObjectLine;
 
 /// The objects of a store and the events of its history in order.
 #[derive(Drop)]
@@ -10,11 +10,9 @@ pub struct HistoryFile {
     pub events: Vec<Event>,
 }
 
-// Bytes for each line: at most 64 of the value, and at most 160 while it is read. The list of lines
-// doubles as it grows, so three times as much as its lines take may be there at once; then the lines
-// of the events are taken out beside a list of at most twice as much, and the events beside these.
-const _: () = prove!(size_of::<Event>() == 20 && 3 * size_of::<Line<EventLine>>() <= 160);
-
-const _: () = prove!(2 * size_of::<Line<EventLine>>() + size_of::<EventLine>() <= 160);
+// Bytes for each line: at most 64 of the value, and at most 160 while it is read. The list of the
+// events' lines doubles as it grows, so three times as much as they take may be there at once; at its
+// end it is cut to its length, and the events are made beside it.
+const _: () = prove!(size_of::<Event>() == 20 && 3 * size_of::<EventLine>() <= 160);
 
 const _: () = prove!(size_of::<EventLine>() + size_of::<Event>() <= 160);

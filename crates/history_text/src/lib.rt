@@ -7,6 +7,7 @@ mod events;
 mod history_file;
 mod laws;
 mod line_end;
+mod plain;
 mod read;
 mod write;
 

@@ -3,6 +3,7 @@
 
 ghost use Rattle.std.specs.Prelude.{◌≡◌, ℕ, ◌+◌, ◌*◌, ◌<◌, ◌≤◌, ◌∷◌, [], ◌++◌, List, None, drop, length, map};
 ghost use Rattle.std.specs.Fmt.{decimal};
+ghost use Rattle.std.specs.List.{flat_map};
 ghost use Rattle.line_text.specs.Spelling.{spaced};
 ghost use Rattle.outputs.specs.Out.{Puts};
 
@@ -40,6 +41,7 @@ impl LineEnd {
     }
 
     /// Puts a number with a space before it in front.
+    #[inline(always)]
     fn put_number(&mut self, n: u32)
         requires { 11 + length self.old ≤ 64 }
         ensures exact { self.new ≡ 32 ∷ (decimal n ++ self.old) }
@@ -51,6 +53,7 @@ impl LineEnd {
     }
 
     /// Puts a word in front.
+    #[inline(always)]
     fn put_word(&mut self, word: &[u8])
         requires { length word.now + length self.old ≤ 64 }
         ensures { self.new ≡ word.now ++ self.old }
@@ -58,6 +61,18 @@ impl LineEnd {
         let start = self.start - word.len();
         self.bytes[start..self.start].copy_from_slice(word);
         self.start = start;
+    }
+
+    /// Puts a keyword and numbers in front. Nothing is handed back, so that the bytes stay where they are.
+    #[inline(always)]
+    fn put_line(&mut self, keyword: &[u8], numbers: &[u32])
+        requires room { length keyword.now + 11 * length numbers.now + length self.old ≤ 64 }
+        ensures { self.new ≡ keyword.now ++ (flat_map (λ n. 32 ∷ decimal n) numbers.now ++ self.old) }
+    {
+        for place in (0..numbers.len()).rev() {
+            self.put_number(numbers[place]);
+        }
+        self.put_word(keyword);
     }
 
     fn as_slice(&self) -> &[u8]
@@ -68,24 +83,14 @@ impl LineEnd {
 }
 
 /// Writes a line of a keyword and numbers.
+#[inline(always)]
 pub fn put_numbers<W: Out>(out: &mut W, keyword: &[u8], numbers: &[u32]) -> Result<(), OutFault>
     requires takes { W.fault out.old ≡ None }
     requires short { length keyword.now + 11 * length numbers.now < 64 }
     ensures { Puts (W.taken out.old) (W.taken out.new) (W.fault out.new)
         (spaced (keyword.now ∷ map decimal numbers.now) ++ 10 ∷ []) result }
 {
-    let line = line_with(keyword, numbers);
-    put(out, line.as_slice())
-}
-
-fn line_with(keyword: &[u8], numbers: &[u32]) -> LineEnd
-    requires { length keyword.now + 11 * length numbers.now < 64 }
-    ensures { result ≡ spaced (keyword.now ∷ map decimal numbers.now) ++ 10 ∷ [] }
-{
     let mut line = LineEnd::new();
-    for place in (0..numbers.len()).rev() {
-        line.put_number(numbers[place]);
-    }
-    line.put_word(keyword);
-    line
+    line.put_line(keyword, numbers);
+    put(out, line.as_slice())
 }

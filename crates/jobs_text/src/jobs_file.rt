@@ -1,6 +1,6 @@
 use crate::job_line::JobLine;
 use std::mem::size_of;
-use store_text::{Line, ObjectLine};
+use store_text::ObjectLine;
 use type_table::Name;
 
 /// A transaction that a worker is to run: its calls in order, each at an object by its place.
@@ -17,15 +17,13 @@ pub struct JobsFile {
     pub jobs: Vec<Vec<Job>>,
 }
 
-// Bytes for each line: at most 64 of the value, and at most 160 while it is read. The list of lines
-// doubles as it grows, so three times as much as its lines take may be there at once; then the lines
-// of the jobs are taken out beside a list of at most twice as much, and the jobs beside these. The
-// list of a worker's jobs doubles too, and that of a job's calls doesn't grow.
+// Bytes for each line: at most 64 of the value, and at most 160 while it is read. The list of the
+// jobs' lines doubles as it grows, so three times as much as they take may be there at once; at its end
+// it is cut to its length, and the jobs are made beside it. The list of a worker's jobs doubles too, and
+// that of a job's calls doesn't grow.
 const _: () = prove!(2 * size_of::<Job>() <= 64 && size_of::<(u32, Name)>() <= 64);
 
-const _: () = prove!(3 * size_of::<Line<JobLine>>() <= 160);
-
-const _: () = prove!(2 * size_of::<Line<JobLine>>() + size_of::<JobLine>() <= 160);
+const _: () = prove!(3 * size_of::<JobLine>() <= 160);
 
 const _: () = prove!(size_of::<JobLine>() + size_of::<(u32, Name)>() <= 160);
 

@@ -11,3 +11,4 @@ pub mod Order
 pub mod Spelled
 pub mod Decimals
 pub mod WorkedTexts
+pub mod PlainLines

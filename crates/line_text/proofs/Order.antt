@@ -110,7 +110,7 @@ Stands-from_stood : {Item : Type 0} (g : Rules Item) (items : List Item) (rank :
 Stands-from_stood g items rank e = Stands-from_count g items rank (ltb-true 0 (count_at g items rank) e)
 
 -- a rank with an item has a count
-count_from_at : {Item : Type 0} (g : Rules Item) (items : List Item) (rank n : ℕ) (x : Item) → slice_get items n ≡ Some x → g.rank_of x ≡ rank → 0 < count_at g items rank
+pub count_from_at : {Item : Type 0} (g : Rules Item) (items : List Item) (rank n : ℕ) (x : Item) → slice_get items n ≡ Some x → g.rank_of x ≡ rank → 0 < count_at g items rank
 count_from_at g [] rank n x e is = absurd cc
 count_from_at g (y ∷ items) rank zero x e is =
     let ranked : eqb (g.rank_of y) rank ≡ true = eq-eqb (g.rank_of y) rank (ap (λ z. g.rank_of z) (same_Some y x e) ∙ is) in

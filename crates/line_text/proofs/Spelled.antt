@@ -78,12 +78,12 @@ not_comment [] h = refl
 not_comment (b ∷ bytes) h = ne_eqb b 35 h
 
 -- the content of a line of words is these words
-content_again : (ws : List (List ℕ)) → 0 < length ws → AllByRecursion IsWord ws → get_or (spaced ws) 0 0 ≢ 35 → content_of (spaced ws) ≡ ws
+pub content_again : (ws : List (List ℕ)) → 0 < length ws → AllByRecursion IsWord ws → get_or (spaced ws) 0 0 ≢ 35 → content_of (spaced ws) ≡ ws
 content_again [] some each plain = absurd (omega arith)
 content_again (w ∷ ws) some each plain = sym (content_of-plain (spaced (w ∷ ws)) (not_comment (spaced (w ∷ ws)) plain)) ∙ ap (filter has_bytes) (pieces_again w ws each) ∙ words_kept (w ∷ ws) each
 
 -- words and the spaces between are bytes of a line
-spaced_bytes : (ws : List (List ℕ)) → AllByRecursion IsWord ws → AllByRecursion InLine (spaced ws)
+pub spaced_bytes : (ws : List (List ℕ)) → AllByRecursion IsWord ws → AllByRecursion InLine (spaced ws)
 spaced_bytes [] h = tt
 spaced_bytes (w ∷ []) h = each_weaker InWord InLine (λ b k. (omega arith, k.1)) w h.0.1
 spaced_bytes (w ∷ v ∷ ws) h = each_append InLine w (32 ∷ spaced (v ∷ ws)) (each_weaker InWord InLine (λ b k. (omega arith, k.1)) w h.0.1) ((omega arith, omega arith), spaced_bytes (v ∷ ws) h.1)

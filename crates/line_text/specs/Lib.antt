@@ -6,4 +6,5 @@ pub mod Steps
 pub mod Accepted
 pub mod Spelling
 pub mod Shapes
+pub mod Plain
 pub mod Example

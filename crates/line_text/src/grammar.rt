@@ -1,7 +1,8 @@
-ghost use Rattle.std.specs.Prelude.{◌≡◌, ◌<◌, ◌^◌, [], ◌∷◌, ◌++◌, false, List, length, map, OnOk};
+ghost use Rattle.std.specs.Prelude.{◌≡◌, ◌<◌, ◌^◌, [], ◌∷◌, ◌++◌, List, length, map, IfSome, OnOk, MatchOption};
 ghost use Rattle.std.specs.List.{list_any};
-ghost use Rattle.line_text.specs.Rules.{Rules, IsCounted, last_item};
-ghost use Rattle.line_text.specs.LineTests.{is_late};
+ghost use Rattle.line_text.specs.Rules.{Rules, IsCounted};
+ghost use Rattle.line_text.specs.Accepted.{HasPassed};
+ghost use Rattle.line_text.specs.Plain.{TakesMore, KeepsPlainly};
 
 use crate::fault::FaultKind;
 use crate::section::Section;
@@ -30,10 +31,10 @@ pub trait Grammar {
     fn nothing(&self, alloc: Global) -> Self::Kept
         ensures { kept result ≡ [] };
 
-    /// Keeps an item of a rank that isn't below that of the last one. There are never so many items that a
+    /// Keeps an item that passed its tests behind those before it. There are never so many items that a
     /// number can't count them.
     fn keep(&self, before: &mut Self::Kept, item: Self::Item) -> Result<(), AllocError>
-        requires { is_late (rules self.now) (last_item (kept before.old)) item ≡ false }
+        requires { HasPassed (rules self.now) (kept before.old) item }
         ensures items { OnOk result (kept before.new ≡ kept before.old ++ item ∷ []) }
         ensures few { OnOk result (length (kept before.new) < 2 ^ 64) };
 
@@ -41,6 +42,24 @@ pub trait Grammar {
     fn item(&self, words: &[&[u8]]) -> Result<Self::Item, FaultKind>
         requires { 0 < length words.now }
         ensures { result ≡ (rules self.now).item_of (map (λ w. w.now) words.now) };
+
+    /// Keeps what a text's first line says, where it is a plain line of the section of this rank, with one
+    /// space between two words and none elsewhere, whose numbers are in range, and gives what is behind it.
+    /// `None` says nothing of the line: nothing was kept, and the line is read word by word.
+    fn keep_plain<'a>(
+        &self,
+        _before: &mut Self::Kept,
+        _rank: usize,
+        _text: &'a [u8],
+    ) -> Option<&'a [u8]>
+        requires { TakesMore (rules self.now) (kept _before.old) _rank }
+        ensures items { MatchOption result
+            (kept _before.new ≡ kept _before.old)
+            (λ behind. KeepsPlainly (rules self.now) _rank _text.now behind.now (kept _before.old) (kept _before.new)) }
+        ensures few { IfSome result (λ behind. length (kept _before.new) < 2 ^ 64) }
+    {
+        None
+    }
 
     /// The sections by rank. The last is that of `end`.
     fn sections(&self) -> &[Section]

@@ -81,7 +81,7 @@ fn item_fault<G: Grammar>(
 }
 
 /// Test 7: a section can't come behind the last item.
-fn is_late<G: Grammar>(grammar: &G, stood: &Stood<G::Kept>, place: Place) -> bool
+pub fn is_late<G: Grammar>(grammar: &G, stood: &Stood<G::Kept>, place: Place) -> bool
     requires known { IsKnown (G.rules grammar.now) (G.kept stood.now.kept) stood.now.counts.items stood.now.last stood.now.clear }
     requires ranked { place.rank < length (G.rules grammar.now).sections }
     ensures { let rules = G.rules grammar.now in (x : G.Item) → place ≡ place_of rules x →
@@ -97,7 +97,7 @@ fn is_late<G: Grammar>(grammar: &G, stood: &Stood<G::Kept>, place: Place) -> boo
 }
 
 /// Test 8: a section of a lower rank must be there and hasn't come.
-fn lacks<G: Grammar>(grammar: &G, stood: &Stood<G::Kept>, rank: usize) -> bool
+pub fn lacks<G: Grammar>(grammar: &G, stood: &Stood<G::Kept>, rank: usize) -> bool
     requires known { IsKnown (G.rules grammar.now) (G.kept stood.now.kept) stood.now.counts.items stood.now.last stood.now.clear }
     requires ranked { rank < length (G.rules grammar.now).sections }
     ensures { result ≡ lacks (G.rules grammar.now) (G.kept stood.now.kept) rank }
@@ -121,7 +121,7 @@ fn is_lacking<G: Grammar>(grammar: &G, stood: &Stood<G::Kept>, rank: usize) -> b
 }
 
 /// Test 9: the section takes no more lines.
-fn is_full<G: Grammar>(grammar: &G, stood: &Stood<G::Kept>, rank: usize) -> bool
+pub fn is_full<G: Grammar>(grammar: &G, stood: &Stood<G::Kept>, rank: usize) -> bool
     requires known { IsKnown (G.rules grammar.now) (G.kept stood.now.kept) stood.now.counts.items stood.now.last stood.now.clear }
     requires ranked { rank < length (G.rules grammar.now).sections }
     ensures { let rules = G.rules grammar.now in
@@ -134,7 +134,7 @@ fn is_full<G: Grammar>(grammar: &G, stood: &Stood<G::Kept>, rank: usize) -> bool
 }
 
 /// Whether test 10 passes: the item is greater than the last one, if both are in one ascending section.
-fn ascends<G: Grammar>(grammar: &G, stood: &Stood<G::Kept>, place: Place) -> bool
+pub fn ascends<G: Grammar>(grammar: &G, stood: &Stood<G::Kept>, place: Place) -> bool
     requires { IsKnown (G.rules grammar.now) (G.kept stood.now.kept) stood.now.counts.items stood.now.last stood.now.clear }
     ensures { let rules = G.rules grammar.now in (x : G.Item) → place ≡ place_of rules x →
         result ≡ ascends rules (last_item (G.kept stood.now.kept)) x }

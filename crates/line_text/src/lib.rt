@@ -8,7 +8,9 @@ mod grammar;
 mod judge;
 mod laws;
 mod line;
+mod more;
 mod number;
+mod plain;
 mod read;
 mod section;
 mod shapes;
@@ -20,6 +22,7 @@ pub use laws::{
     accepted_in_order, canonical_reads_again, names_are_words, numbers_read_again, outcome_by_lines,
 };
 pub use number::number_of;
+pub use plain::{bytes_before, number_before};
 pub use read::read_items;
 pub use section::Section;
 pub use shapes::{exactly, is_key, kind_at, name_at, number_at};

@@ -2,7 +2,7 @@ ghost use Rattle.std.specs.Prelude.{◌≡◌, ◌&&◌, ◌==◌, nat_lt, lengt
 ghost use Rattle.line_text.specs.Text.{is_digit, number_of};
 
 /// The most digits of a number.
-const MOST_DIGITS: usize = 7;
+pub(crate) const MOST_DIGITS: usize = 7;
 
 /// The number that a word is: `0`, or one to seven decimal digits without a leading zero.
 pub fn number_of(word: &[u8]) -> Option<u32>
@@ -22,13 +22,13 @@ pub fn number_of(word: &[u8]) -> Option<u32>
 }
 
 /// Whether a word of more than one byte begins with a zero.
-fn has_leading_zero(word: &[u8]) -> bool
+pub(crate) fn has_leading_zero(word: &[u8]) -> bool
     ensures { result ≡ (nat_lt 1 (length word.now) && slice_index word.now 0 == 48) }
 {
     word.len() > 1 && word[0] == b'0'
 }
 
-fn is_digit(b: u8) -> bool
+pub(crate) fn is_digit(b: u8) -> bool
     ensures { result ≡ is_digit b }
 {
     b'0' <= b && b <= b'9'

@@ -7,6 +7,7 @@ use crate::cut::cut_line;
 use crate::fault::{FaultKind, TextFault};
 use crate::grammar::Grammar;
 use crate::judge::judge_words;
+use crate::more::keep_plain_line;
 use crate::stood::{Stood, has_ended, nothing_stood};
 use std::alloc::Global;
 
@@ -66,6 +67,9 @@ fn read_line<'a, G: Grammar>(
     ensures known { OnOk result
         (IsKnown (G.rules grammar.now) (G.kept stood.new.kept) stood.new.counts.items stood.new.last stood.new.clear) }
 {
+    if let Some(behind) = keep_plain_line(grammar, text, stood) {
+        return Ok(behind);
+    }
     let behind = cut_line(text, words)?;
     judge_words(grammar, words, stood)?;
     Ok(behind)

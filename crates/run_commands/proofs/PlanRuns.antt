@@ -1,5 +1,5 @@
 -- What is written of a run and of its audit, and that the audit is a yes.
-use Rattle.std.proofs.Common.{◌≡◌, ◌⊎◌, ◌∙◌, ℕ, List, [], ◌∷◌, ◌++◌, map, Option, Some, None, Result, Ok, Err, ap, sym, subst, refl, arith, inl, inr, append-nil}
+use Rattle.std.proofs.Common.{◌≡◌, ◌∙◌, ℕ, List, [], ◌∷◌, ◌++◌, map, Option, Some, None, Result, Ok, Err, ap, sym, subst, refl, arith, inl, inr, append-nil}
 use Rattle.std.specs.Io.KnownBytes.{Appends, Keeps, append_known}
 use Rattle.std.specs.declared.sync.Arc.{Arc}
 use Rattle.std.proofs.KnownBytes.{Appends-kept, Appends-trans}
@@ -21,7 +21,7 @@ use Rattle.history_audit.specs.declared.outcome.AuditFault.TheVariants.{BadEvent
 use Rattle.history_commands.specs.Audits.{IsStatusOf}
 use Rattle.store_files.specs.Types.{value_of}
 use Rattle.store_files.specs.declared.plan.Plan.{Plan}
-use Rattle.run_commands.specs.Performs.{Performs, PerformsPlan, PassesAudit, RunsPlan, SaysYes, store_of, table_of, tables}
+use Rattle.run_commands.specs.Performs.{IsPassed, PerformsPlan, PassesAudit, RunsPlan, store_of, table_of, tables}
 
 -- ---- tables
 
@@ -37,16 +37,23 @@ tables_of_types (c ∷ types) = ap (λ (ts : List Table). table_of c ∷ ts) (ta
 
 -- ---- the audit
 
+-- the audit of a serial history passes
+pub passed : (s : Stored) (outcome : Result Audit AuditFault) → Audits (tables s) s.history outcome → Passes outcome → IsSerial (objects s) s.history → IsPassed s outcome
+passed s (Ok a) audits passes serial = (audits, serial)
+passed s (Err NoMemory) audits passes serial = refl
+passed s (Err (BadEvent at)) audits passes serial = absurd passes
+passed s (Err (IllegalOp i x j)) audits passes serial = absurd passes
+
 -- an audit that passes is a yes, or wants memory
-pub audit_passes : (s : Stored) (outcome : Result Audit AuditFault) (status : ℕ) (old mid new : Option (List ℕ)) (waits : List ℕ) → Audits (tables s) s.history outcome → Passes outcome
-    → IsSerial (objects s) s.history → IsStatusOf outcome status → Appends old mid (audit_text outcome) → Keeps mid new → waits ≡ [] → PassesAudit s status old new waits
-audit_passes s (Ok a) status old mid new waits audits passes serial is bytes kept none = record {
+pub audit_passes : (s : Stored) (outcome : Result Audit AuditFault) (status : ℕ) (old mid new : Option (List ℕ)) (waits : List ℕ) → IsPassed s outcome
+    → IsStatusOf outcome status → Appends old mid (audit_text outcome) → Keeps mid new → waits ≡ [] → PassesAudit s status old new waits
+audit_passes s (Ok a) status old mid new waits passes is bytes kept none = record {
   ends = inl is;
-  passes = λ _. (record { audit = a; audited = audits; serial = serial; written = Appends-kept old mid new _ bytes kept }, none);
+  passes = λ _. (record { audit = a; audited = passes.0; serial = passes.1; written = Appends-kept old mid new _ bytes kept }, none);
 }
-audit_passes s (Err NoMemory) status old mid new waits audits passes serial is bytes kept none = record { ends = inr is; passes = λ zero. absurd (omega (arith, is, zero)) }
-audit_passes s (Err (BadEvent at)) status old mid new waits audits passes serial is bytes kept none = absurd passes
-audit_passes s (Err (IllegalOp i x j)) status old mid new waits audits passes serial is bytes kept none = absurd passes
+audit_passes s (Err NoMemory) status old mid new waits passes is bytes kept none = record { ends = inr is; passes = λ zero. absurd (omega (arith, is, zero)) }
+audit_passes s (Err (BadEvent at)) status old mid new waits passes is bytes kept none = absurd cc
+audit_passes s (Err (IllegalOp i x j)) status old mid new waits passes is bytes kept none = absurd cc
 
 -- where the output failed nothing is said
 pub audit_failed : (s : Stored) (old new : Option (List ℕ)) (waits : List ℕ) → PassesAudit s 3 old new waits

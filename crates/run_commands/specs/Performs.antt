@@ -1,16 +1,17 @@
 -- What performing a plan does.
-use Rattle.std.specs.Prelude.{◌≡◌, ◌⊎◌, ℕ, List, [], ◌++◌, map, Option, Some, None, Ok}
+use Rattle.std.specs.Prelude.{◌≡◌, ◌⊎◌, ℕ, List, [], ◌++◌, map, Option, Some, None, Result, Ok, Err}
 use Rattle.std.specs.declared.sync.Arc.{Arc}
 use Rattle.std.specs.Io.KnownBytes.{Appends}
 use Rattle.type_table.specs.Table.{Table}
 use Rattle.table_checker.specs.Checked.{Checked}
-use Rattle.object_trait.specs.Object.{Object}
 use Rattle.serial_order.specs.Serial.{IsSerial}
 use Rattle.store_laws.specs.Stored.{Stored, objects}
 use Rattle.script_run.specs.Running.{RunsScript}
 use Rattle.history_audit.specs.Audit.{Audits}
 use Rattle.history_audit.specs.Text.{audit_text}
 use Rattle.history_audit.specs.declared.outcome.Audit.{Audit}
+use Rattle.history_audit.specs.declared.outcome.AuditFault.{AuditFault}
+use Rattle.history_audit.specs.declared.outcome.AuditFault.TheVariants.{NoMemory}
 use Rattle.store_files.specs.Types.{value_of}
 use Rattle.store_files.specs.declared.plan.Plan.{Plan}
 
@@ -25,6 +26,11 @@ tables s = map (λ (c : Checked). c.file.table) s.types
 -- a new store of a plan's types
 abbrev pub store_of : Plan → Stored
 store_of plan = record { types = map value_of plan.types.items; history = []; max = plan.script.max }
+
+-- the audit of a store's history with the tables of its objects is a yes, and the history is serial; or memory was refused
+abbrev pub IsPassed : Stored → Result Audit AuditFault → Type 0
+IsPassed s (Ok audit) = Audits (tables s) s.history (Ok audit) × IsSerial (objects s) s.history
+IsPassed s (Err fault) = fault ≡ NoMemory
 
 -- the history of a store, audited with the tables of its objects, is a yes, and serial; the output took the lines of the audit
 pub record SaysYes (s : Stored) (old new : Option (List ℕ)) : Type 0 where

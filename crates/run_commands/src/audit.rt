@@ -5,7 +5,7 @@ ghost use Rattle.type_table.specs.Table.{Table};
 ghost use Rattle.command_files.specs.Gathered.{under, waiting, taken_by};
 ghost use Rattle.history_audit.specs.Audit.{Audits};
 ghost use Rattle.store_files.specs.Types.{value_of};
-ghost use Rattle.run_commands.specs.Performs.{PassesAudit, table_of};
+ghost use Rattle.run_commands.specs.Performs.{IsPassed, PassesAudit, table_of};
 
 use command_files::{FAILED, Gathered};
 use history_audit::{Audit, AuditFault, audit, serial_histories_pass, write_audit};
@@ -16,27 +16,23 @@ use serial_order::run_is_history;
 use std::alloc::{AllocError, Global};
 use std::sync::Arc;
 use store::Store;
-use store_files::Plan;
 use table_checker::CheckedType;
 use type_table::TypeTable;
 
-/// Audits the history of a store of the plan's types, writes the lines, and hands on what is gathered.
-/// The audit is a yes, or memory was refused: the history of a store is serial.
+/// Audits the history of a store of these types, writes the lines, and hands on what is gathered.
 pub(crate) fn audit_store<R: Recovery, W: Out, E: Out>(
     alloc: Global,
     store: &Store<R>,
-    plan: &Plan,
+    types: &[Arc<CheckedType>],
     out: &mut Gathered<W>,
     err: &mut E,
 ) -> u8
     requires out_takes { W.fault (under out.old) ≡ None }
     requires err_takes { E.fault err.old ≡ None }
-    requires types { store.now.types ≡ map value_of plan.now.types.items }
+    requires types { store.now.types ≡ map value_of types.now }
     ensures { PassesAudit store.now result (taken_by W.taken out.old) (taken_by W.taken out.new) (waiting out.new) }
 {
-    run_is_history();
-    serial_histories_pass();
-    let outcome = audit_types(alloc, &plan.types, store.history());
+    let outcome = audit_of(alloc, store, types);
     match write_audit(&outcome, out) {
         Ok(()) => match out.flush() {
             Ok(()) => status_of(&outcome, err),
@@ -44,6 +40,21 @@ pub(crate) fn audit_store<R: Recovery, W: Out, E: Out>(
         },
         Err(_) => FAILED,
     }
+}
+
+/// The audit of the history of a store of these types. It is a yes, or memory was refused: the history
+/// of a store is serial.
+pub fn audit_of<R: Recovery>(
+    alloc: Global,
+    store: &Store<R>,
+    types: &[Arc<CheckedType>],
+) -> Result<Audit, AuditFault>
+    requires { store.now.types ≡ map value_of types.now }
+    ensures { IsPassed store.now result }
+{
+    run_is_history();
+    serial_histories_pass();
+    audit_types(alloc, types, store.history())
 }
 
 /// Audits events with the tables of these types.

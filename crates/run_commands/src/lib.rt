@@ -4,4 +4,7 @@
 mod audit;
 mod performing;
 
+pub use audit::audit_of;
 pub use performing::perform;
+
+pub mod worked;

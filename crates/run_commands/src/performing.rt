@@ -58,7 +58,7 @@ fn perform_at<R: Recovery, W: Out, E: Out>(
 {
     let (store, written) = run_script(store, &plan.script, out);
     let status = match written {
-        Ok(()) => audit_store(alloc, &store, plan, out, err),
+        Ok(()) => audit_store(alloc, &store, &plan.types, out, err),
         Err(_) => FAILED,
     };
     let _ = store.close();

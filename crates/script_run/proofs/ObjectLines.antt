@@ -1,12 +1,8 @@
--- The objects' lines, one after another; and the bytes of names.
-use Rattle.std.proofs.Common.{◌≡◌, ℕ, zero, suc, ◌+◌, ◌<◌, ◌≤◌, List, [], ◌∷◌, ◌++◌, length, take, drop, get_or, Option, Result, Ok, Err, refl, sym, ap, ◌∙◌, subst, arith}
+-- The objects' lines, one after another.
+use Rattle.std.proofs.Common.{◌≡◌, ℕ, ◌+◌, ◌<◌, List, [], ◌∷◌, ◌++◌, length, take, drop, get_or, Option, Result, Ok, Err, refl, sym, ap, ◌∙◌, subst}
 use Rattle.std.proofs.lemmas.List.{map-append, take_more, take-append-drop}
-use Rattle.std.proofs.lemmas.Str.{IsUtf8-from_ascii}
-use Rattle.std.specs.List.{AllByRecursion, slice_index}
-use Rattle.std.specs.Str.{IsUtf8}
 use Rattle.outputs.specs.Out.{Puts}
 use Rattle.outputs.specs.declared.out.OutFault.{OutFault}
-use Rattle.line_text.specs.Spelling.{IsWord}
 use Rattle.store_laws.specs.Stored.{Stored}
 use Rattle.store_text.specs.declared.line.ObjectLine.{ObjectLine}
 use Rattle.script_run.specs.Turns.{line_of, object_turn, object_turns}
@@ -37,15 +33,3 @@ objects-stopped s xs i d {a = a} {c = c} {g = g} {e = e} inside so_far line =
     sym (map-append (object_turn H) (take (i + 1) xs) (drop (i + 1) xs)) ∙ ap (object_turns H) (take-append-drop (i + 1) xs)
     in
     subst (λ l. Writes s l a c g s (Err e)) split (stop s s _ _ (objects-more s xs i d inside so_far line))
-
--- ---- names
-
--- the bytes of a word are below 128
-ascii : (w : List ℕ) → AllByRecursion (λ b. (33 ≤ b) × (b ≤ 126)) w → (i : ℕ) → slice_index w i < 128
-ascii [] h i = omega arith
-ascii (b ∷ w) h zero = omega (arith, h.0.1)
-ascii (b ∷ w) h (suc i) = ascii w h.1 i
-
--- so it is a text
-pub word-is_text : (w : List ℕ) → IsWord w → IsUtf8 w
-word-is_text w h = IsUtf8-from_ascii w (ascii w h.1)

@@ -9,13 +9,10 @@ ghost use Rattle.script_run.specs.Running.{Asks, RunsCommands};
 
 use crate::lines::write_refused;
 use history_text::write_event;
-use line_text::names_are_words;
 use object_trait::{Event, Recovery};
 use outputs::{Out, OutFault};
 use serial_order::{Command, Refusal, command_appends};
-use std::str;
 use store::Store;
-use type_table::Name;
 
 /// Asks the commands of a store, in order, as worker 0, and writes the line of each before it asks the
 /// next: that of its event, or that of its refusal.
@@ -59,21 +56,10 @@ fn ask<R: Recovery>(store: &mut Store<R>, command: &Command) -> Option<Refusal>
 {
     match command {
         Command::Begin => store.begin(0).err(),
-        Command::Call { t, x, call } => store.call(0, *t, *x, text_of(call)).err(),
+        Command::Call { t, x, call } => store.call_bytes(0, *t, *x, call.as_bytes()).err(),
         Command::Commit { t } => store.commit(0, *t).err(),
         Command::Abort { t } => store.abort(0, *t).err(),
         Command::Rollback { t, n } => store.rollback(0, *t, *n).err(),
-    }
-}
-
-/// The text of a name. The bytes of a name are a text always.
-fn text_of(name: &Name) -> &str
-    ensures { result.now ≡ name.now }
-{
-    names_are_words();
-    match str::from_utf8(name.as_bytes()) {
-        Ok(text) => text,
-        Err(_) => "",
     }
 }
 

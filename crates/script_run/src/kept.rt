@@ -13,10 +13,7 @@ use store::Store;
 /// # Errors
 ///
 /// The fault that stopped the output.
-pub(crate) fn write_states<R: Recovery, W: Out>(
-    store: &Store<R>,
-    out: &mut W,
-) -> Result<(), OutFault>
+pub fn write_states<R: Recovery, W: Out>(store: &Store<R>, out: &mut W) -> Result<(), OutFault>
     requires { W.fault out.old ≡ None }
     ensures { WritesKept store.now (W.taken out.old) (W.taken out.new) (W.fault out.new) result }
 {

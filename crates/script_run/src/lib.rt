@@ -10,7 +10,9 @@ mod lines;
 mod objects;
 mod running;
 
+pub use kept::write_states;
 pub use laws::{closing_aborts, closing_ends, commands_replay, text_tells_history};
+pub use lines::{name_of, number_of};
 pub use outputs::{Out, OutFault};
 pub use running::run_script;
 pub use script_text::Script;

@@ -52,7 +52,7 @@ pub(crate) fn write_kept<W: Out>(out: &mut W, x: u32, state: u16) -> Result<(), 
 }
 
 /// The number of a refusal.
-fn number_of(refusal: Refusal) -> u8
+pub fn number_of(refusal: Refusal) -> u8
     ensures { result ≡ refusal_number refusal }
 {
     match refusal {
@@ -67,7 +67,7 @@ fn number_of(refusal: Refusal) -> u8
 }
 
 /// The name of a refusal.
-fn name_of(refusal: Refusal) -> &'static str
+pub fn name_of(refusal: Refusal) -> &'static str
     ensures { result.now ≡ refusal_name refusal }
 {
     match refusal {

@@ -3,6 +3,7 @@
 ghost use Rattle.std.specs.Prelude.{◌≡◌, map};
 ghost use Rattle.script_text.specs.Commands.{commands, command_of, begin_of, call_of, commit_of, abort_of, rollback_of};
 
+use crate::plain::keep_plain;
 use line_text::{FaultKind, exactly, is_key, name_at, number_at};
 use serial_order::Command;
 use store_text::Entries;
@@ -36,6 +37,10 @@ impl Entries for Commands {
         } else {
             Err(FaultKind::UnknownWord)
         }
+    }
+
+    fn keep_plain<'a>(&self, entries: &mut Vec<Command>, text: &'a [u8]) -> Option<&'a [u8]> {
+        keep_plain(entries, text)
     }
 
     fn is_in_range(&self, _entry: Command) -> bool {

@@ -2,6 +2,7 @@
 #![tactic(auto)]
 
 mod commands;
+mod plain;
 mod read;
 mod script;
 

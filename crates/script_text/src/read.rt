@@ -11,8 +11,8 @@ use store_text::{Parts, StoreGrammar, read_parts};
 
 /// The script of a text, or the text's first fault.
 ///
-/// `NoMemory` comes in place of either where memory was refused; its line is the one that was
-/// being read, or the first where the lines were read and the script was being built.
+/// `NoMemory` comes in place of either where memory was refused; its line is the one that was being
+/// read.
 pub fn read_script(alloc: Global, text: &[u8]) -> Result<Script, TextFault>
     ensures exact { Reads commands IsScriptOf result text.now }
     ensures fit { IfOk result IsFit }

@@ -1,6 +1,6 @@
 use serial_order::Command;
 use std::mem::size_of;
-use store_text::{Line, ObjectLine};
+use store_text::ObjectLine;
 
 /// The objects of a store, the most events of its history, and the commands that it is asked in turn.
 #[derive(Drop)]
@@ -10,9 +10,7 @@ pub struct Script {
     pub commands: Vec<Command>,
 }
 
-// Bytes for each line: at most 64 of the value, and at most 160 while it is read. The list of lines
-// doubles as it grows, so three times as much as its lines take may be there at once; then the value
-// is made beside a list of at most twice as much.
-const _: () = prove!(size_of::<Command>() <= 64 && 3 * size_of::<Line<Command>>() <= 160);
-
-const _: () = prove!(2 * size_of::<Line<Command>>() + size_of::<Command>() <= 160);
+// Bytes for each line: at most 64 of the value, and at most 160 while it is read. The list of commands
+// doubles as it grows, so three times as much as its commands take may be there at once; at its end it
+// is cut to its length, beside a list of at most twice as much.
+const _: () = prove!(size_of::<Command>() <= 64 && 3 * size_of::<Command>() <= 160);

@@ -26,8 +26,20 @@ impl<R: Recovery> Store<R> {
         ensures step { MayStep self.old w (command.Call t x name.now) result self.new }
         ensures answer { (c : ℕ) → call_at (slice_get (objects self.old) x) name.now ≡ Some c → Answers self.old w t x c result self.new }
     {
+        self.call_bytes(w, t, x, name.as_bytes())
+    }
+
+    /// The call whose name has these bytes, as `call` with the name.
+    ///
+    /// # Errors
+    ///
+    /// As `call`.
+    pub fn call_bytes(&mut self, w: u8, t: u32, x: u32, name: &[u8]) -> Result<Answer, Refusal>
+        ensures step { MayStep self.old w (command.Call t x name.now) result self.new }
+        ensures answer { (c : ℕ) → call_at (slice_get (objects self.old) x) name.now ≡ Some c → Answers self.old w t x c result self.new }
+    {
         let calls = self.calls_for(t, x)?;
-        let Some(call) = calls.by_name(name) else {
+        let Some(call) = calls.by_bytes(name) else {
             return Err(Refusal::NoCall);
         };
         self.answer(w, t, x as u8, call)

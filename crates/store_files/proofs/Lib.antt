@@ -1,3 +1,5 @@
 pub mod Pairs
 pub mod Objects
 pub mod PlanLemmas
+pub mod TwoFiles
+pub mod Planned

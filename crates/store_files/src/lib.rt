@@ -5,6 +5,7 @@
 mod accept;
 mod faults;
 mod object_fault;
+mod object_types;
 mod plan;
 mod planning;
 mod script;
@@ -13,7 +14,10 @@ mod types;
 
 pub use faults::say_fault;
 pub use object_fault::ObjectFault;
+pub use object_types::types_for;
 pub use plan::Plan;
 pub use planning::plan_run;
 pub use tables::tables_of;
 pub use types::read_types;
+
+pub mod worked;

@@ -3,11 +3,9 @@
 ghost use Rattle.std.specs.Prelude.{◌≡◌, None, map, IfOk, IfErr, OnOk};
 ghost use Rattle.store_files.specs.Plans.{IsPlanOf, TellsNoPlan, WritesNoPlan};
 
-use crate::accept::accept_types;
-use crate::faults::say_fault;
+use crate::object_types::types_for;
 use crate::plan::Plan;
 use crate::script::read_script_file;
-use crate::types::read_types;
 use command_files::Source;
 use outputs::Out;
 use std::thread::Threads;
@@ -35,14 +33,10 @@ pub fn plan_run<R: AllocGlobal + Threads + Sync, S: Source, W: Out, E: Out>(
     ensures refused { IfErr result (λ status. TellsNoPlan (S.holds source.old) script.now (map (λ p. p.now) types.now) status (W.taken out.old) (W.taken out.new)) }
     ensures writes { IfErr result (λ status. WritesNoPlan status (W.taken out.old) (W.taken out.new)) }
 {
-    let alloc = rt.alloc();
-    let read = read_script_file(alloc, script, source, err)?;
-    let files = read_types(alloc, types, source, err)?;
-    match accept_types(rt, &files, &read.objects) {
-        Ok(types) => Ok(Plan {
-            script: read,
-            types,
-        }),
-        Err(fault) => Err(say_fault(alloc, script, fault, out, err)),
-    }
+    let read = read_script_file(rt.alloc(), script, source, err)?;
+    let checked = types_for(rt, script, &read.objects, types, source, out, err)?;
+    Ok(Plan {
+        script: read,
+        types: checked,
+    })
 }

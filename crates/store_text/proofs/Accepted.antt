@@ -1,19 +1,25 @@
 -- What is known of the lines of an accepted text.
-use Rattle.std.proofs.Common.{◌≡◌, ℕ, zero, suc, ◌+◌, ◌<◌, ◌≤◌, true, cond, eqb, leb, List, [], ◌∷◌, length, Some, refl, sym, ap, ◌∙◌, arith}
+use Rattle.std.proofs.Common.{◌≡◌, ℕ, zero, suc, ◌+◌, ◌<◌, ◌≤◌, Bool, true, false, ◌&&◌, cond, eqb, leb, List, [], ◌∷◌, length, Some, refl, sym, ap, ◌∙◌, arith}
 use Rattle.std.specs.List.{slice_get, AllByRecursion}
-use Rattle.std.proofs.lemmas.Bool.{leb-true, and_parts}
+use Rattle.std.proofs.lemmas.Bool.{leb-true, leb-false, ne_eqb, and_parts}
 use Rattle.std.proofs.lemmas.List.Sums.{sum_by-cons}
-use Rattle.std.proofs.lemmas.Option.{slice_get-get_or, none-some, same_Some}
+use Rattle.std.proofs.lemmas.Option.{none-some, same_Some}
+use Rattle.type_table.specs.declared.kind.Kind.{Kind}
 use Rattle.line_text.specs.Rules.{count_at}
-use Rattle.line_text.specs.LineTests.{is_single, is_needed}
-use Rattle.line_text.specs.Accepted.{AreInOrder}
+use Rattle.line_text.specs.LineTests.{is_single, is_needed, is_full}
+use Rattle.line_text.specs.Accepted.{HasPassed, AreInOrder}
+use Rattle.line_text.specs.Plain.{TakesMore, KeepsPlainly}
+use Rattle.store_text.specs.PlainEntry.{KeepsEntry}
 use Rattle.store_text.specs.Body.{Body, store_rules, rank_of, sections, object_lines, entry_lines, is_in_range}
-use Rattle.store_text.specs.Said.{max_in, objects_of, entries_of, AreSmall}
+use Rattle.store_text.specs.Said.{max_in, objects_of, entries_of}
+use Rattle.store_text.specs.Kept.{lines_of_parts, kept_lines, limit_of}
 use Rattle.store_text.specs.Parts.{IsPartsOf, AreFit}
+use Rattle.store_text.specs.declared.kept.KeptParts.{KeptParts}
 use Rattle.store_text.specs.declared.line.ObjectLine.{ObjectLine}
 use Rattle.store_text.specs.declared.parts.Parts.{Parts}
 use Rattle.store_text.specs.declared.line.Line.{Line}
 use Rattle.store_text.specs.declared.line.Line.TheVariants.{Max, Object, Entry, End}
+use Rattle.store_text.proofs.Keeping.{entry_more, limit_said, objects_said, entries_said, never}
 
 -- each line's numbers are in range
 abbrev pub AreInRange : {A : Type 0} → Body A → List (Line A) → Type 0
@@ -21,12 +27,6 @@ AreInRange {A} b lines = (n : ℕ) (x : Line A) → slice_get lines n ≡ Some x
 
 pub in_range : {A : Type 0} (b : Body A) (lines : List (Line A)) → AreInOrder (store_rules b) lines → AreInRange b lines
 in_range b lines order n x at = (order.passed n x at).in_range
-
--- the files of the objects have numbers of one byte
-pub are_small : {A : Type 0} (b : Body A) (lines : List (Line A)) → AreInRange b lines → AreSmall lines
-are_small b lines h kind file found =
-    let at : slice_get lines found.0 ≡ Some (Object kind file) = slice_get-get_or lines found.0 (Object kind file) found.1 ∙ ap Some found.2 in
-    leb-true file 255 (h found.0 (Object kind file) at)
 
 -- so are the numbers of the entries
 pub entries_in_range : {A : Type 0} (b : Body A) (lines : List (Line A)) → AreInRange b lines → AllByRecursion (λ x. b.is_in_range x ≡ true) (entries_of lines)
@@ -76,6 +76,43 @@ entry_count b (Entry x ∷ lines) =
     omega (arith, one, entry_count b lines)
 entry_count b (End ∷ lines) = entry_count b lines
 
+-- an object that passed its tests had room
+pub object_room : {A : Type 0} (b : Body A) (k : KeptParts A) (kind : Kind) (file : ℕ) → HasPassed (store_rules b) (kept_lines k) (Object kind file) → length k.objects.items < 256
+object_room b k kind file h =
+    let free : leb 256 (count_at (store_rules b) (kept_lines k) 1) ≡ false = h.has_room in
+    omega (arith, leb-false 256 (count_at (store_rules b) (kept_lines k) 1) free, object_count b (kept_lines k), ap length (objects_said k.max k.objects.items k.entries.items k.has_ended))
+
+-- so has an entry where their section isn't full
+pub entry_room : {A : Type 0} (b : Body A) (k : KeptParts A) → is_full (Some entry_lines) (count_at (store_rules b) (kept_lines k) 2) ≡ false → length k.entries.items < 1000000
+entry_room b k free =
+    omega (arith, leb-false 1000000 (count_at (store_rules b) (kept_lines k) 2) free, entry_count b (kept_lines k), ap length (entries_said k.max k.objects.items k.entries.items k.has_ended))
+
+-- ---- plain lines
+
+-- an entry that wants another has one before it
+has_another : (wants : Bool) (n : ℕ) → 0 < n → (wants && eqb n 0) ≡ false
+has_another true n some = ne_eqb n 0 (λ e. omega (arith, some))
+has_another false n some = refl
+
+-- an entry that was kept behind the others is a line that was kept behind the others
+pub keeps_entry : {A : Type 0} (b : Body A) (k : KeptParts A) (text behind : List ℕ) (after : List A) → TakesMore (store_rules b) (kept_lines k) 2 → KeepsEntry b text behind k.entries.items after
+    → KeepsPlainly (store_rules b) 2 text behind (kept_lines k) (lines_of_parts k.max k.objects.items after k.has_ended)
+keeps_entry b k text behind after takes h = record {
+  item = Entry h.entry;
+  says = h.says;
+  place = refl;
+  passed = record {
+    in_order = takes.in_order (Entry h.entry) refl;
+    lacks_none = takes.lacks_none;
+    misses_none = has_another (b.wants_another h.entry) (count_at (store_rules b) (kept_lines k) 2) takes.some;
+    in_range = h.in_range;
+    has_room = takes.has_room;
+    ascending = takes.ascending (Entry h.entry) refl;
+    no_twin = sym (never (kept_lines k));
+  };
+  kept = rw h.kept (entry_more b k.max k.objects.items k.entries.items k.has_ended h.entry (takes.in_order (Entry h.entry) refl));
+}
+
 -- where a line of the objects' rank stands, there is an object
 some_object : {A : Type 0} (lines : List (Line A)) (n : ℕ) (x : Line A) → slice_get lines n ≡ Some x → rank_of x ≡ 1 → 0 < length (objects_of lines)
 some_object [] n x at ranked = absurd (none-some x at)
@@ -105,6 +142,15 @@ are_parts b lines parts order max objects entries = record {
   objects = objects;
   entries = entries;
 }
+
+-- so are the parts that were kept
+pub are_parts_of : {A : Type 0} (b : Body A) (k : KeptParts A) (parts : Parts A) → AreInOrder (store_rules b) (kept_lines k)
+    → parts.max ≡ limit_of k.max → parts.objects.items ≡ k.objects.items → parts.entries.items ≡ k.entries.items → IsPartsOf b (kept_lines k) parts
+are_parts_of b k parts order max objects entries =
+    are_parts b (kept_lines k) parts order
+    (max ∙ sym (limit_said k.max k.objects.items k.entries.items k.has_ended))
+    (objects ∙ sym (objects_said k.max k.objects.items k.entries.items k.has_ended))
+    (entries ∙ sym (entries_said k.max k.objects.items k.entries.items k.has_ended))
 
 -- and each of their numbers and counts is in its range
 pub are_fit : {A : Type 0} (b : Body A) (lines : List (Line A)) (parts : Parts A) → AreInOrder (store_rules b) lines → IsPartsOf b lines parts → AreFit b parts

@@ -1,3 +1,5 @@
 pub mod Body
 pub mod Said
+pub mod Kept
+pub mod PlainEntry
 pub mod Parts

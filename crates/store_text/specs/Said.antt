@@ -1,7 +1,6 @@
 -- What the lines of a text about a store's objects say, section by section.
-use Rattle.std.specs.Prelude.{ℕ, ◌≤◌, List, Contains, Option, Some, None}
+use Rattle.std.specs.Prelude.{ℕ, List, Option, Some, None}
 use Rattle.std.specs.List.{filter_map}
-use Rattle.type_table.specs.declared.kind.Kind.{Kind}
 use Rattle.store_text.specs.declared.line.Line.{Line}
 use Rattle.store_text.specs.declared.line.Line.TheVariants.{Max, Object, Entry}
 use Rattle.store_text.specs.declared.line.ObjectLine.{ObjectLine}
@@ -28,7 +27,3 @@ entry_in _ = None
 -- the entries in order
 abbrev pub entries_of : {A : Type 0} → List (Line A) → List A
 entries_of lines = filter_map entry_in lines
-
--- the files of the objects have numbers of one byte
-abbrev pub AreSmall : {A : Type 0} → List (Line A) → Type 0
-AreSmall lines = (kind : Kind) (file : ℕ) → Contains lines (Object kind file) → file ≤ 255

@@ -1,5 +1,6 @@
-ghost use Rattle.std.specs.Prelude.{◌≡◌, map};
+ghost use Rattle.std.specs.Prelude.{◌≡◌, ◌+◌, ◌≤◌, map, length, MatchOption};
 ghost use Rattle.store_text.specs.Body.{Body};
+ghost use Rattle.store_text.specs.PlainEntry.{KeepsEntry};
 
 use line_text::FaultKind;
 
@@ -19,6 +20,18 @@ pub trait Entries {
     /// What the words of a line say: `UnknownWord` or `BadNumber` where they are no entry.
     fn entry(&self, words: &[&[u8]]) -> Result<Self::Entry, FaultKind>
         ensures { result ≡ (body self.now).entry_of (map (λ w. w.now) words.now) };
+
+    /// Keeps what a text's first line says, where it is the plain line of an entry, with one space between
+    /// two words and none elsewhere, whose numbers are in range, and gives what is behind it. `None` says
+    /// nothing of the line: nothing was kept.
+    fn keep_plain<'a>(&self, _entries: &mut Vec<Self::Entry>, _text: &'a [u8]) -> Option<&'a [u8]>
+        ensures items { MatchOption result
+            (_entries.new.items ≡ _entries.old.items)
+            (λ behind. KeepsEntry (body self.now) _text.now behind.now _entries.old.items _entries.new.items) }
+        ensures few { length _entries.new.items ≤ length _entries.old.items + 1 }
+    {
+        None
+    }
 
     /// Whether the entry's numbers are in range.
     fn is_in_range(&self, entry: Self::Entry) -> bool

@@ -3,9 +3,11 @@
 
 ghost use Rattle.std.specs.Prelude.{◌≡◌, map};
 ghost use Rattle.store_text.specs.Body.{store_rules, line_of, max_of_words, object_of_words, end_of_words};
+ghost use Rattle.store_text.specs.Kept.{kept_lines};
 
 use crate::entries::Entries;
-use crate::line::Line;
+use crate::kept::KeptParts;
+use crate::line::{Line, ObjectLine};
 use line_text::{FaultKind, Grammar, Section, exactly, is_key, kind_at, number_at};
 use std::alloc::{AllocError, Global};
 
@@ -57,22 +59,30 @@ pub struct StoreGrammar<E> {
 impl<E: Entries> Grammar for StoreGrammar<E> {
     type Item = Line<E::Entry>;
 
-    type Kept = Vec<Line<E::Entry>>;
+    type Kept = KeptParts<E::Entry>;
 
     ghost rules = { λ g. store_rules (E.body g.entries) };
 
-    ghost kept = { λ lines. lines.items };
+    ghost kept = { λ kept. kept_lines kept };
 
-    fn nothing(&self, alloc: Global) -> Vec<Line<E::Entry>> {
-        Vec::new(alloc)
+    fn nothing(&self, alloc: Global) -> KeptParts<E::Entry> {
+        KeptParts::new(alloc)
     }
 
     fn keep(
         &self,
-        before: &mut Vec<Line<E::Entry>>,
+        before: &mut KeptParts<E::Entry>,
         item: Line<E::Entry>,
     ) -> Result<(), AllocError> {
-        before.push(item)?;
+        match item {
+            Line::Max(most) => before.max = Some(most),
+            Line::Object { kind, file } => {
+                let file = file as u8;
+                before.objects.push(ObjectLine { kind, file })?;
+            }
+            Line::Entry(entry) => before.entries.push(entry)?,
+            Line::End => before.has_ended = true,
+        }
         Ok(())
     }
 
@@ -88,6 +98,19 @@ impl<E: Entries> Grammar for StoreGrammar<E> {
             let entry = self.entries.entry(words)?;
             Ok(Line::Entry(entry))
         }
+    }
+
+    fn keep_plain<'a>(
+        &self,
+        before: &mut KeptParts<E::Entry>,
+        rank: usize,
+        text: &'a [u8],
+    ) -> Option<&'a [u8]> {
+        if rank != ENTRY_RANK {
+            return None;
+        }
+        let behind = self.entries.keep_plain(&mut before.entries, text)?;
+        Some(behind)
     }
 
     fn sections(&self) -> &[Section] {
@@ -109,7 +132,7 @@ impl<E: Entries> Grammar for StoreGrammar<E> {
 
     fn misses(
         &self,
-        _before: &Vec<Line<E::Entry>>,
+        _before: &KeptParts<E::Entry>,
         counts: &[usize],
         item: Line<E::Entry>,
     ) -> bool {
@@ -121,7 +144,7 @@ impl<E: Entries> Grammar for StoreGrammar<E> {
 
     fn is_in_range(
         &self,
-        _before: &Vec<Line<E::Entry>>,
+        _before: &KeptParts<E::Entry>,
         _counts: &[usize],
         item: Line<E::Entry>,
     ) -> bool {
@@ -137,7 +160,7 @@ impl<E: Entries> Grammar for StoreGrammar<E> {
         None
     }
 
-    fn has_twin(&self, _before: &Vec<Line<E::Entry>>, _item: Line<E::Entry>) -> bool {
+    fn has_twin(&self, _before: &KeptParts<E::Entry>, _item: Line<E::Entry>) -> bool {
         false
     }
 }

@@ -4,12 +4,14 @@
 
 mod entries;
 mod grammar;
+mod kept;
 mod line;
 mod parts;
 mod read;
 
 pub use entries::Entries;
 pub use grammar::StoreGrammar;
+pub use kept::KeptParts;
 pub use line::{Line, ObjectLine};
 pub use parts::Parts;
 pub use read::read_parts;

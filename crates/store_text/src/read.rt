@@ -4,14 +4,14 @@ ghost use Rattle.store_text.specs.Parts.{Reads, IsPartsOf, AreFit};
 use crate::entries::Entries;
 use crate::grammar::StoreGrammar;
 use crate::line::Line;
-use crate::parts::{Parts, parts_of};
-use line_text::{FaultKind, TextFault, accepted_in_order, read_items};
+use crate::parts::Parts;
+use line_text::{TextFault, accepted_in_order, read_items};
 use std::alloc::Global;
 
 /// The parts of a text, or its first fault.
 ///
-/// `NoMemory` comes in place of either where memory was refused; its line is the one that was
-/// being read, or the first where the lines were read and the parts were being made.
+/// `NoMemory` comes in place of either where memory was refused; its line is the one that was being
+/// read.
 pub fn read_parts<E: Entries>(
     alloc: Global,
     grammar: &StoreGrammar<E>,
@@ -21,12 +21,6 @@ pub fn read_parts<E: Entries>(
     ensures fit { IfOk result (AreFit (E.body grammar.now.entries)) }
 {
     accepted_in_order::<Line<E::Entry>>();
-    let lines = read_items(alloc, grammar, text)?;
-    match parts_of(alloc, &lines) {
-        Ok(parts) => Ok(parts),
-        Err(_) => Err(TextFault {
-            line: 1,
-            kind: FaultKind::NoMemory,
-        }),
-    }
+    let kept = read_items(alloc, grammar, text)?;
+    Ok(kept.into_parts())
 }

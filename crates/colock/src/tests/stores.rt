@@ -2,6 +2,7 @@
 
 mod calls;
 mod closed;
+pub mod folds;
 mod full;
 mod laws;
 mod made;

@@ -3,7 +3,7 @@
 ghost use Rattle.std.specs.Prelude.{◌≡◌, None};
 
 mod checked;
-mod examples;
+pub mod examples;
 mod large;
 mod make;
 mod tables;

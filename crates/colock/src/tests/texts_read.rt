@@ -91,13 +91,54 @@ job 0
 end
 ";
 
+/// Two jobs of the one worker, for a history that has room for one of them.
+const TWO_JOBS: &[u8] = b"max 4
+object undo 0
+job 0
+do 0 inc:1
+job 0
+do 0 inc:1
+end
+";
+
+/// Jobs that wait for one another.
+const THREE_JOBS: &[u8] = b"max 20
+object undo 0
+job 0
+do 0 dec:1
+job 0
+do 0 inc:1
+job 0
+do 0 dec:1
+end
+";
+
+/// A call and an object that aren't there.
+const NO_CALL: &[u8] = b"max 20
+object undo 0
+job 0
+do 0 nope
+end
+";
+
+const NO_OBJECT: &[u8] = b"max 20
+object undo 0
+job 0
+do 5 inc:1
+end
+";
+
 /// Canonical texts.
-pub static TEXTS: [(Reader, &[u8]); 5] = [
+pub static TEXTS: [(Reader, &[u8]); 9] = [
     (Reader::Script, SCRIPT),
     (Reader::Script, SHORT_SCRIPT),
     (Reader::History, HISTORY),
     (Reader::History, HIGH_HISTORY),
     (Reader::Jobs(3), JOBS),
+    (Reader::Jobs(1), TWO_JOBS),
+    (Reader::Jobs(1), THREE_JOBS),
+    (Reader::Jobs(1), NO_CALL),
+    (Reader::Jobs(1), NO_OBJECT),
 ];
 
 /// Texts that have no value, by their first fault and its line.
@@ -347,7 +388,7 @@ fn have_faults(rt: &(impl Abort + AllocGlobal), rows: &[(Reader, &[u8], usize, F
 }
 
 /// That each beginning of a text lacks what is missing, or ends in a line with no end.
-fn beginnings_have_faults(rt: &(impl Abort + AllocGlobal), reader: Reader, text: &[u8]) {
+pub fn beginnings_have_faults(rt: &(impl Abort + AllocGlobal), reader: Reader, text: &[u8]) {
     let mut line = 1usize;
     let mut kind = FaultKind::Missing;
     for (place, byte) in text.iter().enumerate() {

@@ -4,15 +4,16 @@ use super::reference::Reference;
 use super::scripts::{Ask, are_closed, outcome, store_of};
 use crate::tests::checked_types::{COUNTER_FROM_ONE, COUNTER_OF_FOUR, checked_of};
 use crate::tests::tasks::types::{ONE_WAY, SEMIQUEUE, TWIN};
-use object_trait::Recovery;
+use history_audit::{Audit, audit};
+use object_trait::{EventKind, Recovery};
 use objects::Object;
-use std::alloc::Global;
+use std::alloc::{AllocError, Global};
 use std::process::Abort;
 use std::sync::Arc;
 use std::test::Fail;
 use store::Store;
 use table_checker::CheckedType;
-use type_table::Kind;
+use type_table::{Kind, TypeTable};
 
 /// How many stores there are.
 const STORES: u32 = 250;
@@ -171,7 +172,30 @@ fn answer_alike<R: Recovery>(
     Ok(())
 }
 
-/// One store, from its beginning to its end.
+/// The tables of these types.
+fn tables_of<'a>(
+    alloc: Global,
+    types: &'a [Arc<CheckedType>],
+) -> Result<Vec<&'a TypeTable>, AllocError> {
+    types.iter().map(|checked| checked.table()).collect(alloc)
+}
+
+/// That an audit has the commits of the lists in their order, and the serial states.
+fn is_audited_alike(rt: &impl Abort, audit: &Audit, reference: &Reference) {
+    let mut order = audit.order.iter();
+    for event in reference.events() {
+        if let EventKind::Commit { t } = event.kind {
+            assert!(rt; order.next() == Some(&t));
+        }
+    }
+    assert!(rt; order.next() == None);
+    for x in 0..8 {
+        let state = audit.finals.get(x as usize).copied();
+        assert!(rt; state == reference.serial_state(x));
+    }
+}
+
+/// One store, from its beginning to its end, and the audit of its history.
 fn live_alike(
     rt: &(impl Abort + AllocGlobal),
     types: &[Arc<CheckedType>],
@@ -185,6 +209,8 @@ fn live_alike(
     reference.close()?;
     assert!(rt; history.as_slice() == reference.events());
     are_closed(rt, &objects);
+    let audit = audit(rt.alloc(), &history, &tables_of(rt.alloc(), types)?)?;
+    is_audited_alike(rt, &audit, &reference);
     Ok(())
 }
 

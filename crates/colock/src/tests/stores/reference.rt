@@ -187,17 +187,19 @@ impl Reference {
         }
     }
 
-    /// The state of x after what committed, one transaction after another in commit order; of update in
-    /// place, after what lives in the order of execution.
+    /// The serial state of x; of update in place, the state after what lives in the order of execution.
     pub fn committed(&self, x: u32) -> Option<u16> {
         let checked = self.types.get(x as usize)?;
         match checked.kind() {
             Kind::Undo => self.view(checked, x, 0),
-            Kind::Intentions => {
-                let table = checked.table();
-                run_at(table, Some(table.initial()), &self.serial, x, None)
-            }
+            Kind::Intentions => self.serial_state(x),
         }
+    }
+
+    /// The state of x after what committed, one transaction after another in commit order.
+    pub fn serial_state(&self, x: u32) -> Option<u16> {
+        let table = self.types.get(x as usize)?.table();
+        run_at(table, Some(table.initial()), &self.serial, x, None)
     }
 
     /// Who holds the earliest operation that keeps t from k at x.

@@ -4,58 +4,18 @@ ghost use Rattle.std.specs.Prelude.{◌≡◌, true, [], length};
 
 use super::scripts::{Happened, are_closed, are_events, store_of};
 use super::{Sort, objects_of};
-use crate::tests::sinks::AtEnd;
+use crate::tests::sinks::{AtEnd, MOST_BYTES, memory, sink_over};
 use crate::tests::tasks::types::COUNTER;
 use object_trait::{EventKind, Recovery};
 use objects::Object;
-use outputs::{OutFault, Sink};
+use outputs::OutFault;
 use script_run::run_script;
 use script_text::{Script, read_script};
 use std::alloc::Global;
-use std::io;
-use std::io::{ErrorKind, Write};
 use std::process::Abort;
 use std::test::Fail;
 use store::Store;
 use type_table::Kind;
-
-/// The most bytes that an output takes.
-pub const MOST_BYTES: usize = 32_768;
-
-/// A writer that takes `room` more bytes in all, and has memory for them.
-#[derive(Drop)]
-struct Room {
-    held: Vec<u8>,
-    room: usize,
-    at_end: AtEnd,
-}
-
-impl Write for Room {
-    fn write(&mut self, buf: &[u8]) -> io::Result<usize> {
-        let count = buf.len().min(self.room);
-        if count == 0 {
-            return match self.at_end {
-                AtEnd::Fails => Err(io::Error::from(ErrorKind::Other)),
-                AtEnd::TakesNothing => Ok(0),
-            };
-        }
-        self.held.extend_from_slice(&buf[..count])?;
-        self.room -= count;
-        Ok(count)
-    }
-
-    fn flush(&mut self) -> io::Result<()> {
-        Ok(())
-    }
-}
-
-/// Memory for all that an output takes. Where one allocation is refused, the next try has it.
-fn memory(alloc: Global) -> Result<Vec<u8>, Fail> {
-    if let Ok(held) = Vec::with_capacity(alloc, MOST_BYTES) {
-        return Ok(held);
-    }
-    Ok(Vec::with_capacity(alloc, MOST_BYTES)?)
-}
 
 /// The script of a text. Where one allocation is refused, the next try has it.
 fn script_of(alloc: Global, text: &[u8]) -> Result<Script, Fail> {
@@ -88,7 +48,7 @@ pub fn run_with_room(
     let held = memory(rt.alloc())?;
     let objects = objects_of(rt.alloc(), sorts)?;
     let store = store_of(rt, objects, script.max)?;
-    let mut out = Sink::new(Room { held, room, at_end });
+    let mut out = sink_over(held, usize::MAX, room, at_end);
     assert!(rt; is_ready(&store, &script));
     let (store, result) = run_script(store, &script, &mut out);
     Ok((store, out.into_inner().held, result))

@@ -6,7 +6,7 @@ use Rattle.serial_order.specs.History.{seen}
 use Rattle.history_judge.specs.Rows.{AreRows}
 use Rattle.history_judge.specs.Moves.{MovedRowsAgree}
 use Rattle.history_judge.specs.Examples.{counters, operation, two_ups, two_ups_rows, one_up_rows}
-use Rattle.history_judge.proofs.Judged.{begin_taken, commit_taken, rollback_taken, op_closed, rollback_outside}
+use Rattle.history_judge.proofs.Judged.{begin_judged, commit_taken, rollback_judged, op_closed, rollback_outside}
 use Rattle.history_judge.proofs.worked.events_are_judged.Goals as goal
 
 -- event by event
@@ -36,10 +36,10 @@ returns-clause-commits c = commit_taken c.moved_rows_agree.ensures counters two_
 
 pub returns-clause-takes_back : goal.returns-clause-takes_back
 returns-clause-takes_back c =
-    rollback_taken c.moved_rows_agree.ensures counters two_ups_rows one_up_rows 0 (operation 1 0 ∷ operation 0 0 ∷ []) refl 1 (omega arith) (omega arith) refl
+    rollback_judged c.moved_rows_agree.ensures counters two_ups_rows one_up_rows 0 (operation 1 0 ∷ operation 0 0 ∷ []) refl 1 (omega arith) (omega arith) refl
 
 pub returns-clause-begins : goal.returns-clause-begins
-returns-clause-begins c = begin_taken c.moved_rows_agree.ensures counters two_ups_rows _ 2 refl refl
+returns-clause-begins c = begin_judged c.moved_rows_agree.ensures counters two_ups_rows _ 2 refl refl
 
 pub returns-clause-misnumbered : goal.returns-clause-misnumbered
 returns-clause-misnumbered c = λ H known may. let begun = known.begun in omega (arith, may, begun)

@@ -6,7 +6,7 @@ use Rattle.line_text.proofs.Order.{HasPassed-from}
 use Rattle.line_text.proofs.stood.push_item.Goals as goal
 
 pub keep-requires : goal.keep-requires
-keep-requires g c = (HasPassed-from (g.G.Grammar.rules c.args.grammar.now) (g.G.Grammar.kept c.args.stood.now.kept) c.args.item c.requires.passed).in_order
+keep-requires g c = HasPassed-from (g.G.Grammar.rules c.args.grammar.now) (g.G.Grammar.kept c.args.stood.now.kept) c.args.item c.requires.passed
 
 pub index_mut-requires : goal.index_mut-requires
 index_mut-requires g c = omega (arith, c.requires.known.counted.each_rank, c.requires.ranked)

@@ -1,4 +1,4 @@
-use Rattle.std.proofs.Common.{sym, rules, get_or, ◌≡◌}
+use Rattle.std.proofs.Common.{sym, rules}
 use denote.Enum.Bare.{same_true}
 use Rattle.type_table.specs.contracts.kind.Kind.{the_type}
 use Rattle.store_files.proofs.Objects.{same_line}

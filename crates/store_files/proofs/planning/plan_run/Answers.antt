@@ -1,12 +1,12 @@
 use Rattle.std.proofs.Common.{map}
-use Rattle.store_files.proofs.PlanLemmas.{files_kept, no_plan}
+use Rattle.std.proofs.lemmas.Result.{err_from_is_err_and}
+use Rattle.store_files.proofs.PlanLemmas.{no_plan, same_source}
 use Rattle.store_files.proofs.planning.plan_run.Goals as goal
 
-pub returns-in-Err-clause-refused : goal.returns-in-Err-clause-refused
-returns-in-Err-clause-refused g c =
+pub returns-in_err-checked-clause-refused : goal.returns-in_err-checked-clause-refused
+returns-in_err-checked-clause-refused g c =
     let holds = g.S.Source.holds c.args.source.now in
-    let paths = map (λ p. p.now) c.args.types.now in
-    let files = c.in_ok-files.files.items in
-    no_plan holds c.args.script.now paths c.in_ok-read.read files c.deref.result.now c.deref-2.result.now c.in-Err.fault c.say_fault.result _ _
-    (record { script_held = c.in_ok-read.ensures.reads.0; files_held = files_kept holds _ paths files c.in_ok-read.ensures.kept c.in_ok-files.ensures.read })
-    c.deref.ensures.value c.deref-2.ensures.value c.in-Err.ensures.refused c.say_fault.ensures
+    let kept = same_source holds _ c.in_ok-read.ensures.kept in
+    let (status, returned, same) = err_from_is_err_and c.from_residual-in_err-checked.result c.from_residual-in_err-checked.ensures.1 in
+    rw (returned, same)
+    (no_plan holds _ c.args.script.now (map (λ p. p.now) c.args.types.now) c.in_ok-read.read _ _ _ _ c.in_ok-read.ensures.reads.0 kept c.deref.ensures.value c.in_err-checked.ensures.refused)

@@ -1,30 +1,18 @@
 use Rattle.store_text.specs.Body.{store_rules}
-use Rattle.store_text.proofs.Accepted.{in_range, are_small, are_parts, are_fit}
+use Rattle.store_text.specs.Kept.{kept_lines}
+use Rattle.store_text.proofs.Accepted.{are_parts_of, are_fit}
 use Rattle.store_text.proofs.read.read_parts.Goals as goal
 
-pub parts_of-requires : goal.parts_of-requires
-parts_of-requires g c =
+pub returns-clause-exact : goal.returns-clause-exact
+returns-clause-exact g c =
     let b = g.E.Entries.body c.args.grammar.now.entries in
-    let lines = c.in_ok-lines.lines.items in
-    let order = c.accepted_in_order.ensures (store_rules b) lines c.in_ok-lines.ensures.accepted in
-    rw c.deref.ensures.value (are_small b lines (in_range b lines order))
+    let k = c.in_ok-kept.kept in
+    let order = c.accepted_in_order.ensures (store_rules b) (kept_lines k) c.in_ok-kept.ensures.accepted in
+    (kept_lines k, c.in_ok-kept.ensures.exact, are_parts_of b k c.into_parts.result order c.into_parts.ensures.max c.into_parts.ensures.objects c.into_parts.ensures.entries)
 
-pub returns-in-Ok-clause-exact : goal.returns-in-Ok-clause-exact
-returns-in-Ok-clause-exact g c =
+pub returns-clause-fit : goal.returns-clause-fit
+returns-clause-fit g c =
     let b = g.E.Entries.body c.args.grammar.now.entries in
-    let lines = c.in_ok-lines.lines.items in
-    let order = c.accepted_in_order.ensures (store_rules b) lines c.in_ok-lines.ensures.accepted in
-    let max = rw c.deref.ensures.value at c.in-Ok.ensures.max in
-    let objects = rw c.deref.ensures.value at c.in-Ok.ensures.objects in
-    let entries = rw c.deref.ensures.value at c.in-Ok.ensures.entries in
-    (lines, c.in_ok-lines.ensures.exact, are_parts b lines c.in-Ok.parts order max objects entries)
-
-pub returns-in-Ok-clause-fit : goal.returns-in-Ok-clause-fit
-returns-in-Ok-clause-fit g c =
-    let b = g.E.Entries.body c.args.grammar.now.entries in
-    let lines = c.in_ok-lines.lines.items in
-    let order = c.accepted_in_order.ensures (store_rules b) lines c.in_ok-lines.ensures.accepted in
-    let max = rw c.deref.ensures.value at c.in-Ok.ensures.max in
-    let objects = rw c.deref.ensures.value at c.in-Ok.ensures.objects in
-    let entries = rw c.deref.ensures.value at c.in-Ok.ensures.entries in
-    are_fit b lines c.in-Ok.parts order (are_parts b lines c.in-Ok.parts order max objects entries)
+    let k = c.in_ok-kept.kept in
+    let order = c.accepted_in_order.ensures (store_rules b) (kept_lines k) c.in_ok-kept.ensures.accepted in
+    are_fit b (kept_lines k) c.into_parts.result order (are_parts_of b k c.into_parts.result order c.into_parts.ensures.max c.into_parts.ensures.objects c.into_parts.ensures.entries)

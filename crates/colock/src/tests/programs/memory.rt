@@ -1,0 +1,77 @@
+//! Each allocation refused in turn, by `rt try --test --fail-alloc N`: the program says that memory was
+//! refused, or a run goes on without the command that met it; and no answer is another one.
+
+use super::audits::OWN_OUTPUT;
+use super::deferred::BOTH_COMMIT;
+use super::in_place::{ONE_WAY_ORDER, TWO_DEQUEUES};
+use super::rollbacks::BOTH_KINDS;
+use super::{Case, NO_MEMORY, Played, checks, play};
+use crate::tests::stores::folds::{RunText, folded};
+use std::alloc::Global;
+use std::process::Abort;
+use std::test::Fail;
+use std::thread::Threads;
+
+/// Runs of canonical scripts, each of objects of one type.
+static RUNS: [Case<'static>; 4] = [ONE_WAY_ORDER, BOTH_COMMIT, TWO_DEQUEUES, BOTH_KINDS];
+
+/// What a slow fold writes of a run whose commands met the refused allocations that its text tells.
+fn fold_of(alloc: Global, case: &Case<'static>, written: &[u8]) -> Result<RunText, Fail> {
+    let [(_, script), (_, text)] = case.files else {
+        return Err("no script of one type")?;
+    };
+    folded(alloc, script, &[*text], written)
+}
+
+/// Whether this is what the fold writes, or all of it but the audit, or nothing, where memory was refused.
+fn is_folded(played: &Played, fold: &RunText) -> bool {
+    let (run, audit) = (fold.run.as_slice(), fold.audit.as_slice());
+    let whole = played.out.strip_prefix(run) == Some(audit);
+    whole && played.status == 0 && played.err.is_empty()
+        || played.is(3, run, NO_MEMORY)
+        || played.is(3, b"", NO_MEMORY)
+}
+
+/// That a run does what its fold does. Where that isn't what its case says, memory was refused, and
+/// the next try has it.
+fn run_folds<R: Abort + AllocGlobal + Threads + Sync>(
+    rt: &R,
+    case: &Case<'static>,
+) -> Result<(), Fail> {
+    let first = play(rt, case)?;
+    let fold = fold_of(rt.alloc(), case, &first.out)?;
+    assert!(rt; is_folded(&first, &fold));
+    assert!(rt; first.is_of(case) || play(rt, case)?.is_of(case));
+    Ok(())
+}
+
+/// That another task does what its case says, or writes nothing and says that memory was refused, and
+/// the next try has it.
+fn says_or_wants<R: Abort + AllocGlobal + Threads + Sync>(
+    rt: &R,
+    case: &Case<'static>,
+) -> Result<(), Fail> {
+    let first = play(rt, case)?;
+    if first.is(3, b"", NO_MEMORY) {
+        assert!(rt; play(rt, case)?.is_of(case));
+    } else {
+        assert!(rt; first.is_of(case));
+    }
+    Ok(())
+}
+
+#[test]
+fn checks_and_audits_want_memory(rt: HostRuntime) -> Result<(), Fail> {
+    for case in &checks::CASES {
+        says_or_wants(&rt, case)?;
+    }
+    says_or_wants(&rt, &OWN_OUTPUT)
+}
+
+#[test]
+fn runs_want_memory(rt: HostRuntime) -> Result<(), Fail> {
+    for case in &RUNS {
+        run_folds(&rt, case)?;
+    }
+    Ok(())
+}

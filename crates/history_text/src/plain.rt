@@ -1,0 +1,165 @@
+//! The event lines as they are usually written, with one space between two words and none elsewhere.
+
+ghost use Rattle.std.specs.Prelude.{◌≡◌, ◌+◌, ◌<◌, ◌≤◌, [], ◌∷◌, ◌++◌, true, length, vec_len, vec_capacity, MatchOption, codes};
+ghost use Rattle.store_text.specs.PlainEntry.{KeepsEntry};
+ghost use Rattle.history_text.specs.Events.{events, is_in_range};
+
+use crate::event_line::EventLine;
+use line_text::number_before;
+
+/// Keeps the event of a text's first line, where that is a plain one whose numbers are in range and there
+/// is room for it, and gives what is behind it.
+#[inline]
+pub fn keep_plain<'a>(kept: &mut Vec<EventLine>, text: &'a [u8]) -> Option<&'a [u8]>
+    ensures items { MatchOption result
+        (kept.new.items ≡ kept.old.items)
+        (λ behind. KeepsEntry events text.now behind.now kept.old.items kept.new.items) }
+    ensures few { length kept.new.items ≤ length kept.old.items + 1 }
+{
+    if kept.len() == kept.capacity() {
+        return None;
+    }
+    match text {
+        [b'o', b'p', b' ', rest @ ..] => keep_op(kept, rest),
+        [b'b', b'e', b'g', b'i', b'n', b' ', rest @ ..] => keep_begin(kept, rest),
+        [b'c', b'o', b'm', b'm', b'i', b't', b' ', rest @ ..] => keep_commit(kept, rest),
+        [b'b', b'u', b's', b'y', b' ', rest @ ..] => keep_busy(kept, rest),
+        [b'n', b'o', b'n', b'e', b' ', rest @ ..] => keep_nothing(kept, rest),
+        [b'a', b'b', b'o', b'r', b't', b' ', rest @ ..] => keep_abort(kept, rest),
+        [
+            b'r',
+            b'o',
+            b'l',
+            b'l',
+            b'b',
+            b'a',
+            b'c',
+            b'k',
+            b' ',
+            rest @ ..,
+        ] => keep_rollback(kept, rest),
+        _ => None,
+    }
+}
+
+/// Puts a line whose numbers are in range behind the others.
+#[inline]
+fn keep(kept: &mut Vec<EventLine>, line: EventLine) -> Option<()>
+    requires { vec_len kept.old < vec_capacity kept.old }
+    ensures items { MatchOption result
+        (kept.new.items ≡ kept.old.items)
+        (λ _. (is_in_range line ≡ true) × (kept.new.items ≡ kept.old.items ++ line ∷ [])) }
+    ensures few { length kept.new.items ≤ length kept.old.items + 1 }
+{
+    if !line.is_in_range() {
+        return None;
+    }
+    kept.push_reserved(line);
+    Some(())
+}
+
+#[inline]
+fn keep_begin<'a>(kept: &mut Vec<EventLine>, rest: &'a [u8]) -> Option<&'a [u8]>
+    requires { vec_len kept.old < vec_capacity kept.old }
+    ensures items { MatchOption result
+        (kept.new.items ≡ kept.old.items)
+        (λ behind. KeepsEntry events (codes "begin " ++ rest.now) behind.now kept.old.items kept.new.items) }
+    ensures few { length kept.new.items ≤ length kept.old.items + 1 }
+{
+    let (w, rest) = number_before(rest, b' ')?;
+    let (t, behind) = number_before(rest, b'\n')?;
+    keep(kept, EventLine::Begin { w, t })?;
+    Some(behind)
+}
+
+#[inline]
+fn keep_op<'a>(kept: &mut Vec<EventLine>, rest: &'a [u8]) -> Option<&'a [u8]>
+    requires { vec_len kept.old < vec_capacity kept.old }
+    ensures items { MatchOption result
+        (kept.new.items ≡ kept.old.items)
+        (λ behind. KeepsEntry events (codes "op " ++ rest.now) behind.now kept.old.items kept.new.items) }
+    ensures few { length kept.new.items ≤ length kept.old.items + 1 }
+{
+    let (w, rest) = number_before(rest, b' ')?;
+    let (t, rest) = number_before(rest, b' ')?;
+    let (x, rest) = number_before(rest, b' ')?;
+    let (k, behind) = number_before(rest, b'\n')?;
+    keep(kept, EventLine::Op { w, t, x, k })?;
+    Some(behind)
+}
+
+#[inline]
+fn keep_busy<'a>(kept: &mut Vec<EventLine>, rest: &'a [u8]) -> Option<&'a [u8]>
+    requires { vec_len kept.old < vec_capacity kept.old }
+    ensures items { MatchOption result
+        (kept.new.items ≡ kept.old.items)
+        (λ behind. KeepsEntry events (codes "busy " ++ rest.now) behind.now kept.old.items kept.new.items) }
+    ensures few { length kept.new.items ≤ length kept.old.items + 1 }
+{
+    let (w, rest) = number_before(rest, b' ')?;
+    let (t, rest) = number_before(rest, b' ')?;
+    let (x, rest) = number_before(rest, b' ')?;
+    let (c, rest) = number_before(rest, b' ')?;
+    let (u, behind) = number_before(rest, b'\n')?;
+    keep(kept, EventLine::Busy { w, t, x, c, u })?;
+    Some(behind)
+}
+
+#[inline]
+fn keep_nothing<'a>(kept: &mut Vec<EventLine>, rest: &'a [u8]) -> Option<&'a [u8]>
+    requires { vec_len kept.old < vec_capacity kept.old }
+    ensures items { MatchOption result
+        (kept.new.items ≡ kept.old.items)
+        (λ behind. KeepsEntry events (codes "none " ++ rest.now) behind.now kept.old.items kept.new.items) }
+    ensures few { length kept.new.items ≤ length kept.old.items + 1 }
+{
+    let (w, rest) = number_before(rest, b' ')?;
+    let (t, rest) = number_before(rest, b' ')?;
+    let (x, rest) = number_before(rest, b' ')?;
+    let (c, behind) = number_before(rest, b'\n')?;
+    keep(kept, EventLine::Nothing { w, t, x, c })?;
+    Some(behind)
+}
+
+#[inline]
+fn keep_commit<'a>(kept: &mut Vec<EventLine>, rest: &'a [u8]) -> Option<&'a [u8]>
+    requires { vec_len kept.old < vec_capacity kept.old }
+    ensures items { MatchOption result
+        (kept.new.items ≡ kept.old.items)
+        (λ behind. KeepsEntry events (codes "commit " ++ rest.now) behind.now kept.old.items kept.new.items) }
+    ensures few { length kept.new.items ≤ length kept.old.items + 1 }
+{
+    let (w, rest) = number_before(rest, b' ')?;
+    let (t, behind) = number_before(rest, b'\n')?;
+    keep(kept, EventLine::Commit { w, t })?;
+    Some(behind)
+}
+
+#[inline]
+fn keep_abort<'a>(kept: &mut Vec<EventLine>, rest: &'a [u8]) -> Option<&'a [u8]>
+    requires { vec_len kept.old < vec_capacity kept.old }
+    ensures items { MatchOption result
+        (kept.new.items ≡ kept.old.items)
+        (λ behind. KeepsEntry events (codes "abort " ++ rest.now) behind.now kept.old.items kept.new.items) }
+    ensures few { length kept.new.items ≤ length kept.old.items + 1 }
+{
+    let (w, rest) = number_before(rest, b' ')?;
+    let (t, behind) = number_before(rest, b'\n')?;
+    keep(kept, EventLine::Abort { w, t })?;
+    Some(behind)
+}
+
+#[inline]
+fn keep_rollback<'a>(kept: &mut Vec<EventLine>, rest: &'a [u8]) -> Option<&'a [u8]>
+    requires { vec_len kept.old < vec_capacity kept.old }
+    ensures items { MatchOption result
+        (kept.new.items ≡ kept.old.items)
+        (λ behind. KeepsEntry events (codes "rollback " ++ rest.now) behind.now kept.old.items kept.new.items) }
+    ensures few { length kept.new.items ≤ length kept.old.items + 1 }
+{
+    let (w, rest) = number_before(rest, b' ')?;
+    let (t, rest) = number_before(rest, b' ')?;
+    let (n, behind) = number_before(rest, b'\n')?;
+    keep(kept, EventLine::Rollback { w, t, n })?;
+    Some(behind)
+}

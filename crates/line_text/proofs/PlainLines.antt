@@ -1,0 +1,136 @@
+-- Plain lines are cut into their words.
+use Rattle.std.proofs.Common.{◌≡◌, ◌≢◌, ℕ, ◌+◌, ◌-◌, ◌<◌, ◌≤◌, true, false, ◌&&◌, eqb, leb, ltb, List, [], ◌∷◌, ◌++◌, length, get_or, take, drop, Option, Some, None, Ok, refl, sym, ap, ◌∙◌, arith, append_assoc, add-one, drop-cons}
+use Rattle.std.specs.List.{AllByRecursion, list_all}
+use Rattle.std.specs.Option.{option_to_list}
+use Rattle.std.proofs.lemmas.Option.{same_Some}
+use Rattle.std.proofs.lemmas.Bool.{and_from, and_parts, ne_eqb, le-leb, le-ltb}
+use Rattle.std.proofs.lemmas.List.{length-append, length-take-le, length-drop, take-append-drop}
+use Rattle.line_text.specs.Text.{is_digit, number_value}
+use Rattle.line_text.specs.LineTests.{is_text_byte, item_fault, words_fault, line_fault}
+use Rattle.line_text.specs.Plain.{IsPlainLine, IsNumberBefore, KeepsPlainly}
+use Rattle.line_text.specs.Rules.{Rules, count_at, has_stood, end_rank, last_item, item_in}
+use Rattle.line_text.specs.Spelling.{spaced, IsWord}
+use Rattle.line_text.specs.Steps.{ended, place_of, place_in, IsCut, Reads}
+use Rattle.line_text.specs.Accepted.{HasPassed}
+use Rattle.line_text.specs.declared.stood.Place.{Place}
+use Rattle.line_text.proofs.Order.{count_from_at}
+use Rattle.line_text.proofs.Numbers.{digit_range, number_of-digits}
+use Rattle.line_text.proofs.Spelled.{InWord, each_weaker, all_pass, InLine, content_again, spaced_bytes, first_line}
+
+-- a plain line has words
+pub plain_some : (words : List (List ℕ)) (text behind : List ℕ) → IsPlainLine words text behind → 0 < length words
+plain_some [] text behind h = absurd h
+plain_some (w ∷ words) text behind h = omega arith
+
+-- each is a word
+plain_words : (words : List (List ℕ)) (text behind : List ℕ) → IsPlainLine words text behind → AllByRecursion IsWord words
+plain_words [] text behind h = tt
+plain_words (w ∷ []) text behind h = (h.0, tt)
+plain_words (w ∷ v ∷ words) text behind h = (h.1, plain_words (v ∷ words) h.0 behind h.3)
+
+-- the text is that of the words, an LF, and what is behind
+plain_text : (words : List (List ℕ)) (text behind : List ℕ) → IsPlainLine words text behind → text ≡ (spaced words ++ 10 ∷ []) ++ behind
+plain_text [] text behind h = absurd h
+plain_text (w ∷ []) text behind h = h.1 ∙ sym (append_assoc w (10 ∷ []) behind)
+plain_text (w ∷ v ∷ words) text behind h =
+    h.2 ∙ ap (λ zs. w ++ 32 ∷ zs) (plain_text (v ∷ words) h.0 behind h.3)
+    ∙ sym (append_assoc (w ++ 32 ∷ spaced (v ∷ words)) (10 ∷ []) behind ∙ append_assoc w (32 ∷ spaced (v ∷ words)) (10 ∷ behind) ∙ ap (λ zs. w ++ 32 ∷ zs) (sym (append_assoc (spaced (v ∷ words)) (10 ∷ []) behind)))
+
+-- the first byte of a front with bytes
+first_byte : (front back : List ℕ) → 0 < length front → get_or (front ++ back) 0 0 ≡ get_or front 0 0
+first_byte [] back some = absurd (omega arith)
+first_byte (b ∷ front) back some = refl
+
+-- words with spaces between have bytes
+spaced_some : (words : List (List ℕ)) → 0 < length words → AllByRecursion IsWord words → 0 < length (spaced words)
+spaced_some [] some each = absurd (omega arith)
+spaced_some (w ∷ []) some each = each.0.0
+spaced_some (w ∷ v ∷ words) some each = omega (arith, length-append w (32 ∷ spaced (v ∷ words)))
+
+-- so it is cut into them
+pub IsCut-plain : (words : List (List ℕ)) (text behind : List ℕ) → IsPlainLine words text behind → get_or text 0 0 ≢ 35 → length text ≤ length behind + 201 → IsCut text words behind
+IsCut-plain words text behind h no_comment short =
+    let each = plain_words words text behind h in
+    let some = plain_some words text behind h in
+    let is = plain_text words text behind h in
+    let bytes = spaced words in
+    let formed = spaced_bytes words each in
+    let long : length text ≡ length bytes + 1 + length behind = ap length is ∙ rw (length-append (bytes ++ 10 ∷ []) behind, length-append bytes (10 ∷ [])) refl in
+    let ascii : list_all is_text_byte bytes ≡ true = all_pass is_text_byte bytes (each_weaker InLine (λ b. is_text_byte b ≡ true) (λ b k. and_from (leb 32 b) (leb b 126) (le-leb 32 b k.0) (le-leb b 126 k.1)) bytes formed) in
+    let few : ltb 200 (length bytes) ≡ false = le-ltb 200 (length bytes) (omega arith) in
+    let front : get_or text 0 0 ≡ get_or bytes 0 0 = ap (λ zs. get_or zs 0 0) (is ∙ append_assoc bytes (10 ∷ []) behind) ∙ first_byte bytes (10 ∷ behind) (spaced_some words some each) in
+    record {
+      line = ended bytes;
+      first = rw is (first_line bytes behind formed);
+      formed = rw (ascii, few) refl;
+      said = sym (content_again words some each (λ e. no_comment (front ∙ e)));
+      shorter = omega (arith, long);
+    }
+
+-- an item that has passed each test has no fault
+no_fault : {Item : Type 0} (g : Rules Item) (before : List Item) (x : Item) → HasPassed g before x → item_fault g before x ≡ None
+unfolding item_fault
+no_fault g before x h = rw (h.in_order, h.lacks_none, h.misses_none, h.in_range, h.has_room, h.ascending, h.no_twin) refl
+
+-- words that say an item which has passed are not refused
+no_words_fault : {Item : Type 0} (g : Rules Item) (before : List Item) (words : List (List ℕ)) (x : Item) → 0 < length words → has_stood g before (end_rank g) ≡ false
+    → g.item_of words ≡ Ok x → HasPassed g before x → words_fault g before words ≡ None
+unfolding words_fault
+no_words_fault g before words x some unended said h =
+    let here : eqb (length words) 0 ≡ false = ne_eqb (length words) 0 (λ e. omega (arith, some)) in
+    rw (here, unended, said) (no_fault g before x h)
+
+-- so a text's first line has passed where its item was kept
+pub Reads-plain : {Item : Type 0} (g : Rules Item) (rank : ℕ) (text behind : List ℕ) (before after : List Item) → has_stood g before (end_rank g) ≡ false → KeepsPlainly g rank text behind before after → Reads g text behind before after
+unfolding line_fault
+Reads-plain g rank text behind before after unended h =
+    let words = h.says.words in
+    let some = plain_some words text behind h.says.line in
+    let cut = IsCut-plain words text behind h.says.line h.says.no_comment h.says.short in
+    let passed = no_words_fault g before words h.item some unended h.says.said h.passed in
+    let here : eqb (length words) 0 ≡ false = ne_eqb (length words) 0 (λ e. omega (arith, some)) in
+    let item : item_in g words ≡ Some h.item = rw (here, h.says.said) refl in
+    record {
+      line = cut.line;
+      first = cut.first;
+      shorter = cut.shorter;
+      passed = rw (cut.formed, ← cut.said) passed;
+      items = h.kept ∙ ap (λ o. before ++ option_to_list o) (sym item) ∙ ap (λ ws. before ++ option_to_list (item_in g ws)) cut.said;
+    }
+
+-- the section of the last item has one
+pub last_counts : {Item : Type 0} (g : Rules Item) (items : List Item) (last : Place) → Some last ≡ place_in g (last_item items) → 0 < count_at g items last.rank
+last_counts {Item = Item} g items last is = go (last_item items) refl is
+  where
+    go : (o : Option Item) → last_item items ≡ o → Some last ≡ place_in g o → 0 < count_at g items last.rank
+    go None e f = absurd cc
+    go (Some y) e f = count_from_at g items last.rank (length items - 1) y e (sym (ap (λ p. p.rank) (same_Some last (place_of g y) f)))
+
+-- ---- words in front of a text
+
+-- a front, the byte behind it, and the others
+pub front_at : (text : List ℕ) (count stop : ℕ) → count < length text → get_or text count 0 ≡ stop → text ≡ take count text ++ stop ∷ drop (count + 1) text
+front_at text count stop within at =
+    sym (take-append-drop count text) ∙ ap (λ zs. take count text ++ zs) (drop-cons text count 0 within ∙ rw (at, add-one) refl)
+
+-- digits are bytes of a word
+pub digits_in_word : (w : List ℕ) → list_all is_digit w ≡ true → AllByRecursion InWord w
+digits_in_word [] e = tt
+digits_in_word (b ∷ w) e =
+    let parts = and_parts (is_digit b) (list_all is_digit w) e in
+    let range = digit_range b parts.0 in
+    ((omega arith, omega arith), digits_in_word w parts.1)
+
+-- digits, and a byte behind them
+pub IsNumberBefore-digits : (text : List ℕ) (count number stop : ℕ) → count < length text → 0 < count → count ≤ 7 → list_all is_digit (take count text) ≡ true
+    → (ltb 1 (length (take count text)) && eqb (get_or (take count text) 0 0) 48) ≡ false → get_or text count 0 ≡ stop → number ≡ number_value (take count text)
+    → IsNumberBefore stop text number (drop (count + 1) text)
+IsNumberBefore-digits text count number stop within some short digits plain at value =
+    let long : length (take count text) ≡ count = length-take-le count text (omega arith) in
+    record {
+      word = take count text;
+      is_word = (omega (arith, long), digits_in_word (take count text) digits);
+      front = front_at text count stop within at;
+      short = omega (arith, length-drop (count + 1) text);
+      said = number_of-digits (take count text) (omega (arith, long)) (omega (arith, long)) digits plain ∙ ap Some (sym value);
+    }

@@ -1,0 +1,60 @@
+//! The words of lines as they are usually written, taken from the front of a text.
+
+ghost use Rattle.std.specs.Prelude.{◌≡◌, ◌==◌, ◌<◌, ◌≤◌, ◌∷◌, ◌++◌, length, take, position, true, IfSome};
+ghost use Rattle.std.specs.List.{list_all};
+ghost use Rattle.line_text.specs.Text.{is_digit, number_value};
+ghost use Rattle.line_text.specs.Plain.{IsNumberBefore};
+
+use crate::number::{MOST_DIGITS, has_leading_zero, is_digit};
+
+/// The number in front of a text that this byte ends, and what is behind that byte.
+#[inline]
+pub fn number_before(text: &[u8], stop: u8) -> Option<(u32, &[u8])>
+    ensures { IfSome result (λ taken. IsNumberBefore stop text.now taken.0 taken.1.now) }
+{
+    let mut number = 0;
+    for (count, b) in text.iter().enumerate() {
+        if !is_digit(*b) {
+            return behind_digits(text, count, number, stop);
+        }
+        if count == MOST_DIGITS {
+            return None;
+        }
+        number = 10 * number + u32::from(*b - b'0');
+    }
+    None
+}
+
+/// The same where so many digits are in front of the text, which say this number.
+#[inline]
+fn behind_digits(text: &[u8], count: usize, number: u32, stop: u8) -> Option<(u32, &[u8])>
+    requires within { count < length text.now }
+    requires short { count ≤ 7 }
+    requires digits { list_all is_digit (take count text.now) ≡ true }
+    requires value { number ≡ number_value (take count text.now) }
+    ensures { IfSome result (λ taken. IsNumberBefore stop text.now taken.0 taken.1.now) }
+{
+    if count > 0 && text[count] == stop && !has_leading_zero(&text[..count]) {
+        Some((number, &text[count + 1..]))
+    } else {
+        None
+    }
+}
+
+/// The bytes of a text in front of the first such byte, and what is behind that.
+#[inline]
+pub fn bytes_before(text: &[u8], stop: u8) -> Option<(&[u8], &[u8])>
+    ensures { IfSome result (λ taken. text.now ≡ taken.0.now ++ stop ∷ taken.1.now) }
+{
+    let end = place_of_byte(text, stop)?;
+    Some((&text[..end], &text[end + 1..]))
+}
+
+/// The place of the first such byte.
+#[inline]
+fn place_of_byte(text: &[u8], byte: u8) -> Option<usize>
+    ensures place { result ≡ position (λ b. b == byte) text.now }
+    ensures within { IfSome result (λ place. place < length text.now) }
+{
+    text.iter().position(|b| *b == byte)
+}

@@ -1,0 +1,93 @@
+-- The plain line of a command says it.
+use Rattle.std.proofs.Common.{◌≡◌, ℕ, ◌≤◌, Bool, true, false, ◌&&◌, cond, leb, List, [], ◌∷◌, ◌++◌, length, Some, None, refl, ap, arith}
+use Rattle.std.specs.Prelude.{codes}
+use Rattle.std.specs.List.{AllByRecursion, list_all}
+use Rattle.std.proofs.lemmas.Bool.{leb-true, and_parts}
+use Rattle.std.proofs.lemmas.List.{length-append}
+use Rattle.type_table.specs.Name.{is_name}
+use Rattle.line_text.specs.Shapes.{exactly, name_at, number_at, is_key}
+use Rattle.line_text.specs.Spelling.{IsWord, NameIsWord}
+use Rattle.line_text.specs.Plain.{SaysPlainly, IsNumberBefore}
+use Rattle.store_text.specs.Body.{line_of}
+use Rattle.store_text.specs.declared.line.Line.TheVariants.{Entry}
+use Rattle.serial_order.specs.declared.command.Command.TheVariants.{Begin, Call, Commit, Abort, Rollback}
+use Rattle.script_text.specs.Commands.{commands, command_of, begin_of, call_of, commit_of, abort_of, rollback_of}
+
+-- a byte that a word may have, as a test
+abbrev is_word_byte : ℕ → Bool
+is_word_byte b = leb 33 b && leb b 126
+
+-- bytes that pass the test
+word_bytes : (w : List ℕ) → list_all is_word_byte w ≡ true → AllByRecursion (λ b. (33 ≤ b) × (b ≤ 126)) w
+word_bytes [] h = tt
+word_bytes (b ∷ w) h =
+    let parts = and_parts (is_word_byte b) (list_all is_word_byte w) h in
+    let ends = and_parts (leb 33 b) (leb b 126) parts.0 in
+    ((leb-true 33 b ends.0, leb-true b 126 ends.1), word_bytes w parts.1)
+
+-- a keyword is a word
+keyword : (w : List ℕ) → leb 1 (length w) ≡ true → list_all is_word_byte w ≡ true → IsWord w
+keyword w some each = (omega (arith, leb-true 1 (length w) some), word_bytes w each)
+
+pub begin_plainly : (behind : List ℕ) → SaysPlainly (line_of commands) (codes "begin" ++ 10 ∷ behind) (Entry Begin) behind
+unfolding line_of is_key command_of begin_of exactly
+begin_plainly behind = record {
+  words = codes "begin" ∷ [];
+  line = (keyword (codes "begin") refl refl, refl);
+  no_comment = λ e. omega (arith, e);
+  short = omega arith;
+  said = refl;
+}
+
+-- what a test of names let through is one, and what it gave
+name_is : (w name : List ℕ) → Some name ≡ cond (is_name w) (Some w) None → (is_name w ≡ true) × (name ≡ w)
+name_is w name e = go (is_name w) refl e
+  where
+    go : (b : Bool) → is_name w ≡ b → Some name ≡ cond b (Some w) None → (is_name w ≡ true) × (name ≡ w)
+    go true is found = (is, cc)
+    go false is found = absurd cc
+
+pub call_plainly : (t x : ℕ) (name word rest first second behind : List ℕ) → IsNumberBefore 32 rest t first → IsNumberBefore 32 first x second
+    → second ≡ word ++ 10 ∷ behind → Some name ≡ cond (is_name word) (Some word) None → NameIsWord word
+    → SaysPlainly (line_of commands) (codes "call " ++ rest) (Entry (Call t x name)) behind
+unfolding line_of is_key command_of call_of exactly name_at number_at
+call_plainly t x name word rest first second behind a b front named words =
+    let is = name_is word name named in
+    record {
+      words = codes "call" ∷ a.word ∷ b.word ∷ word ∷ [];
+      line = (rest, keyword (codes "call") refl refl, refl, (first, a.is_word, a.front, (second, b.is_word, b.front, ((words is.0).0, front))));
+      no_comment = λ e. omega (arith, e);
+      short = omega (arith, a.short, b.short, ap length front, length-append word (10 ∷ behind), (words is.0).1);
+      said = rw (is.0, is.1, a.said, b.said) refl;
+    }
+
+pub commit_plainly : (t : ℕ) (rest behind : List ℕ) → IsNumberBefore 10 rest t behind → SaysPlainly (line_of commands) (codes "commit " ++ rest) (Entry (Commit t)) behind
+unfolding line_of is_key command_of commit_of exactly number_at
+commit_plainly t rest behind a = record {
+  words = codes "commit" ∷ a.word ∷ [];
+  line = (rest, keyword (codes "commit") refl refl, refl, (a.is_word, a.front));
+  no_comment = λ e. omega (arith, e);
+  short = omega (arith, a.short);
+  said = rw a.said refl;
+}
+
+pub abort_plainly : (t : ℕ) (rest behind : List ℕ) → IsNumberBefore 10 rest t behind → SaysPlainly (line_of commands) (codes "abort " ++ rest) (Entry (Abort t)) behind
+unfolding line_of is_key command_of abort_of exactly number_at
+abort_plainly t rest behind a = record {
+  words = codes "abort" ∷ a.word ∷ [];
+  line = (rest, keyword (codes "abort") refl refl, refl, (a.is_word, a.front));
+  no_comment = λ e. omega (arith, e);
+  short = omega (arith, a.short);
+  said = rw a.said refl;
+}
+
+pub rollback_plainly : (t n : ℕ) (rest first behind : List ℕ) → IsNumberBefore 32 rest t first → IsNumberBefore 10 first n behind
+    → SaysPlainly (line_of commands) (codes "rollback " ++ rest) (Entry (Rollback t n)) behind
+unfolding line_of is_key command_of rollback_of exactly number_at
+rollback_plainly t n rest first behind a b = record {
+  words = codes "rollback" ∷ a.word ∷ b.word ∷ [];
+  line = (rest, keyword (codes "rollback") refl refl, refl, (first, a.is_word, a.front, (b.is_word, b.front)));
+  no_comment = λ e. omega (arith, e);
+  short = omega (arith, a.short, b.short);
+  said = rw (a.said, b.said) refl;
+}

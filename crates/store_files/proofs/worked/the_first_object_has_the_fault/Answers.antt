@@ -1,0 +1,8 @@
+use Rattle.store_files.proofs.TwoFiles.{second-unplaced, third-not_first}
+use Rattle.store_files.proofs.worked.the_first_object_has_the_fault.Goals as goal
+
+pub returns-clause-first : goal.returns-clause-first
+returns-clause-first c = second-unplaced
+
+pub returns-clause-later : goal.returns-clause-later
+returns-clause-later c = third-not_first

@@ -1,0 +1,57 @@
+-- Objects at the files of two types, and texts of scripts, worked by hand.
+use Rattle.std.specs.Prelude.{◌≡◌, ℕ, List, [], ◌∷◌, take, Some, if◌then◌else◌, codes}
+use Rattle.std.specs.Str.{bytes_eq}
+use Rattle.type_table.specs.declared.kind.Kind.{Kind}
+use Rattle.type_table.specs.declared.kind.Kind.TheVariants.{Undo, Intentions}
+use Rattle.type_text.specs.declared.type_file.TypeFile.{TypeFile}
+use Rattle.table_checker.specs.Checked.{Checked, IsChecked}
+use Rattle.table_checker.specs.Examples.{counter_file, one_way_file}
+use Rattle.serial_order.specs.declared.command.Command.{Command}
+use Rattle.serial_order.specs.declared.command.Command.TheVariants.{Begin, Call, Commit, Abort, Rollback}
+use Rattle.script_text.specs.declared.script.Script.{Script}
+use Rattle.store_text.specs.declared.line.ObjectLine.{ObjectLine}
+use Rattle.script_text.specs.Examples.{ended, script_text}
+use Rattle.command_types.specs.Examples.{counter_bytes}
+use Rattle.store_files.specs.Types.{Held}
+
+-- the counter of two and the one-way type, in this order
+abbrev pub two_files : List TypeFile
+two_files = counter_file ∷ one_way_file ∷ []
+
+-- an object with update in place, of the type at a place
+abbrev pub at_place : ℕ → ObjectLine
+at_place place = record { kind = Undo; file = place }
+
+-- the script has this limit, these objects and these commands
+pub record Has (max : ℕ) (objects : List ObjectLine) (commands : List Command) (script : Script) : Type 0 where
+  pub max_is : script.max ≡ max
+  pub objects_are : script.objects.items ≡ objects
+  pub commands_are : script.commands.items ≡ commands
+
+-- the text of the example's script without its `end`
+abbrev pub endless_script : List ℕ
+endless_script = ended (take 8 script_text)
+
+-- this text is held at each path
+abbrev pub everywhere : List ℕ → Held
+everywhere text path = Some text
+
+-- what was checked is the counter, for this kind
+pub record AcceptsCounter (kind : Kind) (c : Checked) : Type 0 where
+  pub is : c ≡ record { kind = kind; file = counter_file }
+  pub checked : IsChecked c
+
+-- the example's script is held at one path, and this text at each other
+abbrev pub script_and : List ℕ → Held
+script_and text path = if bytes_eq path (codes "s") then Some (ended script_text) else Some text
+
+-- the text of the counter
+abbrev pub script_and_counter : Held
+script_and_counter = script_and counter_bytes
+
+-- that script: two objects, of the types at the places 0 and 1
+abbrev pub script_objects : List ObjectLine
+script_objects = record { kind = Undo; file = 0 } ∷ record { kind = Intentions; file = 1 } ∷ []
+
+abbrev pub script_commands : List Command
+script_commands = Begin ∷ Call 0 1 (codes "inc:1") ∷ Rollback 0 1 ∷ Commit 0 ∷ Abort 7 ∷ []

@@ -1,0 +1,211 @@
+-- One more line behind those that are kept.
+use Rattle.std.proofs.Common.{◌≡◌, ℕ, ◌+◌, ◌-◌, ◌<◌, ◌≤◌, Bool, true, false, List, [], ◌∷◌, ◌++◌, length, map, Option, Some, None, refl, sym, ap, ◌∙◌, arith, append_assoc}
+use Rattle.std.specs.List.{slice_get, list_any}
+use Rattle.std.proofs.lemmas.List.{append-nil, length-append, length-map, map-append}
+use Rattle.type_table.specs.declared.kind.Kind.{Kind}
+use Rattle.line_text.specs.Rules.{last_item}
+use Rattle.line_text.specs.LineTests.{is_late}
+use Rattle.store_text.specs.Body.{Body, store_rules, rank_of, max_line}
+use Rattle.store_text.specs.Kept.{limit_lines, object_line, entry_line, end_lines, lines_of_parts, limit_of}
+use Rattle.store_text.specs.Said.{max_in, objects_of, entries_of}
+use Rattle.store_text.specs.declared.line.ObjectLine.{ObjectLine}
+use Rattle.store_text.specs.declared.line.Line.{Line}
+use Rattle.store_text.specs.declared.line.Line.TheVariants.{Max, Object, Entry, End}
+
+-- ---- the last line
+
+-- an element behind others is their last
+last_place : {X : Type 0} (xs : List X) (y : X) → slice_get (xs ++ y ∷ []) (length xs) ≡ Some y
+last_place [] y = refl
+last_place (x ∷ xs) y = last_place xs y
+
+last_pushed : {X : Type 0} (xs : List X) (y : X) → last_item (xs ++ y ∷ []) ≡ Some y
+last_pushed xs y =
+    let place : length (xs ++ y ∷ []) - 1 ≡ length xs = omega (arith, length-append xs (y ∷ [])) in
+    ap (slice_get (xs ++ y ∷ [])) place ∙ last_place xs y
+
+-- a list with elements has a last one
+record Ends {X : Type 0} (xs : List X) : Type 0 where
+  front : List X
+  last : X
+  is : xs ≡ front ++ last ∷ []
+
+ends : {X : Type 0} (x : X) (xs : List X) → Ends (x ∷ xs)
+ends x [] = record { front = []; last = x; is = refl }
+ends x (y ∷ xs) = let more = ends y xs in record { front = x ∷ more.front; last = more.last; is = ap (λ zs. x ∷ zs) more.is }
+
+-- the last of mapped elements behind others
+last_mapped : {X Y : Type 0} (f : X → Y) (front : List Y) {xs : List X} (more : Ends xs) → front ++ map f xs ≡ (front ++ map f more.front) ++ f more.last ∷ []
+last_mapped f front more = ap (λ zs. front ++ map f zs) more.is ∙ ap (λ zs. front ++ zs) (map-append f more.front (more.last ∷ [])) ∙ sym (append_assoc front (map f more.front) (f more.last ∷ []))
+
+-- ---- what may come behind a line
+
+module _ {A : Type 0} (b : Body A) where
+  -- behind `end` nothing
+  behind_end : (x : Line A) → is_late (store_rules b) (Some End) x ≡ false → ⊥
+  behind_end (Max most) e = cc
+  behind_end (Object kind file) e = cc
+  behind_end (Entry y) e = cc
+  behind_end End e = cc
+
+  -- behind an entry no object and no limit
+  behind_entry : (y : A) (x : Line A) → is_late (store_rules b) (Some (Entry y)) x ≡ false → 2 ≤ rank_of x
+  behind_entry y (Max most) e = absurd cc
+  behind_entry y (Object kind file) e = absurd cc
+  behind_entry y (Entry z) e = omega arith
+  behind_entry y End e = omega arith
+
+  -- behind an object no limit
+  behind_object : (o : ObjectLine) (x : Line A) → is_late (store_rules b) (Some (object_line o)) x ≡ false → 1 ≤ rank_of x
+  behind_object o (Max most) e = absurd cc
+  behind_object o (Object kind file) e = omega arith
+  behind_object o (Entry z) e = omega arith
+  behind_object o End e = omega arith
+
+  -- the section of the limit is a single line
+  single : (has : Bool) → (max_line has).is_single ≡ true
+  single true = refl
+  single false = refl
+
+  -- so no limit comes behind a limit
+  behind_max : (most : ℕ) (x : Line A) → is_late (store_rules b) (Some (Max most)) x ≡ false → 1 ≤ rank_of x
+  behind_max most (Max other) e = absurd (let clash : true ≡ false = sym (single b.has_max) ∙ e in cc)
+  behind_max most (Object kind file) e = omega arith
+  behind_max most (Entry z) e = omega arith
+  behind_max most End e = omega arith
+
+  -- ---- what is empty where a line may come
+
+  not_ended : (front : List (Line A)) (has_ended : Bool) (x : Line A) → is_late (store_rules b) (last_item (front ++ end_lines has_ended)) x ≡ false → has_ended ≡ false
+  not_ended front false x e = refl
+  not_ended front true x e = absurd (behind_end x (rw last_pushed at e))
+
+  no_entry : (front : List (Line A)) (entries : List A) (x : Line A) → is_late (store_rules b) (last_item (front ++ map entry_line entries)) x ≡ false → rank_of x < 2 → entries ≡ []
+  no_entry front [] x e low = refl
+  no_entry front (y ∷ entries) x e low =
+      let more = ends y entries in
+      let is = last_mapped entry_line front more in
+      absurd (omega (arith, behind_entry more.last x (rw (is, last_pushed) at e)))
+
+  no_object : (front : List (Line A)) (objects : List ObjectLine) (x : Line A) → is_late (store_rules b) (last_item (front ++ map object_line objects)) x ≡ false → rank_of x < 1 → objects ≡ []
+  no_object front [] x e low = refl
+  no_object front (o ∷ objects) x e low =
+      let more = ends o objects in
+      let is = last_mapped object_line front more in
+      absurd (omega (arith, behind_object more.last x (rw (is, last_pushed) at e)))
+
+  no_max : (max : Option ℕ) (x : Line A) → is_late (store_rules b) (last_item (limit_lines max)) x ≡ false → rank_of x < 1 → max ≡ None
+  no_max None x e low = refl
+  no_max (Some most) x e low = absurd (omega (arith, behind_max most x e))
+
+  module _ (max : Option ℕ) (objects : List ObjectLine) (entries : List A) (has_ended : Bool) (x : Line A) (late : is_late (store_rules b) (last_item (lines_of_parts max objects entries has_ended)) x ≡ false) where
+    grouped : lines_of_parts max objects entries has_ended ≡ ((limit_lines max ++ map object_line objects) ++ map entry_line entries) ++ end_lines has_ended
+    grouped = sym (simp append_assoc)
+
+    pub ended_not : has_ended ≡ false
+    ended_not = not_ended ((limit_lines max ++ map object_line objects) ++ map entry_line entries) has_ended x (rw grouped at late)
+
+    entries_last : is_late (store_rules b) (last_item ((limit_lines max ++ map object_line objects) ++ map entry_line entries)) x ≡ false
+    entries_last = rw (grouped, ended_not, append-nil) at late
+
+    pub entries_none : rank_of x < 2 → entries ≡ []
+    entries_none low = no_entry (limit_lines max ++ map object_line objects) entries x entries_last low
+
+    objects_last : rank_of x < 2 → is_late (store_rules b) (last_item (limit_lines max ++ map object_line objects)) x ≡ false
+    objects_last low = rw (entries_none low, append-nil) at entries_last
+
+    pub objects_none : rank_of x < 1 → objects ≡ []
+    objects_none low = no_object (limit_lines max) objects x (objects_last (omega arith)) low
+
+    pub max_none : rank_of x < 1 → max ≡ None
+    max_none low = no_max max x (rw (objects_none low, append-nil) at (objects_last (omega arith))) low
+
+-- ---- one more line
+
+module _ {A : Type 0} (b : Body A) (max : Option ℕ) (objects : List ObjectLine) (entries : List A) (has_ended : Bool) where
+  pub max_more : (most : ℕ) → is_late (store_rules b) (last_item (lines_of_parts max objects entries has_ended)) (Max most) ≡ false
+      → lines_of_parts (Some most) objects entries has_ended ≡ lines_of_parts max objects entries has_ended ++ Max most ∷ []
+  max_more most late =
+      let x : Line A = Max most in
+      rw (ended_not b max objects entries has_ended x late, entries_none b max objects entries has_ended x late (omega arith), objects_none b max objects entries has_ended x late (omega arith), max_none b max objects entries has_ended x late (omega arith)) refl
+
+  pub object_more : (kind : Kind) (file : ℕ) → is_late (store_rules b) (last_item (lines_of_parts max objects entries has_ended)) (Object kind file) ≡ false
+      → lines_of_parts max (objects ++ record { kind = kind; file = file } ∷ []) entries has_ended ≡ lines_of_parts max objects entries has_ended ++ Object kind file ∷ []
+  object_more kind file late =
+      let x : Line A = Object kind file in
+      rw (ended_not b max objects entries has_ended x late, entries_none b max objects entries has_ended x late (omega arith)) (simp (map-append, append-nil, append_assoc))
+
+  pub entry_more : (y : A) → is_late (store_rules b) (last_item (lines_of_parts max objects entries has_ended)) (Entry y) ≡ false
+      → lines_of_parts max objects (entries ++ y ∷ []) has_ended ≡ lines_of_parts max objects entries has_ended ++ Entry y ∷ []
+  entry_more y late =
+      let x : Line A = Entry y in
+      rw (ended_not b max objects entries has_ended x late) (simp (map-append, append-nil, append_assoc))
+
+  pub end_more : is_late (store_rules b) (last_item (lines_of_parts max objects entries has_ended)) End ≡ false
+      → lines_of_parts max objects entries true ≡ lines_of_parts max objects entries has_ended ++ End ∷ []
+  end_more late =
+      let x : Line A = End in
+      rw (ended_not b max objects entries has_ended x late) (simp (append-nil, append_assoc))
+
+-- ---- counts
+
+-- at most one line has the limit
+few_limits : (A : Type 0) (max : Option ℕ) → length (limit_lines {A = A} max) ≤ 1
+few_limits A None = omega arith
+few_limits A (Some most) = omega arith
+
+few_ends : (A : Type 0) (has_ended : Bool) → length (end_lines {A = A} has_ended) ≤ 1
+few_ends A false = omega arith
+few_ends A true = omega arith
+
+-- as many lines as objects and entries, and at most two more
+pub few_lines : {A : Type 0} (max : Option ℕ) (objects : List ObjectLine) (entries : List A) (has_ended : Bool) → length (lines_of_parts max objects entries has_ended) ≤ length objects + length entries + 2
+few_lines {A} max objects entries has_ended =
+    let limits = few_limits A max in
+    let ends = few_ends A has_ended in
+    simp (length-append, length-map) (omega arith)
+
+-- ---- what they say
+
+objects_again : {A : Type 0} (objects : List ObjectLine) (rest : List (Line A)) → objects_of (map object_line objects ++ rest) ≡ objects ++ objects_of rest
+objects_again [] rest = refl
+objects_again (o ∷ objects) rest = ap (λ zs. o ∷ zs) (objects_again objects rest)
+
+no_object_said : {A : Type 0} (entries : List A) (has_ended : Bool) → objects_of (map entry_line entries ++ end_lines has_ended) ≡ []
+no_object_said [] false = refl
+no_object_said [] true = refl
+no_object_said (y ∷ entries) has_ended = no_object_said entries has_ended
+
+-- the lines say their objects
+pub objects_said : {A : Type 0} (max : Option ℕ) (objects : List ObjectLine) (entries : List A) (has_ended : Bool) → objects_of (lines_of_parts max objects entries has_ended) ≡ objects
+objects_said max objects entries has_ended =
+    let behind = objects_again objects (map entry_line entries ++ end_lines has_ended) ∙ rw no_object_said (append-nil objects) in
+    elim max as (λ m. objects_of (lines_of_parts m objects entries has_ended) ≡ objects) [ None ↦ behind | Some most ↦ behind ]
+
+entries_again : {A : Type 0} (entries : List A) (has_ended : Bool) → entries_of (map entry_line entries ++ end_lines has_ended) ≡ entries
+entries_again [] false = refl
+entries_again [] true = refl
+entries_again (y ∷ entries) has_ended = ap (λ zs. y ∷ zs) (entries_again entries has_ended)
+
+no_entry_said : {A : Type 0} (objects : List ObjectLine) (rest : List (Line A)) → entries_of (map object_line objects ++ rest) ≡ entries_of rest
+no_entry_said [] rest = refl
+no_entry_said (o ∷ objects) rest = no_entry_said objects rest
+
+-- and their entries
+pub entries_said : {A : Type 0} (max : Option ℕ) (objects : List ObjectLine) (entries : List A) (has_ended : Bool) → entries_of (lines_of_parts max objects entries has_ended) ≡ entries
+entries_said max objects entries has_ended =
+    let behind = no_entry_said objects (map entry_line entries ++ end_lines has_ended) ∙ entries_again entries has_ended in
+    elim max as (λ m. entries_of (lines_of_parts m objects entries has_ended) ≡ entries) [ None ↦ behind | Some most ↦ behind ]
+
+-- and their limit, where there is one
+pub limit_said : {A : Type 0} (max : Option ℕ) (objects : List ObjectLine) (entries : List A) (has_ended : Bool) → max_in (slice_get (lines_of_parts max objects entries has_ended) 0) ≡ limit_of max
+limit_said (Some most) objects entries has_ended = refl
+limit_said None (o ∷ objects) entries has_ended = refl
+limit_said None [] (y ∷ entries) has_ended = refl
+limit_said None [] [] false = refl
+limit_said None [] [] true = refl
+
+-- nothing is found where nothing is looked for
+pub never : {X : Type 0} (xs : List X) → false ≡ list_any (λ (y : X). false) xs
+never [] = refl
+never (x ∷ xs) = never xs

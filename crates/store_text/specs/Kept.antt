@@ -1,0 +1,37 @@
+-- The lines that are kept of a text about a store's objects.
+use Rattle.std.specs.Prelude.{ℕ, Bool, true, false, List, [], ◌∷◌, ◌++◌, map, Option, Some, None}
+use Rattle.store_text.specs.declared.line.Line.{Line}
+use Rattle.store_text.specs.declared.line.Line.TheVariants.{Max, Object, Entry, End}
+use Rattle.store_text.specs.declared.line.ObjectLine.{ObjectLine}
+use Rattle.store_text.specs.declared.kept.KeptParts.{KeptParts}
+
+-- the `max` line, where there is one
+abbrev pub limit_lines : {A : Type 0} → Option ℕ → List (Line A)
+limit_lines None = []
+limit_lines (Some most) = Max most ∷ []
+
+-- the line of an object
+abbrev pub object_line : {A : Type 0} → ObjectLine → Line A
+object_line o = Object o.kind o.file
+
+-- the line of an entry
+abbrev pub entry_line : {A : Type 0} → A → Line A
+entry_line x = Entry x
+
+-- `end`, once it has come
+abbrev pub end_lines : {A : Type 0} → Bool → List (Line A)
+end_lines false = []
+end_lines true = End ∷ []
+
+-- the lines of these parts, section by section
+abbrev pub lines_of_parts : {A : Type 0} → Option ℕ → List ObjectLine → List A → Bool → List (Line A)
+lines_of_parts max objects entries has_ended = limit_lines max ++ (map object_line objects ++ (map entry_line entries ++ end_lines has_ended))
+
+-- those that were kept
+abbrev pub kept_lines : {A : Type 0} → KeptParts A → List (Line A)
+kept_lines kept = lines_of_parts kept.max kept.objects.items kept.entries.items kept.has_ended
+
+-- the limit, which is 0 where no line tells it
+abbrev pub limit_of : Option ℕ → ℕ
+limit_of None = 0
+limit_of (Some most) = most

@@ -1,0 +1,54 @@
+ghost use Rattle.std.specs.Prelude.{◌≤◌, length};
+
+use crate::line::ObjectLine;
+use crate::parts::Parts;
+use std::alloc::Global;
+
+/// The parts that the lines so far say.
+#[derive(Drop)]
+pub struct KeptParts<Entry> {
+    pub max: Option<u32>,
+    pub objects: Vec<ObjectLine>,
+    pub entries: Vec<Entry>,
+    /// Whether `end` has come.
+    pub has_ended: bool,
+    ghost few_objects: { length objects.items ≤ 256 },
+    ghost few_entries: { length entries.items ≤ 1000000 },
+}
+
+impl<Entry: Copy> KeptParts<Entry> {
+    ghost use Rattle.std.specs.Prelude.{◌≡◌, []};
+    ghost use Rattle.store_text.specs.Kept.{kept_lines, limit_of};
+
+    /// No line.
+    pub fn new(alloc: Global) -> KeptParts<Entry>
+        ensures { kept_lines result ≡ [] }
+    {
+        KeptParts {
+            max: None,
+            objects: Vec::new(alloc),
+            entries: Vec::new(alloc),
+            has_ended: false,
+        }
+    }
+
+    /// The parts of a text that was read to its end.
+    pub fn into_parts(self) -> Parts<Entry>
+        ensures max { result.max ≡ limit_of self.max }
+        ensures objects { result.objects.items ≡ self.objects.items }
+        ensures entries { result.entries.items ≡ self.entries.items }
+    {
+        let KeptParts {
+            max,
+            objects,
+            mut entries,
+            has_ended: _,
+        } = self;
+        entries.shrink_to_fit();
+        Parts {
+            max: max.unwrap_or(0),
+            objects,
+            entries,
+        }
+    }
+}

@@ -1,0 +1,4 @@
+pub mod Turns
+pub mod Lines
+pub mod KeptTexts
+pub mod Works

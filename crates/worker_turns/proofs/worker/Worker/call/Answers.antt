@@ -1,0 +1,30 @@
+use Rattle.jobs_text.specs.Jobs.{Call, calls_in}
+use Rattle.worker_turns.specs.Progress.{Progress}
+use Rattle.worker_turns.proofs.Asked.{is-answered, calls-reply, calls-busy}
+use Rattle.worker_turns.proofs.worker.Worker.call.Goals as goal
+use Rattle.worker_turns.proofs.worker.Worker.call.Goals.{in-Reply, in-Busy}
+
+pub returns-after-answer : goal.returns-after-answer
+returns-after-answer g c =
+    let old = c.args.store.now in
+    let new = c.call_bytes.new.self in
+    let call : Call = (c.args.x, c.args.name) in
+    let its = is-answered old c.args.w c.args.t call c.in-Ok.answer new c.as_bytes.result.now c.as_bytes.ensures.exact c.in-Ok.ensures.step c.in-Ok.ensures.answer in
+    let shown : Progress = record {
+      jobs = calls_in c.self.inside.jobs;
+      tries = c.self.inside.tries;
+      receipts = c.self.inside.receipts.items;
+      outcomes = c.self.inside.outcomes.items;
+      broken = c.self.inside.broken;
+      phase = c.self.inside.phase;
+    } in
+    let held = c.reserve.new.self.items in
+    let receipts = c.note.new.receipts.items in
+    elim c.match-answer.branch [
+      | in-Reply v ↦
+          rw (← c.self.view_is, v.self-is)
+          (calls-reply old c.args.w c.args.t c.args.done call shown new c.in-Ok.answer its held receipts c.reserve.ensures.items c.note.ensures.gets v.in-Reply.field-0 v.in-Reply.is)
+      | in-Busy v ↦
+          rw (← c.self.view_is, v.self-is)
+          (calls-busy old c.args.w c.args.t c.args.done call shown new c.in-Ok.answer its held receipts c.reserve.ensures.items c.note.ensures.gets v.in-Busy.is)
+    ]

@@ -1,0 +1,5 @@
+pub mod Parts
+pub mod Progress
+pub mod Turns
+pub mod Room
+pub mod Examples

@@ -1,0 +1,198 @@
+//! One turn of a worker: one call of the store.
+
+ghost use Rattle.std.specs.Prelude.{◌≡◌, ◌+◌, ◌<◌, ◌≤◌, ◌^◌, ◌++◌, ◌∷◌, [], ℕ, List, true, length, Some, is_some, slice_get, vec_len, vec_capacity};
+ghost use Rattle.object_trait.specs.declared.event.Event.{Event as EventValue};
+ghost use Rattle.object_trait.specs.declared.event.EventKind.{EventKind as EventKindValue};
+ghost use Rattle.object_trait.specs.declared.event.EventKind.TheVariants.{Abort};
+ghost use Rattle.serial_order.specs.History.{seen, is_open};
+ghost use Rattle.worker_turns.specs.Progress.{job_of, open_of};
+ghost use Rattle.worker_turns.specs.Turns.{HasOpen, Turns, Begins, GoesOn, Calls, Commits, GivesBack, Refuses, Makes, receipt, ends};
+ghost use Rattle.worker_turns.specs.declared.phase.Phase.TheVariants as phase;
+
+use crate::outcome::{Outcome, Receipt};
+use crate::phase::Phase;
+use crate::worker::Worker;
+use object_trait::Recovery;
+use serial_order::Refusal;
+use store::{Answer, Store};
+use type_table::Name;
+
+/// The receipts for which there is room in front of a begin and of a call: its own, and that of the
+/// transaction's end.
+const PLACES: usize = 2;
+
+impl Worker {
+    /// One turn, as worker w: one call of the store. A job has its outcome with its last turn.
+    pub fn turn<R: Recovery>(&mut self, store: &mut Store<R>, w: u8)
+        requires going { length self.old.outcomes < length self.old.jobs }
+        requires still_open { HasOpen store.old.history (open_of self.old.phase) }
+        ensures { Turns store.old w self.old store.new self.new }
+    {
+        match self.phase {
+            Phase::Idle => self.begin(store, w),
+            Phase::Going { t, done } => self.go_on(store, w, t, done),
+            Phase::Breaking { t, done: _ } => self.give_back(store, w, t),
+            Phase::Refusing {
+                t,
+                done: _,
+                refusal,
+            } => self.refuse(store, w, t, refusal),
+        }
+    }
+
+    /// Begins a transaction, where there is room for its receipt and that of the transaction's end.
+    fn begin<R: Recovery>(&mut self, store: &mut Store<R>, w: u8)
+        requires going { length self.old.outcomes < length self.old.jobs }
+        requires phase { self.old.phase ≡ phase.Idle }
+        ensures { Begins store.old w self.old store.new self.new }
+    {
+        if self.receipts.reserve(PLACES).is_err() {
+            self.end(Outcome::Refused(Refusal::NoMemory));
+            return;
+        }
+        match store.begin(w) {
+            Ok(t) => {
+                note(&mut self.receipts, store);
+                self.phase = Phase::Going { t, done: 0 };
+            }
+            Err(refusal) => self.end(Outcome::Refused(refusal)),
+        }
+    }
+
+    /// Makes the next call of t, or commits it where there is none.
+    fn go_on<R: Recovery>(&mut self, store: &mut Store<R>, w: u8, t: u32, done: usize)
+        requires going { length self.old.outcomes < length self.old.jobs }
+        requires phase { self.old.phase ≡ phase.Going t done }
+        requires still_open { is_open (seen store.old.history) t ≡ true }
+        ensures { GoesOn t done (slice_get (job_of self.old) done) store.old w self.old store.new self.new }
+    {
+        match self.next_call(done) {
+            Some((x, name)) => self.call(store, w, t, done, x, name),
+            None => self.commit(store, w, t),
+        }
+    }
+
+    /// The call behind so many others of the job that is being done.
+    fn next_call(&self, done: usize) -> Option<(u32, Name)>
+        requires { length self.now.outcomes < length self.now.jobs }
+        ensures call { result ≡ slice_get (job_of self.now) done }
+        ensures few { is_some result ≡ true → done < 2 ^ 63 }
+    {
+        let job = &self.jobs[self.outcomes.len()];
+        job.calls.get(done).copied()
+    }
+
+    /// Makes a call of t, where there is room for its receipt and that of the transaction's end; else
+    /// aborts t.
+    fn call<R: Recovery>(
+        &mut self,
+        store: &mut Store<R>,
+        w: u8,
+        t: u32,
+        done: usize,
+        x: u32,
+        name: Name,
+    )
+        requires going { length self.old.outcomes < length self.old.jobs }
+        requires phase { self.old.phase ≡ phase.Going t done }
+        requires few { done < 2 ^ 63 }
+        requires still_open { is_open (seen store.old.history) t ≡ true }
+        ensures { Calls t done (x, name) store.old w self.old store.new self.new }
+    {
+        if self.receipts.reserve(PLACES).is_err() {
+            self.refuse(store, w, t, Refusal::NoMemory);
+            return;
+        }
+        match store.call_bytes(w, t, x, name.as_bytes()) {
+            Ok(answer) => {
+                note(&mut self.receipts, store);
+                self.phase = match answer {
+                    Answer::Reply(_) => Phase::Going { t, done: done + 1 },
+                    Answer::Busy(_) | Answer::None => Phase::Breaking { t, done },
+                };
+            }
+            Err(refusal) => self.phase = Phase::Refusing { t, done, refusal },
+        }
+    }
+
+    /// Commits t, with which its job is done.
+    fn commit<R: Recovery>(&mut self, store: &mut Store<R>, w: u8, t: u32)
+        requires going { length self.old.outcomes < length self.old.jobs }
+        requires phase { open_of self.old.phase ≡ Some t }
+        requires still_open { is_open (seen store.old.history) t ≡ true }
+        ensures { Commits t store.old w self.old store.new self.new }
+    {
+        self.phase = Phase::Idle;
+        // t is open, so it isn't refused
+        let _ = store.commit(w, t);
+        note(&mut self.receipts, store);
+        self.end(Outcome::Committed(t));
+    }
+
+    /// Aborts t, whose try was broken, and gives its job up where that was the last one.
+    fn give_back<R: Recovery>(&mut self, store: &mut Store<R>, w: u8, t: u32)
+        requires going { length self.old.outcomes < length self.old.jobs }
+        requires phase { open_of self.old.phase ≡ Some t }
+        requires still_open { is_open (seen store.old.history) t ≡ true }
+        ensures { GivesBack t store.old w self.old store.new self.new }
+    {
+        self.phase = Phase::Idle;
+        abort(&mut self.receipts, store, w, t);
+        if self.tries - self.broken > 1 {
+            self.broken += 1;
+        } else {
+            self.end(Outcome::GaveUp);
+        }
+    }
+
+    /// Aborts t, of which a call was refused, and so its job is.
+    fn refuse<R: Recovery>(&mut self, store: &mut Store<R>, w: u8, t: u32, refusal: Refusal)
+        requires going { length self.old.outcomes < length self.old.jobs }
+        requires phase { open_of self.old.phase ≡ Some t }
+        requires still_open { is_open (seen store.old.history) t ≡ true }
+        ensures { Refuses t refusal store.old w self.old store.new self.new }
+    {
+        self.phase = Phase::Idle;
+        abort(&mut self.receipts, store, w, t);
+        self.end(Outcome::Refused(refusal));
+    }
+
+    /// The job that is being done has this outcome.
+    fn end(&mut self, outcome: Outcome)
+        requires { length self.old.outcomes < length self.old.jobs }
+        ensures { self.new ≡ ends outcome self.old }
+    {
+        self.outcomes.push_reserved(outcome);
+        self.broken = 0;
+        self.phase = Phase::Idle;
+    }
+}
+
+/// Aborts t, which is open, and takes the receipt.
+fn abort<R: Recovery>(receipts: &mut Vec<Receipt>, store: &mut Store<R>, w: u8, t: u32)
+    requires room { vec_len receipts.old < vec_capacity receipts.old }
+    requires still_open { is_open (seen store.old.history) t ≡ true }
+    ensures makes { Makes store.old w (Abort t) store.new }
+    ensures gets { receipts.new.items ≡ receipts.old.items ++ receipt store.old.history w (Abort t) ∷ [] }
+{
+    // t is open, so it isn't refused
+    let _ = store.abort(w, t);
+    note(receipts, store);
+}
+
+/// Takes the receipt of the last event of a store.
+fn note<R: Recovery>(receipts: &mut Vec<Receipt>, store: &Store<R>)
+    requires { vec_len receipts.old < vec_capacity receipts.old }
+    ensures gets { (H : List EventValue) (w : ℕ) (happened : EventKindValue) → store.now.history ≡ H ++ (record { worker = w; kind = happened }) ∷ []
+        → receipts.new.items ≡ receipts.old.items ++ receipt H w happened ∷ [] }
+    ensures one { vec_len receipts.new ≤ vec_len receipts.old + 1 }
+    ensures room { vec_capacity receipts.new ≡ vec_capacity receipts.old }
+{
+    let history = store.history();
+    if let Some(event) = history.last() {
+        receipts.push_reserved(Receipt {
+            position: history.len() - 1,
+            event: *event,
+        });
+    }
+}
