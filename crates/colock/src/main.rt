@@ -22,9 +22,12 @@ use std::env;
 use std::io::ErrorKind;
 use std::process::ExitCode;
 use std::rt::{Env, Files};
-use std::sync::Arc;
+use std::sync::{Arc, Wait};
 use std::thread::Threads;
 use store_files::Plan;
+use table_checker::CheckedType;
+use work_commands::{Schedule, perform_work};
+use work_files::WorkPlan;
 
 fn main(rt: HostRuntime) -> ExitCode {
     let mut err = Sink::new(rt.stderr());
@@ -57,7 +60,7 @@ fn no_words<R: AllocGlobal>(rt: &R, kind: ErrorKind) -> WordFault {
 }
 
 /// Does what the words ask for.
-fn run<R: Files + AllocGlobal + Threads + Sync, W: Out + Drop, E: Out>(
+fn run<R: Files + AllocGlobal + Threads + Wait + Sync, W: Out + Drop, E: Out>(
     rt: &R,
     words: &[String],
     out: W,
@@ -76,7 +79,7 @@ fn run<R: Files + AllocGlobal + Threads + Sync, W: Out + Drop, E: Out>(
     }
 }
 
-fn do_task<R: Files + AllocGlobal + Threads + Sync, W: Out + Drop, E: Out>(
+fn do_task<R: Files + AllocGlobal + Threads + Wait + Sync, W: Out + Drop, E: Out>(
     rt: &R,
     task: Task<'_>,
     mut out: W,
@@ -89,6 +92,7 @@ fn do_task<R: Files + AllocGlobal + Threads + Sync, W: Out + Drop, E: Out>(
     match prepare(rt, task, source, &mut out, err) {
         Next::Done(status) => status,
         Next::Boxes(plan) => perform_plan(rt.alloc(), plan, out, err),
+        Next::Workers { plan, tries, seed } => work_plan(rt, plan, tries, seed, out, err),
     }
 }
 
@@ -97,7 +101,7 @@ fn perform_plan<W: Out + Drop, E: Out>(alloc: Global, plan: Plan, out: W, err: &
     requires out_takes { W.fault out ≡ None }
     requires err_takes { E.fault err.old ≡ None }
 {
-    match objects_of(alloc, &plan) {
+    match objects_of(alloc, &plan.types) {
         Ok(objects) => match Gathered::new(alloc, out) {
             Ok(mut out) => perform(alloc, plan, objects, &mut out, err),
             Err(_) => out_of_memory(err),
@@ -106,13 +110,39 @@ fn perform_plan<W: Out + Drop, E: Out>(alloc: Global, plan: Plan, out: W, err: &
     }
 }
 
-/// New objects of the types of a plan, in their order.
-fn objects_of(alloc: Global, plan: &Plan) -> Result<Vec<Object>, AllocError>
-    ensures fresh { IfOk result (λ objects. AreFresh (map meaning_of objects.items)) }
-    ensures types { IfOk result (λ objects. types_of (map meaning_of objects.items) ≡ map value_of plan.now.types.items) }
+/// Does the jobs of a plan at new objects of its types, over an output that gathers: by workers in threads
+/// of their own, or by turns that are drawn from a seed.
+fn work_plan<R: AllocGlobal + Threads + Wait + Sync, W: Out + Drop, E: Out>(
+    rt: &R,
+    plan: WorkPlan,
+    tries: u8,
+    seed: Option<u64>,
+    out: W,
+    err: &mut E,
+) -> u8
+    requires out_takes { W.fault out ≡ None }
+    requires err_takes { E.fault err.old ≡ None }
 {
-    let mut objects = Vec::with_capacity(alloc, plan.types.len())?;
-    for checked in &plan.types {
+    let schedule = match seed {
+        Some(seed) => Schedule::Drawn { seed },
+        None => Schedule::SideBySide,
+    };
+    match objects_of(rt.alloc(), &plan.types) {
+        Ok(objects) => match Gathered::new(rt.alloc(), out) {
+            Ok(mut out) => perform_work(rt, plan, tries, schedule, objects, &mut out, err),
+            Err(_) => out_of_memory(err),
+        },
+        Err(_) => out_of_memory(err),
+    }
+}
+
+/// New objects of these types, in their order.
+fn objects_of(alloc: Global, types: &[Arc<CheckedType>]) -> Result<Vec<Object>, AllocError>
+    ensures fresh { IfOk result (λ objects. AreFresh (map meaning_of objects.items)) }
+    ensures types { IfOk result (λ objects. types_of (map meaning_of objects.items) ≡ map value_of types.now) }
+{
+    let mut objects = Vec::with_capacity(alloc, types.len())?;
+    for checked in types {
         objects.push_reserved(Object::new(alloc, Arc::clone(checked)?));
     }
     Ok(objects)

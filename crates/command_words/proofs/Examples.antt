@@ -1,9 +1,10 @@
 -- What words ask for, worked by hand, and the texts.
-use Rattle.std.proofs.Common.{◌≡◌, ◌++◌, arith, refl, inr, [], ◌∷◌}
-use Rattle.std.specs.Prelude.{codes}
+use Rattle.std.proofs.Common.{◌≡◌, ◌++◌, arith, refl, inr, ℕ, [], ◌∷◌}
+use Rattle.std.specs.Prelude.{codes, Some, None}
 use Rattle.type_table.specs.declared.kind.Kind.TheVariants.{Undo}
 use Rattle.command_words.specs.Help.{EndsLine, text_of_topic, version_text}
-use Rattle.command_words.specs.Words.{AskFor, order, check, make, run, help, version}
+use Rattle.command_words.specs.Lines.{IsClear, IsGiven, IsNumber, IsWholeWork, Work, apart, dashes, done, joined, operand, seed, tries, workers}
+use Rattle.command_words.specs.Words.{AskFor, order, check, make, run, work, help, version}
 use Rattle.command_words.specs.declared.task.Topic.{Topic}
 use Rattle.command_words.specs.declared.task.Topic.TheVariants as topic
 
@@ -25,6 +26,61 @@ runs = (omega arith, refl)
 no_types : AskFor (codes "run" ∷ codes "a.script" ∷ []) (order (run (codes "a.script") [])) → ⊥
 no_types (some, are) = omega (arith, some)
 
+-- options stand anywhere, in either form, and `--tries` may be left out
+works : AskFor (codes "work" ∷ codes "a.jobs" ∷ codes "--workers" ∷ codes "2" ∷ codes "a.type" ∷ codes "b.type" ∷ [])
+    (work (record { jobs = codes "a.jobs"; types = codes "a.type" ∷ codes "b.type" ∷ []; workers = 2; tries = 3; seed = None }))
+works = (
+  record { types = omega arith; some_worker = omega arith; few_workers = omega arith; some_try = omega arith; few_tries = omega arith; seed = tt },
+  (
+    operand (codes "a.jobs") (apart workers (codes "2") (operand (codes "a.type") (operand (codes "b.type") done))),
+    refl,
+    record {
+      clear = (λ hyphen. absurd (omega (arith, hyphen)), (λ hyphen. absurd (omega (arith, hyphen)), (λ hyphen. absurd (omega (arith, hyphen)), tt)));
+      operands = refl;
+      workers = (codes "2", refl, ((omega arith, (omega arith, tt)), refl));
+      tries = refl;
+      seed = refl;
+    },
+  ),
+)
+
+-- a schedule is drawn from the seed, and behind `--` all words are operands
+stresses : AskFor (codes "stress" ∷ codes "--tries=1" ∷ codes "--seed" ∷ codes "0" ∷ codes "--workers=+16" ∷ codes "--" ∷ codes "-j" ∷ codes "--seed" ∷ [])
+    (work (record { jobs = codes "-j"; types = codes "--seed" ∷ []; workers = 16; tries = 1; seed = Some 0 }))
+stresses = (
+  record { types = omega arith; some_worker = omega arith; few_workers = omega arith; some_try = omega arith; few_tries = omega arith; seed = omega arith },
+  (
+    joined tries (codes "1") (apart seed (codes "0") (joined workers (codes "+16") (dashes (codes "-j" ∷ codes "--seed" ∷ [])))),
+    refl,
+    record {
+      clear = tt;
+      operands = refl;
+      workers = (codes "+16", refl, ((omega arith, (omega arith, (omega arith, tt))), refl));
+      tries = (codes "1", refl, ((omega arith, (omega arith, tt)), refl));
+      seed = (codes "0", refl, ((omega arith, (omega arith, tt)), refl));
+    },
+  ),
+)
+
+-- an option that was given twice has no number
+twice : (n : ℕ) → IsGiven (codes "2" ∷ codes "2" ∷ []) n → ⊥
+twice n (text, alone, number) = absurd cc
+
+-- nor has the empty text, or a text that begins with a hyphen
+no_text : (n : ℕ) → IsNumber [] n → ⊥
+no_text n (numeral, is) = omega (arith, numeral.0)
+
+hyphen : (n : ℕ) → IsNumber (codes "-1") n → ⊥
+hyphen n (numeral, is) = omega (arith, numeral.1.0)
+
+-- seventeen workers are too many
+seventeen : (w : Work) → w.workers ≡ 17 → IsWholeWork w → ⊥
+seventeen w are whole = omega (arith, are, whole.few_workers)
+
+-- an operand before `--` begins with at most one hyphen
+not_clear : IsClear (operand (codes "--tries") done) → ⊥
+not_clear (clear, rest) = clear refl refl
+
 -- a call for help
 helps : AskFor (codes "help" ∷ codes "make" ∷ []) (help topic.Make)
 helps = refl
@@ -45,3 +101,5 @@ whole_lines topic.Make = refl
 whole_lines topic.Tables = refl
 whole_lines topic.Run = refl
 whole_lines topic.Audit = refl
+whole_lines topic.Work = refl
+whole_lines topic.Stress = refl

@@ -55,7 +55,7 @@ pub record Reads (s : Shape) (after_dashes : Bool) (p : Place) (word : Text) : T
   pub fault : turn_fault s [] (at after_dashes p) word ≡ operand_fault s p
 
 -- each word after `--` is an operand
-after_reads : (s : Shape) (p : Place) (word : Text) → Reads s true p word
+pub after_reads : (s : Shape) (p : Place) (word : Text) → Reads s true p word
 unfolding walked
 after_reads s p word = record { after = refl; fault = refl }
 
@@ -69,14 +69,14 @@ before_reads s refused p between word other none =
     record { after = simp (between.nameless word, other, met); fault = simp (between.nameless word, other, flags, met) }
 
 -- and one that begins with no hyphen
-plain_reads : (s : Shape) (p : Place) → IsBetween s p → (word : Text) → IsPlain word → Reads s false p word
+pub plain_reads : (s : Shape) (p : Place) → IsBetween s p → (word : Text) → IsPlain word → Reads s false p word
 unfolding walked
 plain_reads s p between [] plain = record { after = simp (between.nameless [], between.free [] (held_at p)); fault = simp (between.nameless [], between.free [] (held_at p)) }
 plain_reads s p between (x ∷ xs) plain =
     record { after = simp (plain, between.nameless (x ∷ xs), between.free (x ∷ xs) (held_at p)); fault = simp (plain, between.nameless (x ∷ xs), between.free (x ∷ xs) (held_at p)) }
 
 -- `--` alone moves the walk behind the first `--`
-dashes_pass : (s : Shape) (p : Place) → IsBetween s p → walked s.rules [] (at false p) (codes "--") ≡ at true p
+pub dashes_pass : (s : Shape) (p : Place) → IsBetween s p → walked s.rules [] (at false p) (codes "--") ≡ at true p
 unfolding walked
 dashes_pass s p between = simp (between.nameless (codes "--"))
 
@@ -100,7 +100,7 @@ pub both_none : (a b : Kinds) → a ≡ [] → b ≡ [] → or_else a b ≡ []
 both_none a b first second = ap (λ (k : Kinds). or_else k b) first ∙ second
 
 -- no fault comes of the first word, and none of the others
-one_word : (s : Shape) (w : Walk) (word : Text) (rest : List Text) → faults s w (word ∷ rest) ≡ []
+pub one_word : (s : Shape) (w : Walk) (word : Text) (rest : List Text) → faults s w (word ∷ rest) ≡ []
     → (turn_fault s [] w word ≡ []) × (faults s (walked s.rules [] w word) rest ≡ [])
 unfolding walk_fault
 one_word s w word rest none =

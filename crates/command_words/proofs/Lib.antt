@@ -1,4 +1,12 @@
 pub mod OptionLemmas
+pub mod NumberLemmas
+pub mod RowLemmas
+pub mod LongWords
+pub mod WorkLeaf
+pub mod LineLemmas
+pub mod WorkEnds
+pub mod WorkAnswers
+pub mod WorkPlain
 pub mod LeafLemmas
 pub mod Leaves
 pub mod StoreLemmas

@@ -1,19 +1,21 @@
 -- What the clauses of `clap` say of the program's command.
-use Rattle.std.proofs.Common.{◌≡◌, ◌∙◌, ◌⊎◌, ap, refl, subst, sym, true, inl, inr, ⊎_elim, List, [], ◌∷◌, Bor, IfOk, Result, Ok, Err}
-use Rattle.std.specs.Prelude.{codes, unwrap_or, Some, None, Option, IsSome, option_map}
-use Rattle.clap.specs.Matches.{first_value, found_of, matched_of, raw_values}
-use Rattle.clap.specs.Walk.{all_of, first_of, texts}
-use Rattle.clap.proofs.WalkLemmas.{first_value-rows, raw_values-rows}
+use Rattle.std.proofs.Common.{◌≡◌, ◌∙◌, ◌⊎◌, ap, refl, subst, sym, true, inl, inr, ⊎_elim, ℕ, List, [], ◌∷◌, Bor, IfOk, Result, Ok, Err}
+use Rattle.std.specs.Prelude.{codes, unwrap_or, Some, None, Option, IsSome, IfSome, option_map, ◌<◌, ◌^◌}
+use Rattle.clap.specs.Matches.{ReadsOne, first_value, found_of, matched_of, one_text, raw_values}
+use Rattle.clap.specs.Walk.{Row, all_of, first_of, rows_of, texts}
+use Rattle.clap.proofs.WalkLemmas.{first_value-rows, one_text-rows, raw_values-rows}
 use Rattle.clap.specs.Simple.{App, HasMatchesOf}
 use Rattle.clap.specs.Kinds.{FailsBy}
 use Rattle.clap.specs.Faults.{fault_of, is_simple_and_free}
 use Rattle.clap.specs.declared.error.Error.{Error}
 use Rattle.clap.specs.declared.parser.matches.ArgMatches.{ArgMatches}
 use Rattle.clap.specs.declared.builder.value_parser.ValueParser.{ValueParser}
-use Rattle.command_words.specs.Program.{HasRows, Parses, ReadsKinds, entry_of, program, store_rows}
+use Rattle.command_words.specs.Program.{HasNumber, HasRows, HasStoreRows, HasWork, Parses, ReadsKinds, entry_of, program, store_rows}
 use Rattle.command_words.specs.Words.{Order, OnUsage, Text}
+use Rattle.command_words.specs.Lines.{Work}
 use Rattle.command_words.specs.Words as asked
 use Rattle.command_words.specs.declared.task.WordFault.{WordFault}
+use Rattle.command_words.proofs.NumberLemmas.{Gives, number_read}
 use Rattle.command_words.specs.declared.task.WordFault.TheVariants.{Usage, NoMemory}
 
 -- the command is one of those that `clap` states whole
@@ -71,18 +73,51 @@ pub items_read : (family size : Text) (items : List Text) (o : Option (Bor (List
     → option_map (λ s. texts s.now) o ≡ all_of (codes "items") (entry_of (asked.make family size items)).1 → texts given.now ≡ items
 items_read family size items o given none is empty seen = ap (λ (s : Bor (List (Bor Text))). texts s.now) is ∙ items_or_none family size items o none empty seen
 
--- the types behind a first file, or none where there are none
-types_or_none : (path : Text) (types : List Text) (o : Option (Bor (List (Bor Text)))) (none : Bor (List (Bor Text))) → none.now ≡ []
-    → option_map (λ s. texts s.now) o ≡ all_of (codes "types") (store_rows path types) → texts (unwrap_or o none).now ≡ types
-types_or_none path [] None none empty seen = ap texts empty
-types_or_none path [] (Some s) none empty seen = absurd cc
-types_or_none path (type ∷ types) None none empty seen = absurd cc
-types_or_none path (type ∷ types) (Some s) none empty seen = cc
+-- the types that were found, or none
+pub types_read : (types : List Text) (o : Option (Bor (List (Bor Text)))) (given none : Bor (List (Bor Text))) (seen : Option (List Text)) → given ≡ unwrap_or o none → none.now ≡ []
+    → option_map (λ s. texts s.now) o ≡ seen → unwrap_or seen [] ≡ types → texts given.now ≡ types
+types_read types None given none seen is empty found are =
+    ap (λ (s : Bor (List (Bor Text))). texts s.now) is ∙ ap texts empty ∙ ap (λ (f : Option (List Text)). unwrap_or f []) found ∙ are
+types_read types (Some s) given none seen is empty found are =
+    ap (λ (s : Bor (List (Bor Text))). texts s.now) is ∙ ap (λ (f : Option (List Text)). unwrap_or f []) found ∙ are
 
--- the types that were found
-pub types_read : (path : Text) (types : List Text) (o : Option (Bor (List (Bor Text)))) (given none : Bor (List (Bor Text))) → given ≡ unwrap_or o none → none.now ≡ []
-    → option_map (λ s. texts s.now) o ≡ all_of (codes "types") (store_rows path types) → texts given.now ≡ types
-types_read path types o given none is empty seen = ap (λ (s : Bor (List (Bor Text))). texts s.now) is ∙ types_or_none path types o none empty seen
+-- rows of a first file and types, by their list
+pub store_read : (values : ArgMatches) (path : Text) (types : List Text) → rows_of (found_of values) ≡ store_rows path types → HasStoreRows (rows_of (found_of values)) path types
+store_read values path types are = subst (λ (rows : List Row). HasStoreRows rows path types) (sym are) (listed types)
+  where
+    listed : (types : List Text) → HasStoreRows (store_rows path types) path types
+    listed [] = record { path = refl; types = refl }
+    listed (type ∷ types) = record { path = refl; types = refl }
+
+-- what workers are to do, by its parts
+pub work_is : (w : Work) (jobs : Text) (types : List Text) (n k : ℕ) (seed : Option ℕ) → jobs ≡ w.jobs → types ≡ w.types → n ≡ w.workers → k ≡ w.tries → seed ≡ w.seed
+    → asked.work (record { jobs = jobs; types = types; workers = n; tries = k; seed = seed }) ≡ asked.work w
+work_is w jobs types n k seed jobs_are types_are workers_are tries_are seed_is = rw (jobs_are, types_are, workers_are, tries_are, seed_is) refl
+
+-- what is read of `--seed`
+abbrev ReadsSeed : ArgMatches → Option ℕ → Type 0
+ReadsSeed values r = (text : Text) → one_text (found_of values) (codes "seed") ≡ Some text → ReadsOne (Gives 64) text r
+
+-- a number that is there is read
+seed_number : (values : ArgMatches) (n : ℕ) (r : Option ℕ) → n < 2 ^ 64 → HasNumber (rows_of (found_of values)) (codes "seed") n → ReadsSeed values r → r ≡ Some n
+seed_number values n r fits has reads =
+    let read = reads has.0 (one_text-rows (found_of values) (codes "seed") ∙ has.1) in
+    number_read 64 n has.0 r has.2 fits read
+
+-- the seed of what workers are to do
+pub seed_some : (values : ArgMatches) (w : Work) (r : Option ℕ) → IsSome w.seed → HasWork values w → ReadsSeed values r → IsSome r
+seed_some values w r seeded has reads = by_seed w.seed seeded has.whole.seed has.seed
+  where
+    by_seed : (o : Option ℕ) → IsSome o → IfSome o (λ n. n < 2 ^ 64) → IfSome o (HasNumber (rows_of (found_of values)) (codes "seed")) → IsSome r
+    by_seed None some fits number = absurd cc
+    by_seed (Some n) some fits number = some_of r n (seed_number values n r fits number reads)
+
+pub seed_is : (values : ArgMatches) (w : Work) (r : Option ℕ) (seed : ℕ) → IsSome w.seed → HasWork values w → ReadsSeed values r → r ≡ Some seed → Some seed ≡ w.seed
+seed_is values w r seed seeded has reads is = by_seed w.seed seeded has.whole.seed has.seed
+  where
+    by_seed : (o : Option ℕ) → IsSome o → IfSome o (λ n. n < 2 ^ 64) → IfSome o (HasNumber (rows_of (found_of values)) (codes "seed")) → Some seed ≡ o
+    by_seed None some fits number = absurd cc
+    by_seed (Some n) some fits number = sym is ∙ seed_number values n r fits number reads
 
 -- ---- what the program answers
 

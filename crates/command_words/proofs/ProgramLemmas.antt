@@ -1,6 +1,6 @@
 -- What the program makes of its words.
-use Rattle.std.proofs.Common.{◌≡◌, ◌≢◌, ◌∙◌, ◌++◌, ap, refl, subst, sym, inl, inr, ⊎_elim, ◌⊎◌, false, List, [], ◌∷◌, Bor, append_assoc}
-use Rattle.std.specs.Prelude.{codes, Some, None, fold, is_some, Ok, Err}
+use Rattle.std.proofs.Common.{◌≡◌, ◌∙◌, ◌++◌, ap, ap₂, refl, subst, sym, inl, inr, ⊎_elim, ◌⊎◌, true, false, Bool, ℕ, List, [], ◌∷◌, Bor, append_assoc}
+use Rattle.std.specs.Prelude.{codes, Option, Some, None, fold, is_some, Ok, Err}
 use Rattle.std.specs.Str.{bytes_eq}
 use Rattle.std.specs.Cmp.Lexicographic.{same_text}
 use Rattle.std.proofs.lemmas.List.{append-nil}
@@ -16,11 +16,15 @@ use Rattle.clap.specs.declared.error.Error.{Error}
 use Rattle.clap.specs.declared.parser.matches.ArgMatches.{ArgMatches}
 use Rattle.clap.proofs.FaultLemmas.{stopped_fault}
 use Rattle.clap.proofs.OnLiterals.{clap_on_literals}
-use Rattle.command_words.specs.Program.{Asks, Parses, entry_of, kind_words, program}
-use Rattle.command_words.specs.Words.{AreForNoText, AreNoTask, AskFor, Order, IsPlainOrder, IsWhole, Text, without_dashes, order_words}
+use Rattle.command_words.specs.Program.{Asks, IsEntryOf, Parses, kind_words, program}
+use Rattle.command_words.specs.Words.{AreFor, AreForNoText, AreNoTask, AskFor, Asked, AsksPlainly, IsPlainOrder, IsPlainWork, Order, Text, without_dashes, order_words}
+use Rattle.command_words.specs.Lines.{AreWorkWords, Work, line_words, work_name}
 use Rattle.command_words.specs.Words as asked
 use Rattle.command_words.proofs.OptionLemmas.{RefusesOptions, by_test, never, no_option, or_else_none, refuses}
 use Rattle.command_words.proofs.SubcommandLemmas.{Command, audit, check, command_of, leaf, make, name_of, operands_of, plain_words, run, tables, words_answered}
+use Rattle.command_words.proofs.WorkAnswers.{work_answered}
+use Rattle.command_words.proofs.WorkLeaf.{work_leaf}
+use Rattle.command_words.proofs.WorkPlain.{work_passes}
 
 -- the program, where KIND takes these words
 abbrev app : Bor (List (Bor Text)) → App
@@ -51,29 +55,69 @@ dashes_first listed (word ∷ rest) none = never UnknownArgument (InvalidSubcomm
 top_refuses : (listed : Bor (List (Bor Text))) → RefusesOptions (top_of listed).rules (top_of listed).args_override_self
 top_refuses listed = refuses _ _ (record { long = λ _. refl; short = λ _. refl })
 
+-- a subcommand: one with operands alone, or one that sets workers to work, by whether it takes a seed
+data Sub : Type 0 where
+  plain : Command → Sub
+  working : Bool → Sub
+
+-- the name of one that sets workers to work
+abbrev work_title : Bool → Text
+work_title false = codes "work"
+work_title true = codes "stress"
+
+-- its name
+abbrev sub_name : Sub → Text
+sub_name (plain command) = name_of command
+sub_name (working seeded) = work_title seeded
+
+-- the subcommand as it is built
+abbrev sub_leaf : Bor (List (Bor Text)) → Sub → Shape
+sub_leaf listed (plain command) = leaf listed command
+sub_leaf listed (working seeded) = work_leaf listed seeded
+
+-- the word is no name of a subcommand
+record IsNoName (word : Text) : Type 0 where
+  pub check : bytes_eq (codes "check") word ≡ false
+  pub make : bytes_eq (codes "make") word ≡ false
+  pub tables : bytes_eq (codes "tables") word ≡ false
+  pub run : bytes_eq (codes "run") word ≡ false
+  pub audit : bytes_eq (codes "audit") word ≡ false
+  pub work : bytes_eq (codes "work") word ≡ false
+  pub stress : bytes_eq (codes "stress") word ≡ false
+
 -- a first word that names no subcommand is refused
-other_first : (listed : Bor (List (Bor Text))) (word : Text) → bytes_eq word (codes "--") ≡ false
-    → bytes_eq (codes "check") word ≡ false → bytes_eq (codes "make") word ≡ false → bytes_eq (codes "tables") word ≡ false
-    → bytes_eq (codes "run") word ≡ false → bytes_eq (codes "audit") word ≡ false
+other_first : (listed : Bor (List (Bor Text))) (word : Text) → bytes_eq word (codes "--") ≡ false → IsNoName word
     → turn_fault (top_of listed) (names listed) (walk_from nothing_held) word ≡ [] → ⊥
-other_first listed word no_dashes no_check no_make no_tables no_run no_audit none = by_test (bytes_eq (codes "help") word)
-    (λ helps. never DisplayHelp (InvalidSubcommand ∷ []) (simp (no_check, no_make, no_tables, no_run, no_audit, helps) at none))
+other_first listed word no_dashes other_names none = by_test (bytes_eq (codes "help") word)
+    (λ helps. never DisplayHelp (InvalidSubcommand ∷ []) (simp (other_names.check, other_names.make, other_names.tables, other_names.run, other_names.audit, other_names.work, other_names.stress, helps) at none))
     (λ other.
-    let parts = or_else_none _ _ (simp (no_check, no_make, no_tables, no_run, no_audit, other, no_dashes) at none) in
+    let parts = or_else_none _ _ (simp (other_names.check, other_names.make, other_names.tables, other_names.run, other_names.audit, other_names.work, other_names.stress, other, no_dashes) at none) in
     let met = no_option (top_of listed).rules (top_of listed).args_override_self (top_refuses listed) idle (λ _ _. refl) [] None word parts.0 in
     never UnknownArgument (InvalidSubcommand ∷ []) (simp met at parts.1))
 
+-- a word is the name of a subcommand, or of none
+Named : Text → Type 0
+Named word = (sub : Sub) × (sub_name sub ≡ word)
+
+named_or_not : (word : Text) → Named word ⊎ IsNoName word
+unfolding Named
+named_or_not word =
+    by_test (bytes_eq (codes "check") word) (λ is. inl (plain check, same_text (codes "check") word (sym is)))
+    (λ no_check. by_test (bytes_eq (codes "make") word) (λ is. inl (plain make, same_text (codes "make") word (sym is)))
+    (λ no_make. by_test (bytes_eq (codes "tables") word) (λ is. inl (plain tables, same_text (codes "tables") word (sym is)))
+    (λ no_tables. by_test (bytes_eq (codes "run") word) (λ is. inl (plain run, same_text (codes "run") word (sym is)))
+    (λ no_run. by_test (bytes_eq (codes "audit") word) (λ is. inl (plain audit, same_text (codes "audit") word (sym is)))
+    (λ no_audit. by_test (bytes_eq (codes "work") word) (λ is. inl (working false, same_text (codes "work") word (sym is)))
+    (λ no_work. by_test (bytes_eq (codes "stress") word) (λ is. inl (working true, same_text (codes "stress") word (sym is)))
+    (λ no_stress. inr (record { check = no_check; make = no_make; tables = no_tables; run = no_run; audit = no_audit; work = no_work; stress = no_stress }))))))))
+
 -- the first word is the name of a subcommand
-first_word : (listed : Bor (List (Bor Text))) (word : Text) (rest : List Text) → fault_of (app listed) (word ∷ rest) ≡ [] → (command : Command) × (name_of command ≡ word)
-unfolding walk_fault
+first_word : (listed : Bor (List (Bor Text))) (word : Text) (rest : List Text) → fault_of (app listed) (word ∷ rest) ≡ [] → (sub : Sub) × (sub_name sub ≡ word)
+unfolding walk_fault Named
 first_word listed word rest none = by_test (bytes_eq word (codes "--"))
     (λ dashes. absurd (dashes_first listed rest (subst (λ (w : Text). fault_of (app listed) (w ∷ rest) ≡ []) (same_text word (codes "--") (sym dashes)) none)))
-    (λ plain. by_test (bytes_eq (codes "check") word) (λ is. (check, same_text (codes "check") word (sym is)))
-    (λ no_check. by_test (bytes_eq (codes "make") word) (λ is. (make, same_text (codes "make") word (sym is)))
-    (λ no_make. by_test (bytes_eq (codes "tables") word) (λ is. (tables, same_text (codes "tables") word (sym is)))
-    (λ no_tables. by_test (bytes_eq (codes "run") word) (λ is. (run, same_text (codes "run") word (sym is)))
-    (λ no_run. by_test (bytes_eq (codes "audit") word) (λ is. (audit, same_text (codes "audit") word (sym is)))
-    (λ no_audit. absurd (other_first listed word plain no_check no_make no_tables no_run no_audit (or_else_none _ _ (or_else_none _ _ none).0).0)))))))
+    (λ no_dashes. ⊎_elim (λ named. named)
+    (λ other_names. absurd (other_first listed word no_dashes other_names (or_else_none _ _ (or_else_none _ _ none).0).0)) (named_or_not word))
 
 -- ---- past a subcommand's name, all words are the subcommand's
 
@@ -86,33 +130,37 @@ stopped_walk rules known w name before (x ∷ xs) =
     stopped_walk rules known w name (before ++ x ∷ []) xs ∙ ap (λ (ws : List Text). record w { stopped = Some (name, ws) }) (append_assoc before (x ∷ []) xs)
 
 -- the walk that has met a subcommand and these words
-abbrev stopped_at : Command → List Text → Walk
-stopped_at command rest = record (walk_from nothing_held) { stopped = Some (name_of command, rest) }
+abbrev stopped_at : Sub → List Text → Walk
+stopped_at sub rest = record (walk_from nothing_held) { stopped = Some (sub_name sub, rest) }
 
 -- the walk over a subcommand and its words stops at it
-command_walk : (listed : Bor (List (Bor Text))) (command : Command) (rest : List Text)
-    → walk (top_of listed).rules (names listed) nothing_held (name_of command ∷ rest) ≡ stopped_at command rest
+command_walk : (listed : Bor (List (Bor Text))) (sub : Sub) (rest : List Text)
+    → walk (top_of listed).rules (names listed) nothing_held (sub_name sub ∷ rest) ≡ stopped_at sub rest
 unfolding clap_on_literals
-command_walk listed check rest = stopped_walk (top_of listed).rules (names listed) (walk_from nothing_held) (codes "check") [] rest
-command_walk listed make rest = stopped_walk (top_of listed).rules (names listed) (walk_from nothing_held) (codes "make") [] rest
-command_walk listed tables rest = stopped_walk (top_of listed).rules (names listed) (walk_from nothing_held) (codes "tables") [] rest
-command_walk listed run rest = stopped_walk (top_of listed).rules (names listed) (walk_from nothing_held) (codes "run") [] rest
-command_walk listed audit rest = stopped_walk (top_of listed).rules (names listed) (walk_from nothing_held) (codes "audit") [] rest
+command_walk listed (plain check) rest = stopped_walk (top_of listed).rules (names listed) (walk_from nothing_held) (codes "check") [] rest
+command_walk listed (plain make) rest = stopped_walk (top_of listed).rules (names listed) (walk_from nothing_held) (codes "make") [] rest
+command_walk listed (plain tables) rest = stopped_walk (top_of listed).rules (names listed) (walk_from nothing_held) (codes "tables") [] rest
+command_walk listed (plain run) rest = stopped_walk (top_of listed).rules (names listed) (walk_from nothing_held) (codes "run") [] rest
+command_walk listed (plain audit) rest = stopped_walk (top_of listed).rules (names listed) (walk_from nothing_held) (codes "audit") [] rest
+command_walk listed (working false) rest = stopped_walk (top_of listed).rules (names listed) (walk_from nothing_held) (codes "work") [] rest
+command_walk listed (working true) rest = stopped_walk (top_of listed).rules (names listed) (walk_from nothing_held) (codes "stress") [] rest
 
 -- the subcommand that is entered by its name
-command_entered : (listed : Bor (List (Bor Text))) (command : Command) (rest : List Text)
-    → entered (built (app listed)) (Some (name_of command, rest)) ≡ Some (name_of command, rows_after (leaf listed command).rules [] rest)
-command_entered listed check rest = refl
-command_entered listed make rest = refl
-command_entered listed tables rest = refl
-command_entered listed run rest = refl
-command_entered listed audit rest = refl
+command_entered : (listed : Bor (List (Bor Text))) (sub : Sub) (rest : List Text)
+    → entered (built (app listed)) (Some (sub_name sub, rest)) ≡ Some (sub_name sub, rows_after (sub_leaf listed sub).rules [] rest)
+command_entered listed (plain check) rest = refl
+command_entered listed (plain make) rest = refl
+command_entered listed (plain tables) rest = refl
+command_entered listed (plain run) rest = refl
+command_entered listed (plain audit) rest = refl
+command_entered listed (working false) rest = refl
+command_entered listed (working true) rest = refl
 
 -- the rows of the program are those of the subcommand at its words
-command_rows : (listed : Bor (List (Bor Text))) (command : Command) (rest : List Text)
-    → subcommand_of (app listed) (name_of command ∷ rest) ≡ Some (name_of command, rows_after (leaf listed command).rules [] rest)
-command_rows listed command rest =
-    ap (λ (w : Walk). entered (built (app listed)) w.stopped) (command_walk listed command rest) ∙ command_entered listed command rest
+command_rows : (listed : Bor (List (Bor Text))) (sub : Sub) (rest : List Text)
+    → subcommand_of (app listed) (sub_name sub ∷ rest) ≡ Some (sub_name sub, rows_after (sub_leaf listed sub).rules [] rest)
+command_rows listed sub rest =
+    ap (λ (w : Walk). entered (built (app listed)) w.stopped) (command_walk listed sub rest) ∙ command_entered listed sub rest
 
 -- a step that fails by no kind adds none
 or_else-nil : (a : Kinds) → or_else a [] ≡ a
@@ -120,50 +168,55 @@ or_else-nil [] = refl
 or_else-nil (k ∷ ks) = refl
 
 -- the faults of the program at words that begin with a subcommand's name, where its walk ends at w
-abbrev fault_by : Bor (List (Bor Text)) → Command → List Text → Walk → Kinds
-fault_by listed command rest w =
+abbrev fault_by : Bor (List (Bor Text)) → Sub → List Text → Walk → Kinds
+fault_by listed sub rest w =
     let top = top_of listed in
-    or_else (walk_fault top (names listed) (walk_from nothing_held) (name_of command ∷ rest))
+    or_else (walk_fault top (names listed) (walk_from nothing_held) (sub_name sub ∷ rest))
     (or_else (entered_fault (built (app listed)) w.stopped) (or_else (settle_fault top.rules top.args_override_self w.held)
     (or_else (defaults_fault (settled top.rules w.held).rows top.rules)
     (check_fault top (finished top.rules w.held) (is_some (entered (built (app listed)) w.stopped))))))
 
 -- the faults of a subcommand at its words
-abbrev below : Bor (List (Bor Text)) → Command → List Text → Kinds
-below listed command rest = level_fault (leaf listed command) [] nothing_held rest false []
+abbrev below : Bor (List (Bor Text)) → Sub → List Text → Kinds
+below listed sub rest = level_fault (sub_leaf listed sub) [] nothing_held rest false []
 
 -- no fault comes of the name itself, nor of the program's own arguments
-only_below : (listed : Bor (List (Bor Text))) (command : Command) (rest : List Text) → fault_by listed command rest (stopped_at command rest) ≡ below listed command rest
+only_below : (listed : Bor (List (Bor Text))) (sub : Sub) (rest : List Text) → fault_by listed sub rest (stopped_at sub rest) ≡ below listed sub rest
 unfolding clap_on_literals
-only_below listed check rest =
-    ap (λ (k : Kinds). or_else k (or_else (below listed check rest) [])) (stopped_fault (top_of listed) (names listed) (walk_from nothing_held) (codes "check", []) rest)
-    ∙ or_else-nil (below listed check rest)
-only_below listed make rest =
-    ap (λ (k : Kinds). or_else k (or_else (below listed make rest) [])) (stopped_fault (top_of listed) (names listed) (walk_from nothing_held) (codes "make", []) rest)
-    ∙ or_else-nil (below listed make rest)
-only_below listed tables rest =
-    ap (λ (k : Kinds). or_else k (or_else (below listed tables rest) [])) (stopped_fault (top_of listed) (names listed) (walk_from nothing_held) (codes "tables", []) rest)
-    ∙ or_else-nil (below listed tables rest)
-only_below listed run rest =
-    ap (λ (k : Kinds). or_else k (or_else (below listed run rest) [])) (stopped_fault (top_of listed) (names listed) (walk_from nothing_held) (codes "run", []) rest)
-    ∙ or_else-nil (below listed run rest)
-only_below listed audit rest =
-    ap (λ (k : Kinds). or_else k (or_else (below listed audit rest) [])) (stopped_fault (top_of listed) (names listed) (walk_from nothing_held) (codes "audit", []) rest)
-    ∙ or_else-nil (below listed audit rest)
+only_below listed (plain check) rest =
+    ap (λ (k : Kinds). or_else k (or_else (below listed (plain check) rest) [])) (stopped_fault (top_of listed) (names listed) (walk_from nothing_held) (codes "check", []) rest)
+    ∙ or_else-nil (below listed (plain check) rest)
+only_below listed (plain make) rest =
+    ap (λ (k : Kinds). or_else k (or_else (below listed (plain make) rest) [])) (stopped_fault (top_of listed) (names listed) (walk_from nothing_held) (codes "make", []) rest)
+    ∙ or_else-nil (below listed (plain make) rest)
+only_below listed (plain tables) rest =
+    ap (λ (k : Kinds). or_else k (or_else (below listed (plain tables) rest) [])) (stopped_fault (top_of listed) (names listed) (walk_from nothing_held) (codes "tables", []) rest)
+    ∙ or_else-nil (below listed (plain tables) rest)
+only_below listed (plain run) rest =
+    ap (λ (k : Kinds). or_else k (or_else (below listed (plain run) rest) [])) (stopped_fault (top_of listed) (names listed) (walk_from nothing_held) (codes "run", []) rest)
+    ∙ or_else-nil (below listed (plain run) rest)
+only_below listed (plain audit) rest =
+    ap (λ (k : Kinds). or_else k (or_else (below listed (plain audit) rest) [])) (stopped_fault (top_of listed) (names listed) (walk_from nothing_held) (codes "audit", []) rest)
+    ∙ or_else-nil (below listed (plain audit) rest)
+only_below listed (working false) rest =
+    ap (λ (k : Kinds). or_else k (or_else (below listed (working false) rest) [])) (stopped_fault (top_of listed) (names listed) (walk_from nothing_held) (codes "work", []) rest)
+    ∙ or_else-nil (below listed (working false) rest)
+only_below listed (working true) rest =
+    ap (λ (k : Kinds). or_else k (or_else (below listed (working true) rest) [])) (stopped_fault (top_of listed) (names listed) (walk_from nothing_held) (codes "stress", []) rest)
+    ∙ or_else-nil (below listed (working true) rest)
 
 -- the program's faults at a subcommand and its words are those of the subcommand
-program_fault : (listed : Bor (List (Bor Text))) (command : Command) (rest : List Text)
-    → fault_of (app listed) (name_of command ∷ rest) ≡ below listed command rest
-program_fault listed command rest = ap (fault_by listed command rest) (command_walk listed command rest) ∙ only_below listed command rest
+program_fault : (listed : Bor (List (Bor Text))) (sub : Sub) (rest : List Text)
+    → fault_of (app listed) (sub_name sub ∷ rest) ≡ below listed sub rest
+program_fault listed sub rest = ap (fault_by listed sub rest) (command_walk listed sub rest) ∙ only_below listed sub rest
 
 -- ---- words that are taken
 
 -- the words ask for something, and so do the matches
 pub record Gives (listed : Bor (List (Bor Text))) (words : List Text) : Type 0 where
-  pub asked : Order
-  pub whole : IsWhole asked
-  pub words_are : without_dashes words ≡ order_words asked
-  pub rows : subcommand_of (app listed) words ≡ Some (entry_of asked)
+  pub asked : Asked
+  pub asks : AskFor words asked
+  pub entry : IsEntryOf (subcommand_of (app listed) words) asked
 
 -- the name of a subcommand is not `--`
 no_dashes_first : (command : Command) (rest : List Text) → without_dashes (name_of command ∷ rest) ≡ name_of command ∷ without_dashes rest
@@ -173,16 +226,32 @@ no_dashes_first tables rest = refl
 no_dashes_first run rest = refl
 no_dashes_first audit rest = refl
 
+-- the name of what workers are to do is that of its command
+named_by : (seed : Option ℕ) → work_title (is_some seed) ≡ work_name seed
+named_by None = refl
+named_by (Some seed) = refl
+
 -- words of a subcommand that come to no fault ask for something
-gives_rest : (listed : Bor (List (Bor Text))) → texts listed.now ≡ kind_words → (command : Command) (rest : List Text) → below listed command rest ≡ []
-    → Gives listed (name_of command ∷ rest)
-gives_rest listed are command rest none =
+gives_rest : (listed : Bor (List (Bor Text))) → texts listed.now ≡ kind_words → (sub : Sub) (rest : List Text) → below listed sub rest ≡ []
+    → Gives listed (sub_name sub ∷ rest)
+gives_rest listed are (plain command) rest none =
     let answered = words_answered listed are command rest none in
     record {
-      asked = answered.asked;
-      whole = answered.whole;
-      words_are = no_dashes_first command rest ∙ answered.words;
-      rows = command_rows listed command rest ∙ ap (λ (p : Text × List Row). Some p) answered.entry;
+      asked = asked.order answered.asked;
+      asks = (answered.whole, no_dashes_first command rest ∙ answered.words);
+      entry = command_rows listed (plain command) rest ∙ ap (λ (p : Text × List Row). Some p) answered.entry;
+    }
+gives_rest listed are (working seeded) rest none =
+    let answered = work_answered listed seeded rest none in
+    let title = sym (ap work_title answered.seeds) ∙ named_by answered.work.seed in
+    record {
+      asked = asked.work answered.work;
+      asks = (answered.rows.whole, (answered.line, ap₂ (λ (name : Text) (words : List Text). name ∷ words) title (sym answered.words_are), answered.says));
+      entry = (
+        rows_after (work_leaf listed seeded).rules [] rest,
+        command_rows listed (working seeded) rest ∙ ap (λ (name : Text). Some (name, rows_after (work_leaf listed seeded).rules [] rest)) title,
+        answered.rows,
+      );
     }
 
 -- words that come to no fault ask for something
@@ -204,31 +273,40 @@ named_first (asked.run script types) = refl
 named_first (asked.audit history types) = refl
 
 -- plain words come to no fault
-pub plain_taken : (listed : Bor (List (Bor Text))) → texts listed.now ≡ kind_words → (a : Order) → IsPlainOrder a → fault_of (app listed) (order_words a) ≡ []
-plain_taken listed are a plain =
-    ap (fault_of (app listed)) (named_first a) ∙ program_fault listed (command_of a) (operands_of a) ∙ plain_words listed are a plain
+plain_taken : (listed : Bor (List (Bor Text))) → texts listed.now ≡ kind_words → (a : Order) → IsPlainOrder a → fault_of (app listed) (order_words a) ≡ []
+plain_taken listed are a plain_order =
+    ap (fault_of (app listed)) (named_first a) ∙ program_fault listed (plain (command_of a)) (operands_of a) ∙ plain_words listed are a plain_order
+
+-- and so of what workers are to do
+work_taken : (listed : Bor (List (Bor Text))) (w : Work) (words : List Text) → IsPlainWork w → AreWorkWords words w → fault_of (app listed) words ≡ []
+work_taken listed w words plain_work are =
+    ap (fault_of (app listed)) (are.1 ∙ ap (λ (name : Text). name ∷ line_words are.0) (sym (named_by w.seed)))
+    ∙ program_fault listed (working (is_some w.seed)) (line_words are.0) ∙ work_passes listed are.0 w are.2 plain_work
 
 -- ---- what a parse says
 
 -- matches are those of a subcommand, whose words were given
-pub matches_asked : (words : List Text) (m : ArgMatches) → Parses words (Ok m) → (a : Order) × Asks m a × AskFor words (asked.order a)
+pub matches_asked : (words : List Text) (m : ArgMatches) → Parses words (Ok m) → (a : Asked) × Asks m a × AskFor words a
 matches_asked words m p =
     let listed = p.1.0 in
     let P : ValueParser → Type 0 = λ k. fault_of (program k) words ≡ [] in
     let Q : ValueParser → Type 0 = λ k. subcommand_rows_of m ≡ subcommand_of (program k) words in
     let gives = taken listed p.1.2 words (subst P p.1.1 p.2) in
-    (gives.asked, subst Q p.1.1 (p.3 refl).1 ∙ gives.rows, (gives.whole, gives.words_are))
+    let same = subst Q p.1.1 (p.3 refl).1 in
+    (gives.asked, subst (λ (entry : Option (Text × List Row)). IsEntryOf entry gives.asked) (sym same) gives.entry, gives.asks)
 
--- words that are no order's and ask for no text are no task's
-no_task : (words : List Text) → AreForNoText words → ((o : Order) → IsPlainOrder o → words ≢ order_words o) → AreNoTask words
-no_task words textless orderless (asked.order o) plain are = orderless o plain are
-no_task words textless orderless (asked.help topic) plain are = textless.0 topic are
-no_task words textless orderless asked.version plain are = textless.1 are
+-- words that come to no fault, where they are an order's or say what workers are to do
+asked_passes : (listed : Bor (List (Bor Text))) → texts listed.now ≡ kind_words → (words : List Text) → AreForNoText words → (asked : Asked) → AsksPlainly asked → AreFor words asked
+    → fault_of (app listed) words ≡ []
+asked_passes listed are words textless (asked.order o) well are_for = ap (fault_of (app listed)) are_for ∙ plain_taken listed are o well
+asked_passes listed are words textless (asked.work w) well are_for = work_taken listed w words well are_for
+asked_passes listed are words textless (asked.help topic) well are_for = absurd (textless.0 topic are_for)
+asked_passes listed are words textless asked.version well are_for = absurd (textless.1 are_for)
 
 -- an error comes of want of memory, or the words are no task's
 pub error_asked : (words : List Text) → AreForNoText words → (e : Error) → Parses words (Err e) → (kind_of e ≡ OutOfMemory) ⊎ AreNoTask words
-error_asked words textless e p = ⊎_elim (λ (memory : kind_of e ≡ OutOfMemory). inl memory) (λ q. inr (no_task words textless (λ a plain words_are.
+error_asked words textless e p = ⊎_elim (λ (memory : kind_of e ≡ OutOfMemory). inl memory) (λ q. inr (λ a well are_for.
     let listed = q.1.0 in
     let P : ValueParser → Type 0 = λ k. fault_of (program k) words ≡ [] in
-    let none : fault_of (program (parser.Names listed)) words ≡ [] = ap (fault_of (app listed)) words_are ∙ plain_taken listed q.1.2 a plain in
-    subst (IsAmong (kind_of e)) (subst P (sym q.1.1) none) q.2))) p
+    let none : fault_of (program (parser.Names listed)) words ≡ [] = asked_passes listed q.1.2 words textless a well are_for in
+    subst (IsAmong (kind_of e)) (subst P (sym q.1.1) none) q.2)) p

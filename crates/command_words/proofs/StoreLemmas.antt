@@ -9,7 +9,7 @@ use Rattle.clap.specs.Simple.{Shape}
 use Rattle.clap.specs.declared.builder.value_parser.ValueParser.TheVariants as parser
 use Rattle.clap.specs.declared.error.kind.ErrorKind.TheVariants.{MissingRequiredArgument}
 use Rattle.clap.proofs.OnLiterals.{clap_on_literals}
-use Rattle.command_words.specs.Program.{row, store_app, store_rows}
+use Rattle.command_words.specs.Program.{store_app, store_rows}
 use Rattle.command_words.specs.Words.{Text}
 use Rattle.command_words.proofs.Leaves.{last_added, last_joined, last_of, leaf_of, waits}
 use Rattle.command_words.proofs.OptionLemmas.{holding, never, refuses}

@@ -7,7 +7,7 @@ use Rattle.std.specs.Cmp.Lexicographic.{same_text}
 use Rattle.clap.specs.Walk.{Held, Row, Walk, arg_by_index, finished, idle, positional, settled, texts, to_positional, with_default}
 use Rattle.clap.specs.Kinds.{Kinds, or_else, value_kinds}
 use Rattle.clap.specs.Faults.{check_fault, defaults_fault}
-use Rattle.clap.specs.Simple.{App, Shape}
+use Rattle.clap.specs.Simple.{Shape}
 use Rattle.clap.specs.declared.builder.value_parser.ValueParser.TheVariants as parser
 use Rattle.clap.specs.declared.error.kind.ErrorKind.TheVariants.{InvalidValue, MissingRequiredArgument, UnknownArgument}
 use Rattle.clap.proofs.OnLiterals.{clap_on_literals}
@@ -21,7 +21,7 @@ use Rattle.command_words.specs.Words as asked
 use Rattle.command_words.proofs.Leaves.{last_added, last_joined, last_of, leaf_of, waits}
 use Rattle.command_words.proofs.OptionLemmas.{by_test, holding, never, or_else_none, refuses}
 use Rattle.command_words.proofs.LeafLemmas.{IsBetween, Passes, Place, Takes, at, both_none, end_of, ends, faults, held_at, operand_fault, operands_taken, plain_taken, start}
-use Rattle.command_words.proofs.StoreLemmas.{AreStoreWords, StoreTook, end_rows, store_answers, store_leaf, store_passes, store_place, store_takes}
+use Rattle.command_words.proofs.StoreLemmas.{AreStoreWords, StoreTook, store_answers, store_leaf, store_passes, store_place, store_takes}
 
 -- ---- `check KIND FILE`
 
@@ -418,7 +418,7 @@ plain_kind Undo = refl
 plain_kind Intentions = refl
 
 -- a fact of the first word, and of the others
-all_with : (P : Text → Type 0) (word : Text) (rest : List Text) → P word → All P rest → All P (word ∷ rest)
+pub all_with : (P : Text → Type 0) (word : Text) (rest : List Text) → P word → All P rest → All P (word ∷ rest)
 all_with P word rest first others zero d lt = first
 all_with P word rest first others (suc k) d lt = others k d (omega (arith, lt))
 

@@ -2,8 +2,8 @@
 use Rattle.std.specs.Prelude.{◌≡◌, ◌-◌, length, slice_index}
 use Rattle.command_words.specs.Words.{Text}
 use Rattle.command_words.specs.declared.task.Topic.{Topic}
-use Rattle.command_words.specs.declared.task.Topic.TheVariants.{Program, Check, Make, Tables, Run, Audit}
-use Rattle.command_words.specs.declared.help.TheConstants.{AUDIT, CHECK, MAKE, PROGRAM, RUN, TABLES, VERSION}
+use Rattle.command_words.specs.declared.task.Topic.TheVariants.{Program, Check, Make, Tables, Run, Audit, Work, Stress}
+use Rattle.command_words.specs.declared.help.TheConstants.{AUDIT, CHECK, MAKE, PROGRAM, RUN, STRESS, TABLES, VERSION, WORK}
 
 -- the text of help on a topic
 abbrev pub text_of_topic : Topic → Text
@@ -13,6 +13,8 @@ text_of_topic Make = MAKE.now
 text_of_topic Tables = TABLES.now
 text_of_topic Run = RUN.now
 text_of_topic Audit = AUDIT.now
+text_of_topic Work = WORK.now
+text_of_topic Stress = STRESS.now
 
 -- the last byte of the text is a line end
 abbrev pub EndsLine : Text → Type 0

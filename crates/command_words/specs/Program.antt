@@ -1,10 +1,10 @@
 -- What `clap` reads of the program's command.
-use Rattle.std.specs.Prelude.{◌≡◌, ◌⊎◌, true, false, List, [], ◌∷◌, Some, codes, Result, Ok, Err, None}
+use Rattle.std.specs.Prelude.{◌≡◌, ◌⊎◌, ℕ, pos, true, false, List, [], ◌∷◌, Some, codes, Option, Result, Ok, Err, None, IfSome, unwrap_or}
 use Rattle.clap.specs.Values.{kind_of}
 use Rattle.clap.specs.Faults.{fault_of}
 use Rattle.clap.specs.Kinds.{IsAmong}
 use Rattle.clap.specs.Matches.{found_of}
-use Rattle.clap.specs.Walk.{Row, Rule, rows_of, rule_of, texts}
+use Rattle.clap.specs.Walk.{Row, Rule, all_of, first_of, one_of, rows_of, rule_of, texts}
 use Rattle.clap.specs.Simple.{App, HasMatchesOf, app_of, new_app, new_rule, on_top, subcommand_rows_of, with_rule, with_subcommand}
 use Rattle.clap.specs.declared.builder.action.ArgAction.TheVariants.{Append}
 use Rattle.clap.specs.declared.builder.arg.Arg.{Arg}
@@ -18,7 +18,8 @@ use Rattle.clap.specs.declared.builder.value_parser.Reading.TheVariants.{AsWritt
 use Rattle.clap.specs.declared.builder.value_parser.ValueParser.{ValueParser}
 use Rattle.clap.specs.declared.builder.value_parser.ValueParser.TheVariants as parser
 use Rattle.std.specs.Borrow.{Bor}
-use Rattle.command_words.specs.Words.{Order, Text}
+use Rattle.command_words.specs.Lines.{IsNumber, IsWholeWork, Setting, Work, seed, setting_name, tries, work_name, workers}
+use Rattle.command_words.specs.Words.{Asked, Order, Text}
 use Rattle.command_words.specs.Words as asked
 use Rattle.type_table.specs.Kind.{kind_word}
 use Rattle.type_table.specs.declared.kind.Kind.TheVariants.{Undo, Intentions}
@@ -65,6 +66,38 @@ tables_app = with_rule (new_app (codes "tables")) (wanted_rule (codes "path"))
 abbrev pub store_app : Text → App
 store_app name = with_rule (with_rule (new_app name) (wanted_rule (codes "path"))) types_rule
 
+-- an option with a value
+abbrev pub option_rule : Setting → ValueParser → Rule
+option_rule setting values = record (new_rule (setting_name setting)) {
+  long = Some (setting_name setting);
+  value_names = 1;
+  parser = Some values;
+}
+
+-- `--workers N`, which has to be there
+abbrev pub workers_rule : Rule
+workers_rule = record (option_rule workers (parser.Signed (pos 1) (pos 16))) { required = true }
+
+-- `--tries K`, with 3 for it
+abbrev pub tries_rule : Rule
+tries_rule = record (option_rule tries (parser.Signed (pos 1) (pos 100))) { defaults = codes "3" ∷ [] }
+
+-- `--seed S`, which has to be there
+abbrev pub seed_rule : Rule
+seed_rule = record (option_rule seed (parser.Unsigned 0 18446744073709551615)) { required = true }
+
+-- a command that sets workers to work: `NAME --workers N [--tries K] JOBS TYPE...`
+abbrev pub workers_app : Text → App
+workers_app name = with_rule (with_rule (store_app name) workers_rule) tries_rule
+
+-- `work`
+abbrev pub work_app : App
+work_app = workers_app (codes "work")
+
+-- `stress`, which takes a seed too
+abbrev pub stress_app : App
+stress_app = with_rule (workers_app (codes "stress")) seed_rule
+
 -- the program above its commands, which wants one of them and takes no word for its own name
 abbrev pub bare_program : App
 bare_program = on_top (λ top. record top {
@@ -75,8 +108,8 @@ bare_program = on_top (λ top. record top {
 -- the program
 abbrev pub program : ValueParser → App
 program kinds =
-    with_subcommand (with_subcommand (with_subcommand (with_subcommand (with_subcommand bare_program
-    (check_app kinds).top) make_app.top) tables_app.top) (store_app (codes "run")).top) (store_app (codes "audit")).top
+    with_subcommand (with_subcommand (with_subcommand (with_subcommand (with_subcommand (with_subcommand (with_subcommand bare_program
+    (check_app kinds).top) make_app.top) tables_app.top) (store_app (codes "run")).top) (store_app (codes "audit")).top) work_app.top) stress_app.top
 
 -- the command is read as this one, and has no argument of the commands below it
 abbrev pub IsCommand : App → Command → Type 0
@@ -132,18 +165,41 @@ entry_of (asked.tables path) = (codes "tables", row (codes "path") path ∷ [])
 entry_of (asked.run script types) = (codes "run", store_rows script types)
 entry_of (asked.audit history types) = (codes "audit", store_rows history types)
 
+-- an argument was given this number, or has it by default
+abbrev pub HasNumber : List Row → Text → ℕ → Type 0
+HasNumber rows id n = (text : Text) × (one_of id rows ≡ Some text) × IsNumber text n
+
+-- the rows are those of a first file and of types
+pub record HasStoreRows (rows : List Row) (file : Text) (files : List Text) : Type 0 where
+  pub path : first_of (codes "path") rows ≡ Some file
+  pub types : unwrap_or (all_of (codes "types") rows) [] ≡ files
+
+-- the rows are those of what workers are to do
+pub record HasWorkRows (rows : List Row) (w : Work) : Type 0 where
+  pub whole : IsWholeWork w
+  pub store : HasStoreRows rows w.jobs w.types
+  pub workers : HasNumber rows (codes "workers") w.workers
+  pub tries : HasNumber rows (codes "tries") w.tries
+  pub seed : IfSome w.seed (HasNumber rows (codes "seed"))
+
+-- a subcommand's name and rows are those of what is asked for
+abbrev pub IsEntryOf : Option (Text × List Row) → Asked → Type 0
+IsEntryOf entry (asked.order o) = entry ≡ Some (entry_of o)
+IsEntryOf entry (asked.work w) = (rows : List Row) × (entry ≡ Some (work_name w.seed, rows)) × HasWorkRows rows w
+IsEntryOf entry text = ⊥
+
 -- the matches are those of the subcommand that asks for this
-abbrev pub Asks : ArgMatches → Order → Type 0
-Asks matches o = subcommand_rows_of matches ≡ Some (entry_of o)
+abbrev pub Asks : ArgMatches → Asked → Type 0
+Asks matches asked = IsEntryOf (subcommand_rows_of matches) asked
 
 -- the matches are those of a subcommand
 abbrev pub AskSomething : ArgMatches → Type 0
-AskSomething matches = (o : Order) × Asks matches o
+AskSomething matches = (a : Asked) × Asks matches a
 
 -- the rows of these matches are those of what is asked for
 abbrev pub HasRows : ArgMatches → Order → Type 0
 HasRows values o = rows_of (found_of values) ≡ (entry_of o).1
 
--- the rows of these matches are those of a first file and of types
-abbrev pub HasStoreRows : ArgMatches → Text → List Text → Type 0
-HasStoreRows values path types = rows_of (found_of values) ≡ store_rows path types
+-- these matches have such rows
+abbrev pub HasWork : ArgMatches → Work → Type 0
+HasWork values w = HasWorkRows (rows_of (found_of values)) w

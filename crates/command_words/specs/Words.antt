@@ -1,5 +1,5 @@
 -- What the words of the command line say.
-use Rattle.std.specs.Prelude.{◌≡◌, ◌≢◌, ◌==◌, ◌⊎◌, ℕ, ◌<◌, length, false, List, [], ◌∷◌, ⊤, All, slice_index, codes, if◌then◌else◌}
+use Rattle.std.specs.Prelude.{◌≡◌, ◌≢◌, ◌==◌, ◌⊎◌, ℕ, ◌<◌, length, false, List, [], ◌∷◌, Some, None, ⊤, All, slice_index, codes, if◌then◌else◌}
 use Rattle.std.specs.Str.{bytes_eq}
 use Rattle.clap.specs.Walk.{texts}
 use Rattle.type_table.specs.declared.kind.Kind.{Kind}
@@ -10,6 +10,7 @@ use Rattle.command_words.specs.declared.task.Topic.{Topic}
 use Rattle.command_words.specs.declared.task.Topic.TheVariants as topic
 use Rattle.command_words.specs.declared.task.WordFault.{WordFault}
 use Rattle.command_words.specs.declared.task.WordFault.TheVariants.{Usage, NoMemory}
+use Rattle.command_words.specs.Lines.{AreWorkWords, IsWholeWork, Work}
 
 abbrev pub Text : Type 0
 Text = List ℕ
@@ -31,6 +32,8 @@ pub data Order : Type 0 where
 pub data Asked : Type 0 where
   -- what a command does with its operands
   order : Order → Asked
+  -- what workers are to do: `work` or `stress`
+  work : Work → Asked
   -- a text of help
   help : Topic → Asked
   -- the version
@@ -58,17 +61,15 @@ help_words topic.Make = codes "help" ∷ codes "make" ∷ []
 help_words topic.Tables = codes "help" ∷ codes "tables" ∷ []
 help_words topic.Run = codes "help" ∷ codes "run" ∷ []
 help_words topic.Audit = codes "help" ∷ codes "audit" ∷ []
+help_words topic.Work = codes "help" ∷ codes "work" ∷ []
+help_words topic.Stress = codes "help" ∷ codes "stress" ∷ []
 
--- the words that ask for it
-abbrev pub words_of : Asked → List Text
-words_of (order o) = order_words o
-words_of (help topic) = help_words topic
-words_of version = codes "--version" ∷ []
-
--- the words are these, or the short form of them
+-- the words ask for it
 abbrev pub AreFor : List Text → Asked → Type 0
-AreFor words version = (words ≡ words_of version) ⊎ (words ≡ codes "-V" ∷ [])
-AreFor words asked = words ≡ words_of asked
+AreFor words (order o) = words ≡ order_words o
+AreFor words (work w) = AreWorkWords words w
+AreFor words (help topic) = words ≡ help_words topic
+AreFor words version = (words ≡ codes "--version" ∷ []) ⊎ (words ≡ codes "-V" ∷ [])
 
 -- what a task asks for
 abbrev pub asked_of : Task → Asked
@@ -77,6 +78,10 @@ asked_of (task.Make family size items) = order (make family.now size.now (texts 
 asked_of (task.Tables path) = order (tables path.now)
 asked_of (task.Run script types) = order (run script.now (texts types.items))
 asked_of (task.Audit history types) = order (audit history.now (texts types.items))
+asked_of (task.Work jobs types workers tries) =
+    work (record { jobs = jobs.now; types = texts types.items; workers = workers; tries = tries; seed = None })
+asked_of (task.Stress jobs types workers tries seed) =
+    work (record { jobs = jobs.now; types = texts types.items; workers = workers; tries = tries; seed = Some seed })
 asked_of (task.Help topic) = help topic
 asked_of task.Version = version
 
@@ -89,9 +94,10 @@ without_dashes (word ∷ rest) =
 -- the words ask for it, where those of a command are whole, and may have one `--` among them
 abbrev pub AskFor : List Text → Asked → Type 0
 AskFor words (order o) = IsWhole o × (without_dashes words ≡ order_words o)
+AskFor words (work w) = IsWholeWork w × AreWorkWords words w
 AskFor words asked = AreFor words asked
 
--- the words are those of the task, in their order
+-- the words are those of the task: its operands in their order, and its options anywhere among them
 abbrev pub AreWordsOf : List Text → Task → Type 0
 AreWordsOf words task = AskFor words (asked_of task)
 
@@ -111,9 +117,14 @@ HasPlainWords (audit history types) = IsPlain history × All IsPlain types
 abbrev pub IsPlainOrder : Order → Type 0
 IsPlainOrder o = IsWhole o × HasPlainWords o
 
+-- the same, of what workers are to do
+abbrev pub IsPlainWork : Work → Type 0
+IsPlainWork w = IsWholeWork w × IsPlain w.jobs × All IsPlain w.types
+
 -- the same, of all that may be asked for
 abbrev pub AsksPlainly : Asked → Type 0
 AsksPlainly (order o) = IsPlainOrder o
+AsksPlainly (work w) = IsPlainWork w
 AsksPlainly asked = ⊤
 
 -- the words ask for neither help nor version

@@ -9,7 +9,8 @@ pub const VERSION: &str = "colock 0.1.0\n";
 
 pub(crate) const PROGRAM: &str = "\
 colock checks and makes conflict tables, by which a store locks the operations
-of shared objects, runs scripts at such a store and audits its histories.
+of shared objects, runs scripts and workers at such a store and audits its
+histories.
 
 Usage: colock COMMAND
 
@@ -19,6 +20,11 @@ Commands:
   tables FILE                Write a type file with its tables made anew.
   run SCRIPT TYPE...         Run a script at a store, and audit its history.
   audit HISTORY TYPE...      Audit a history.
+  work --workers N [--tries K] JOBS TYPE...
+                             Run jobs in threads, and audit their history.
+  stress --seed S --workers N [--tries K] JOBS TYPE...
+                             Run jobs in turns that are drawn, and audit their
+                             history.
   help [COMMAND]             Write this text, or the text on a command.
 
 Options, in place of a command:
@@ -165,6 +171,59 @@ Status: 0 yes, 1 no, 2 a fault of the command line or of a text, or no TYPE at
 a place, 3 a file that can't be read, want of memory, or an output that failed.
 ";
 
+pub(crate) const WORK: &str = "\
+Run jobs at a store, each worker in a thread of its own, write the history, and
+audit that.
+
+Usage: colock work --workers N [--tries K] JOBS TYPE...
+
+JOBS is the path of the jobs, and each TYPE that of a type file. The jobs name
+the type of an object by its place among the TYPEs, from 0. The type of each
+object is checked for its kind, as colock check does.
+
+Options, each at most once, anywhere behind work and before any --:
+  --workers N   How many workers there are, 1 to 16.
+  --tries K     How often a job is tried at most, 1 to 100, and 3 by default.
+
+A job that is answered busy or none is aborted and tried anew.
+
+What is written is as colock run writes it, and then for each job what came of
+it.
+
+Example: colock work --workers 2 transfer.jobs ctr2.type
+
+Status: 0 done, 1 a type that isn't accepted, 2 a fault of the command line or
+of a text, or no TYPE at a place, 3 a file that can't be read, want of memory,
+or an output that failed.
+";
+
+pub(crate) const STRESS: &str = "\
+Run jobs at a store, where the workers take turns that are drawn from a seed,
+write the history, and audit that. The same seed gives the same history.
+
+Usage: colock stress --seed S --workers N [--tries K] JOBS TYPE...
+
+JOBS is the path of the jobs, and each TYPE that of a type file. The jobs name
+the type of an object by its place among the TYPEs, from 0. The type of each
+object is checked for its kind, as colock check does.
+
+Options, each at most once, anywhere behind stress and before any --:
+  --seed S      The seed, 0 to 18446744073709551615.
+  --workers N   How many workers there are, 1 to 16.
+  --tries K     How often a job is tried at most, 1 to 100, and 3 by default.
+
+A job that is answered busy or none is aborted and tried anew.
+
+What is written is as colock run writes it, and then for each job what came of
+it.
+
+Example: colock stress --seed 7 --workers 2 transfer.jobs ctr2.type
+
+Status: 0 done, 1 a type that isn't accepted, 2 a fault of the command line or
+of a text, or no TYPE at a place, 3 a file that can't be read, want of memory,
+or an output that failed.
+";
+
 impl Topic {
     /// The text of help on it, in whole lines.
     pub const fn text(self) -> &'static str
@@ -178,6 +237,8 @@ impl Topic {
             Topic::Tables => TABLES,
             Topic::Run => RUN,
             Topic::Audit => AUDIT,
+            Topic::Work => WORK,
+            Topic::Stress => STRESS,
         }
     }
 }

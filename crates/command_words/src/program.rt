@@ -2,16 +2,16 @@
 ghost use Rattle.std.specs.Prelude.{◌≡◌, IfOk};
 ghost use Rattle.clap.specs.Simple.{App, app_of, with_rule, with_subcommand};
 ghost use Rattle.clap.specs.Walk.{Rule};
-ghost use Rattle.command_words.specs.Program.{IsCommand, IsWord, ReadsKinds, check_app, items_rule, kind_rule, make_app, program, store_app, tables_app, types_rule, wanted_rule};
+ghost use Rattle.command_words.specs.Program.{IsCommand, IsWord, ReadsKinds, check_app, items_rule, kind_rule, make_app, program, seed_rule, store_app, stress_app, tables_app, tries_rule, types_rule, wanted_rule, work_app, workers_app, workers_rule};
 
 use crate::Topic;
-use clap::{Arg, ArgAction, Command};
+use clap::{Arg, ArgAction, Command, value_parser};
 use std::alloc::{AllocError, Global};
 
 /// The words of the kinds of recovery.
 static KINDS: [&str; 2] = ["undo", "intentions"];
 
-/// The program with its five commands.
+/// The program with its seven commands.
 pub(crate) fn program<'a>(alloc: Global) -> Result<Command<'a>, AllocError>
     ensures { (kinds : _) × ReadsKinds kinds × IfOk result (λ command. app_of command ≡ program kinds) }
 {
@@ -26,7 +26,9 @@ pub(crate) fn program<'a>(alloc: Global) -> Result<Command<'a>, AllocError>
     let run = store_command(alloc, "run", Topic::Run, "SCRIPT");
     let with_run = with_command(with_tables, run);
     let audit = store_command(alloc, "audit", Topic::Audit, "HISTORY");
-    with_command(with_run, audit)
+    let with_audit = with_command(with_run, audit);
+    let with_work = with_command(with_audit, work_command(alloc));
+    with_command(with_work, stress_command(alloc))
 }
 
 fn check_command<'a>(alloc: Global) -> Result<Command<'a>, AllocError>
@@ -65,6 +67,32 @@ fn store_command<'a>(
     let bare = Command::new(alloc, name).override_help(topic.text());
     let with_path = with_word(Ok(bare), wanted(alloc, "path", shown));
     with_word(with_path, types_arg(alloc))
+}
+
+fn work_command<'a>(alloc: Global) -> Result<Command<'a>, AllocError>
+    ensures { IfOk result (IsCommand work_app) }
+{
+    workers_command(alloc, "work", Topic::Work)
+}
+
+fn stress_command<'a>(alloc: Global) -> Result<Command<'a>, AllocError>
+    ensures { IfOk result (IsCommand stress_app) }
+{
+    let with_workers = workers_command(alloc, "stress", Topic::Stress);
+    with_word(with_workers, seed_arg(alloc))
+}
+
+/// A command that sets workers to work: jobs, the files of their types, and the options.
+fn workers_command<'a>(
+    alloc: Global,
+    name: &'a str,
+    topic: Topic,
+) -> Result<Command<'a>, AllocError>
+    ensures { IfOk result (IsCommand (workers_app name.entry.now)) }
+{
+    let bare = store_command(alloc, name, topic, "JOBS");
+    let with_workers = with_word(bare, workers_arg(alloc));
+    with_word(with_workers, tries_arg(alloc))
 }
 
 /// A growth that was refused before stays refused.
@@ -116,4 +144,34 @@ fn types_arg<'a>(alloc: Global) -> Arg<'a>
         .required(true)
         .action(ArgAction::Append)
         .value_name("TYPE")
+}
+
+fn workers_arg<'a>(alloc: Global) -> Arg<'a>
+    ensures { IsWord workers_rule result }
+{
+    Arg::new(alloc, "workers")
+        .long("workers")
+        .required(true)
+        .value_name("N")
+        .value_parser(value_parser!(u8).range(1..=16))
+}
+
+fn tries_arg<'a>(alloc: Global) -> Arg<'a>
+    ensures { IsWord tries_rule result }
+{
+    Arg::new(alloc, "tries")
+        .long("tries")
+        .value_name("K")
+        .value_parser(value_parser!(u8).range(1..=100))
+        .default_value("3")
+}
+
+fn seed_arg<'a>(alloc: Global) -> Arg<'a>
+    ensures { IsWord seed_rule result }
+{
+    Arg::new(alloc, "seed")
+        .long("seed")
+        .required(true)
+        .value_name("S")
+        .value_parser(value_parser!(u64))
 }

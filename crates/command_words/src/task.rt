@@ -41,6 +41,30 @@ pub enum Task<'a> {
         /// The paths of the type files, by whose places the history names its objects' types.
         types: Vec<&'a str>,
     },
+    /// What comes of jobs that workers do side by side at a store, and is its history serial?
+    Work {
+        /// The path of the jobs.
+        jobs: &'a str,
+        /// The paths of the type files, by whose places the jobs name their objects' types.
+        types: Vec<&'a str>,
+        /// How many workers there are, from 1 to 16.
+        workers: u8,
+        /// How often a job is tried at most, from 1 to 100.
+        tries: u8,
+    },
+    /// The same, where the workers take turns by a schedule that is drawn?
+    Stress {
+        /// The path of the jobs.
+        jobs: &'a str,
+        /// The paths of the type files, by whose places the jobs name their objects' types.
+        types: Vec<&'a str>,
+        /// How many workers there are, from 1 to 16.
+        workers: u8,
+        /// How often a job is tried at most, from 1 to 100.
+        tries: u8,
+        /// The seed of the schedule.
+        seed: u64,
+    },
     /// How is the program used, or one of its commands?
     Help {
         /// The program or the command.
@@ -65,6 +89,10 @@ pub enum Topic {
     Run,
     /// The command `audit`.
     Audit,
+    /// The command `work`.
+    Work,
+    /// The command `stress`.
+    Stress,
 }
 
 /// Why the words name no task.

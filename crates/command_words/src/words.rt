@@ -1,12 +1,13 @@
 //! The words of the command line.
-ghost use Rattle.std.specs.Prelude.{◌≡◌, List, IfOk, IfErr, IfNone, IfSome};
-ghost use Rattle.clap.specs.Words.{kind_of};
+ghost use Rattle.std.specs.Prelude.{◌≡◌, ◌<◌, ℕ, List, None, IfOk, IfErr, IfNone, IfSome, IsSome};
+ghost use Rattle.clap.specs.Words.{found_of, kind_of, rows_of};
 ghost use Rattle.clap.specs.Walk.{texts};
 ghost use Rattle.clap.specs.declared.parser.matches.ArgMatches.{ArgMatches};
-ghost use Rattle.command_words.specs.Program.{AskSomething, Asks, HasRows, HasStoreRows, Parses};
+ghost use Rattle.command_words.specs.Program.{AskSomething, Asks, HasNumber, HasRows, HasStoreRows, HasWork, Parses};
 ghost use Rattle.type_table.specs.declared.kind.Kind.{Kind};
-ghost use Rattle.command_words.specs.Words.{AreForNoText, AreNoTask, AreWordsOf, OnUsage, Order, Text, asked_of};
+ghost use Rattle.command_words.specs.Words.{AreForNoText, AreNoTask, AreWordsOf, Asked, OnUsage, Text, asked_of};
 ghost use Rattle.command_words.specs.Words as asked;
+ghost use Rattle.command_words.specs.Lines.{Work};
 
 use crate::program::program;
 use crate::{Task, Topic, WordFault};
@@ -16,9 +17,10 @@ use std::alloc::{AllocError, Global};
 use type_table::Kind;
 
 /// Reads the words after the program's name. At `Ok` they are the task's, and those of a command may
-/// have one `--` among them. A fault of the command line comes of no words of a task, where none of
-/// the paths, FAMILY, SIZE and the ITEMs begins with a hyphen; `--help` among the words is such a
-/// fault. Which of the two faults comes is `clap`'s.
+/// have one `--` among them. The options of `work` and `stress` stand anywhere before it, in either
+/// form. A fault of the command line comes of no words of a task, where none of the paths, FAMILY,
+/// SIZE and the ITEMs begins with a hyphen; `--help` among the words is such a fault. Which of the
+/// two faults comes is `clap`'s.
 pub fn read_words<'a>(alloc: Global, words: &'a [&'a str]) -> Result<Task<'a>, WordFault>
     ensures taken { IfOk result (AreWordsOf (texts words.now)) }
     ensures refused { IfErr result (λ fault. OnUsage fault (AreNoTask (texts words.now))) }
@@ -41,6 +43,8 @@ fn text_task<'a>(words: &[&str]) -> Option<Task<'a>>
         ["help", "tables"] => Some(help_on(Topic::Tables)),
         ["help", "run"] => Some(help_on(Topic::Run)),
         ["help", "audit"] => Some(help_on(Topic::Audit)),
+        ["help", "work"] => Some(help_on(Topic::Work)),
+        ["help", "stress"] => Some(help_on(Topic::Stress)),
         ["--version"] | ["-V"] => Some(Task::Version),
         _ => None,
     }
@@ -77,7 +81,7 @@ fn parsed<'a>(alloc: Global, words: &'a [&'a str]) -> Result<ArgMatches<'a>, Err
 /// The task of matches that are those of a subcommand.
 fn task_of<'a>(alloc: Global, matches: &ArgMatches<'a>) -> Result<Task<'a>, AllocError>
     requires { AskSomething matches.now }
-    ensures { (o : Order) → Asks matches.now o → IfOk result (λ task. asked_of task ≡ asked.order o) }
+    ensures { (a : Asked) → Asks matches.now a → IfOk result (λ task. asked_of task ≡ a) }
 {
     let (name, values) = matches.subcommand().unwrap();
     match name {
@@ -85,7 +89,9 @@ fn task_of<'a>(alloc: Global, matches: &ArgMatches<'a>) -> Result<Task<'a>, Allo
         "make" => make_task(alloc, values),
         "tables" => Ok(tables_task(values)),
         "run" => run_task(alloc, values),
-        _ => audit_task(alloc, values),
+        "audit" => audit_task(alloc, values),
+        "work" => work_task(alloc, values),
+        _ => stress_task(alloc, values),
     }
 }
 
@@ -140,13 +146,48 @@ fn audit_task<'a>(alloc: Global, values: &ArgMatches<'a>) -> Result<Task<'a>, Al
     Ok(Task::Audit { history, types })
 }
 
+fn work_task<'a>(alloc: Global, values: &ArgMatches<'a>) -> Result<Task<'a>, AllocError>
+    requires { (w : Work) × (w.seed ≡ None) × HasWork values.now w }
+    ensures { (w : Work) → w.seed ≡ None → HasWork values.now w → IfOk result (λ task. asked_of task ≡ asked.work w) }
+{
+    let (jobs, types) = store_words(alloc, values)?;
+    Ok(Task::Work {
+        jobs,
+        types,
+        workers: small_number(values, "workers"),
+        tries: small_number(values, "tries"),
+    })
+}
+
+fn stress_task<'a>(alloc: Global, values: &ArgMatches<'a>) -> Result<Task<'a>, AllocError>
+    requires { (w : Work) × IsSome w.seed × HasWork values.now w }
+    ensures { (w : Work) → IsSome w.seed → HasWork values.now w → IfOk result (λ task. asked_of task ≡ asked.work w) }
+{
+    let (jobs, types) = store_words(alloc, values)?;
+    Ok(Task::Stress {
+        jobs,
+        types,
+        workers: small_number(values, "workers"),
+        tries: small_number(values, "tries"),
+        seed: values.get_one("seed").unwrap(),
+    })
+}
+
+/// The number of an option below 256.
+fn small_number(values: &ArgMatches<'_>, id: &str) -> u8
+    requires { (n : ℕ) × (n < 256) × HasNumber (rows_of (found_of values.now)) id.now n }
+    ensures { (n : ℕ) → HasNumber (rows_of (found_of values.now)) id.now n → result ≡ n }
+{
+    values.get_one(id).unwrap()
+}
+
 /// The words of a command over a store's objects: the first file, and those of the types.
 fn store_words<'a>(
     alloc: Global,
     values: &ArgMatches<'a>,
 ) -> Result<(&'a str, Vec<&'a str>), AllocError>
-    requires { (path : Text) × (types : List Text) × HasStoreRows values.now path types }
-    ensures { (path : Text) (types : List Text) → HasStoreRows values.now path types
+    requires { (path : Text) × (types : List Text) × HasStoreRows (rows_of (found_of values.now)) path types }
+    ensures { (path : Text) (types : List Text) → HasStoreRows (rows_of (found_of values.now)) path types
         → IfOk result (λ words. (words.0.now ≡ path) × (texts words.1.items ≡ types)) }
 {
     let types = values.get_strs("types").unwrap_or(&[]);

@@ -1,5 +1,5 @@
 ghost use Rattle.std.specs.Prelude.{◌≡◌, None};
-ghost use Rattle.commands.specs.Next.{OnBoxes, TellsNext, WritesNext};
+ghost use Rattle.commands.specs.Next.{OnPlan, TellsNext, WritesNext};
 
 use crate::next::Next;
 use command_files::{Source, write_text};
@@ -9,9 +9,10 @@ use outputs::Out;
 use std::thread::Threads;
 use store_files::plan_run;
 use type_commands::{check_file, make_family, make_tables_of};
+use work_files::plan_work;
 
 /// Does a task: reads its files, writes its answer to one output and its fault to the other. Of a run
-/// it makes the plan, and both outputs are as they were.
+/// and of workers' jobs it makes the plan, and both outputs are as they were.
 ///
 /// The status is 0 for a yes and where a text was written, 1 for a no, 2 where the text of a file has
 /// a fault, an object has no type or nothing can be made, and 3 where a file can't be read, memory was
@@ -27,7 +28,7 @@ pub fn prepare<R: AllocGlobal + Threads + Sync, S: Source, W: Out, E: Out>(
     requires err_takes { E.fault err.old ≡ None }
     ensures tells { TellsNext (S.holds source.old) task.entry result (W.taken out.old) (W.taken out.new) }
     ensures writes { WritesNext task.entry result (W.taken out.old) (W.taken out.new) }
-    ensures quiet { OnBoxes result ((W.fault out.new ≡ None) × (E.fault err.new ≡ None)) }
+    ensures quiet { OnPlan result ((W.fault out.new ≡ None) × (E.fault err.new ≡ None)) }
 {
     let alloc = rt.alloc();
     let status = match task {
@@ -40,6 +41,37 @@ pub fn prepare<R: AllocGlobal + Threads + Sync, S: Source, W: Out, E: Out>(
         Task::Tables { path } => make_tables_of(alloc, path, source, out, err),
         Task::Run { script, types } => match plan_run(rt, script, &types, source, out, err) {
             Ok(plan) => return Next::Boxes(plan),
+            Err(status) => status,
+        },
+        Task::Work {
+            jobs,
+            types,
+            workers,
+            tries,
+        } => match plan_work(rt, jobs, &types, workers, source, out, err) {
+            Ok(plan) => {
+                return Next::Workers {
+                    plan,
+                    tries,
+                    seed: None,
+                };
+            }
+            Err(status) => status,
+        },
+        Task::Stress {
+            jobs,
+            types,
+            workers,
+            tries,
+            seed,
+        } => match plan_work(rt, jobs, &types, workers, source, out, err) {
+            Ok(plan) => {
+                return Next::Workers {
+                    plan,
+                    tries,
+                    seed: Some(seed),
+                };
+            }
             Err(status) => status,
         },
         Task::Audit { history, types } => audit_history(alloc, history, &types, source, out, err),

@@ -4,9 +4,11 @@
 
 mod jobs;
 mod kept;
+mod laws;
 mod write;
 
 pub use jobs::write_jobs;
+pub use laws::work_is_read;
 pub use outputs::{Out, OutFault};
 pub use write::write_work;
 

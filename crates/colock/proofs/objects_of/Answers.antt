@@ -6,11 +6,11 @@ use Rattle.colock.proofs.objects_of.Goals as goal
 
 pub loop-checked-preserved : goal.loop-checked-preserved
 loop-checked-preserved c =
-    let types = c.args.plan.now.types.items in
+    let types = c.args.types.now in
     let i = c.loop-checked.checked-index in
     let item = c.checked-item.result in
     let more : take (i + 1) types ≡ take i types ++ item ∷ [] =
-    take_more types i item (omega (arith, c.loop-checked-test.true, ap length c.deref-checked-items.ensures.value)) ∙ ap (λ x. take i types ++ x ∷ []) (sym (c.checked-item.is ∙ ap (λ xs. get_or xs i item) c.deref-checked-items.ensures.value)) in
+    take_more types i item (omega (arith, c.loop-checked-test.true)) ∙ ap (λ x. take i types ++ x ∷ []) (sym c.checked-item.is) in
     record {
       room = omega (arith, c.loop-checked.invariant.room, c.push_reserved.ensures.capacity);
       count = omega (arith, c.loop-checked.invariant.count, c.push_reserved.ensures.len);

@@ -8,8 +8,8 @@ use Rattle.colock.proofs.objects_of.Given as goal
 
 abbrev pub invariant-loop-checked : goal.invariant-loop-checked
 invariant-loop-checked l = record {
-  room : length l.plan.types.items ≤ vec_capacity l.objects;
+  room : length l.types ≤ vec_capacity l.objects;
   count : vec_len l.objects ≡ l.checked-index;
   fresh : AreFresh (map meaning_of l.objects.items);
-  types : types_of (map meaning_of l.objects.items) ≡ map value_of (take l.checked-index l.plan.types.items);
+  types : types_of (map meaning_of l.objects.items) ≡ map value_of (take l.checked-index l.types);
 }

@@ -10,6 +10,7 @@ mod examples;
 mod faults;
 mod first_faults;
 mod in_place;
+mod jobs;
 mod many;
 mod memory;
 mod rollbacks;
@@ -25,9 +26,12 @@ use outputs::Sink;
 use run_commands::perform;
 use std::alloc::Global;
 use std::process::Abort;
+use std::sync::Wait;
 use std::test::Fail;
 use std::thread::Threads;
 use store_files::Plan;
+use work_commands::{Schedule, perform_work};
+use work_files::WorkPlan;
 
 /// A path, and the text of the file there.
 type File<'a> = (&'a str, &'a str);
@@ -65,16 +69,16 @@ impl Played {
     }
 
     /// Whether it is what may come where memory was refused: it is said, behind whole lines; or a
-    /// command of a script was refused for it.
+    /// command of a script, or a job, was refused for it.
     fn wants_memory(&self) -> bool {
         let whole = self.out.last().is_none_or(|byte| *byte == b'\n');
         let said = self.status == 3 && self.err.as_slice() == NO_MEMORY.as_bytes();
-        said && whole || self.refuses_a_command()
+        said && whole || self.refuses_a_part()
     }
 
-    fn refuses_a_command(&self) -> bool {
+    fn refuses_a_part(&self) -> bool {
         let text = str::from_utf8(&self.out).unwrap_or("");
-        self.status == 0 && self.err.is_empty() && text.contains("\n# refused 6 NoMemory\n")
+        self.status == 0 && self.err.is_empty() && text.contains(" refused 6 NoMemory\n")
     }
 }
 
@@ -112,7 +116,7 @@ fn play_plan(alloc: Global, plan: Plan, out: Held, err: &mut Held) -> (u8, Vec<u
     requires out_takes { sink_fault out ≡ None }
     requires err_takes { sink_fault err.old ≡ None }
 {
-    let Ok(objects) = objects_of(alloc, &plan) else {
+    let Ok(objects) = objects_of(alloc, &plan.types) else {
         return (out_of_memory(err), out.into_inner().held);
     };
     let Ok(mut gathered) = Gathered::new(alloc, out) else {
@@ -122,8 +126,34 @@ fn play_plan(alloc: Global, plan: Plan, out: Held, err: &mut Held) -> (u8, Vec<u
     (status, gathered.into_inner().into_inner().held)
 }
 
+/// Does the jobs of a plan, as the program does, and tells the status and what was written.
+fn play_work<R: AllocGlobal + Threads + Wait + Sync>(
+    rt: &R,
+    plan: WorkPlan,
+    tries: u8,
+    seed: Option<u64>,
+    out: Held,
+    err: &mut Held,
+) -> (u8, Vec<u8>)
+    requires out_takes { sink_fault out ≡ None }
+    requires err_takes { sink_fault err.old ≡ None }
+{
+    let schedule = match seed {
+        Some(seed) => Schedule::Drawn { seed },
+        None => Schedule::SideBySide,
+    };
+    let Ok(objects) = objects_of(rt.alloc(), &plan.types) else {
+        return (out_of_memory(err), out.into_inner().held);
+    };
+    let Ok(mut gathered) = Gathered::new(rt.alloc(), out) else {
+        return (out_of_memory(err), Vec::new(rt.alloc()));
+    };
+    let status = perform_work(rt, plan, tries, schedule, objects, &mut gathered, err);
+    (status, gathered.into_inner().into_inner().held)
+}
+
 /// Does a task, as the program does.
-fn play_task<R: AllocGlobal + Threads + Sync>(
+fn play_task<R: AllocGlobal + Threads + Wait + Sync>(
     rt: &R,
     task: Task<'_>,
     files: &[File<'_>],
@@ -140,11 +170,12 @@ fn play_task<R: AllocGlobal + Threads + Sync>(
     match prepare(rt, task, &mut source, &mut out, err) {
         Next::Done(status) => (status, out.into_inner().held),
         Next::Boxes(plan) => play_plan(rt.alloc(), plan, out, err),
+        Next::Workers { plan, tries, seed } => play_work(rt, plan, tries, seed, out, err),
     }
 }
 
 /// What the program does with a case's words over its files, with these two outputs.
-fn play_on<R: AllocGlobal + Threads + Sync>(
+fn play_on<R: AllocGlobal + Threads + Wait + Sync>(
     rt: &R,
     case: &Case<'_>,
     out: Held,
@@ -162,7 +193,7 @@ fn play_on<R: AllocGlobal + Threads + Sync>(
 }
 
 /// The same with outputs that take all.
-fn play<R: AllocGlobal + Threads + Sync>(rt: &R, case: &Case<'_>) -> Result<Played, Fail> {
+fn play<R: AllocGlobal + Threads + Wait + Sync>(rt: &R, case: &Case<'_>) -> Result<Played, Fail> {
     let out = held_output(rt.alloc(), usize::MAX, AtEnd::Fails)?;
     let err = held_output(rt.alloc(), usize::MAX, AtEnd::Fails)?;
     Ok(play_on(rt, case, out, err))
@@ -170,7 +201,10 @@ fn play<R: AllocGlobal + Threads + Sync>(rt: &R, case: &Case<'_>) -> Result<Play
 
 /// That the program does what a case says. Where one allocation is refused, that is said, and the next
 /// try has it.
-fn plays<R: Abort + AllocGlobal + Threads + Sync>(rt: &R, case: &Case<'_>) -> Result<(), Fail> {
+fn plays<R: Abort + AllocGlobal + Threads + Wait + Sync>(
+    rt: &R,
+    case: &Case<'_>,
+) -> Result<(), Fail> {
     let first = play(rt, case)?;
     if first.is_of(case) {
         return Ok(());
@@ -180,7 +214,7 @@ fn plays<R: Abort + AllocGlobal + Threads + Sync>(rt: &R, case: &Case<'_>) -> Re
     Ok(())
 }
 
-fn all_play<R: Abort + AllocGlobal + Threads + Sync>(
+fn all_play<R: Abort + AllocGlobal + Threads + Wait + Sync>(
     rt: &R,
     cases: &[Case<'_>],
 ) -> Result<(), Fail> {

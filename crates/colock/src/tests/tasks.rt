@@ -56,7 +56,7 @@ fn run<R: AllocGlobal + Threads + Sync, W: Out>(
 fn status_of(next: &Next) -> u8 {
     match next {
         Next::Done(status) => *status,
-        Next::Boxes(_) => u8::MAX,
+        Next::Boxes(_) | Next::Workers { .. } => u8::MAX,
     }
 }
 
@@ -259,6 +259,8 @@ fn writes_its_own_texts(rt: HostRuntime) {
         Topic::Tables,
         Topic::Run,
         Topic::Audit,
+        Topic::Work,
+        Topic::Stress,
     ] {
         writes(&rt, Task::Help { topic }, b"", topic.text().as_bytes(), 0);
     }

@@ -35,6 +35,7 @@ fn has_parts(task: &Task<'_>, parts: &Parts) -> bool {
         Task::Audit { history, types } => {
             (command == "audit") & (first == *history) & (types.as_slice() == rest)
         }
+        Task::Work { .. } | Task::Stress { .. } => false,
         Task::Help { topic } => (command == "help") & (first == word_of(*topic)),
         Task::Version => (command == "version") & (first == VERSION),
     }
@@ -48,11 +49,13 @@ fn word_of(topic: Topic) -> &'static str {
         Topic::Tables => "tables",
         Topic::Run => "run",
         Topic::Audit => "audit",
+        Topic::Work => "work",
+        Topic::Stress => "stress",
     }
 }
 
 /// Words, and the task that they ask for.
-static TASKS: [(&[&str], Parts); 21] = [
+static TASKS: [(&[&str], Parts); 23] = [
     (
         &["check", "undo", "ctr2.type"],
         ("check", "undo", "ctr2.type", &[]),
@@ -106,6 +109,8 @@ static TASKS: [(&[&str], Parts); 21] = [
     (&["help", "tables"], ("help", "tables", "", &[])),
     (&["help", "run"], ("help", "run", "", &[])),
     (&["help", "audit"], ("help", "audit", "", &[])),
+    (&["help", "work"], ("help", "work", "", &[])),
+    (&["help", "stress"], ("help", "stress", "", &[])),
     (&["--version"], ("version", "colock 0.1.0\n", "", &[])),
     (&["-V"], ("version", "colock 0.1.0\n", "", &[])),
 ];
@@ -128,6 +133,257 @@ fn ask_for_tasks(rt: &(impl Abort + AllocGlobal), rows: &[(&[&str], Parts)]) {
 #[test]
 fn reads_tasks(rt: HostRuntime) {
     ask_for_tasks(&rt, &TASKS);
+}
+
+/// What workers are to do: the path of the jobs and those of the types, how many workers there are,
+/// how often a job is tried, and any seed.
+type WorkParts = (&'static str, &'static [&'static str], u8, u8, Option<u64>);
+
+fn has_work(task: &Task<'_>, parts: &WorkParts) -> bool {
+    let (path, paths, most_workers, most_tries, drawn) = *parts;
+    match task {
+        Task::Work {
+            jobs,
+            types,
+            workers,
+            tries,
+        } => {
+            (path == *jobs)
+                & (types.as_slice() == paths)
+                & (most_workers == *workers)
+                & (most_tries == *tries)
+                & drawn.is_none()
+        }
+        Task::Stress {
+            jobs,
+            types,
+            workers,
+            tries,
+            seed,
+        } => {
+            (path == *jobs)
+                & (types.as_slice() == paths)
+                & (most_workers == *workers)
+                & (most_tries == *tries)
+                & (drawn == Some(*seed))
+        }
+        _ => false,
+    }
+}
+
+/// Words, and what workers are to do by them.
+static WORKS: [(&[&str], WorkParts); 12] = [
+    (
+        &["work", "--workers", "2", "a.jobs", "a.type"],
+        ("a.jobs", &["a.type"], 2, 3, None),
+    ),
+    (
+        &[
+            "work",
+            "a.jobs",
+            "--workers=16",
+            "a.type",
+            "--tries",
+            "100",
+            "b.type",
+        ],
+        ("a.jobs", &["a.type", "b.type"], 16, 100, None),
+    ),
+    (
+        &["work", "a.jobs", "a.type", "--tries=1", "--workers", "1"],
+        ("a.jobs", &["a.type"], 1, 1, None),
+    ),
+    (
+        &["work", "--workers", "+2", "--tries=005", "2", "3"],
+        ("2", &["3"], 2, 5, None),
+    ),
+    (
+        &["work", "a.jobs", "--workers=2", "--", "-a", "--", "--tries"],
+        ("a.jobs", &["-a", "--", "--tries"], 2, 3, None),
+    ),
+    (
+        &["work", "-", "--workers", "2", "-"],
+        ("-", &["-"], 2, 3, None),
+    ),
+    (
+        &[
+            "stress",
+            "--seed",
+            "7",
+            "--workers",
+            "2",
+            "a.jobs",
+            "a.type",
+        ],
+        ("a.jobs", &["a.type"], 2, 3, Some(7)),
+    ),
+    (
+        &["stress", "a.jobs", "a.type", "--workers=2", "--seed=0"],
+        ("a.jobs", &["a.type"], 2, 3, Some(0)),
+    ),
+    (
+        &[
+            "stress",
+            "--tries",
+            "9",
+            "--seed",
+            "18446744073709551615",
+            "--workers",
+            "3",
+            "--",
+            "-j",
+            "-t",
+        ],
+        ("-j", &["-t"], 3, 9, Some(18446744073709551615)),
+    ),
+    (
+        &[
+            "stress",
+            "a.jobs",
+            "--seed",
+            "+4294967296",
+            "a.type",
+            "--workers",
+            "4",
+        ],
+        ("a.jobs", &["a.type"], 4, 3, Some(4294967296)),
+    ),
+    (
+        &[
+            "stress",
+            "--workers",
+            "2",
+            "stress",
+            "work",
+            "--seed=1",
+            "help",
+        ],
+        ("stress", &["work", "help"], 2, 3, Some(1)),
+    ),
+    (
+        &[
+            "work",
+            "--tries",
+            "3",
+            "--workers",
+            "10",
+            "a.jobs",
+            "a.type",
+            "a.type",
+        ],
+        ("a.jobs", &["a.type", "a.type"], 10, 3, None),
+    ),
+];
+
+/// Whether the words ask for this of workers.
+fn asks_workers(alloc: Global, words: &[&str], parts: &WorkParts) -> bool {
+    match read_words(alloc, words) {
+        Ok(task) => has_work(&task, parts),
+        Err(_) => false,
+    }
+}
+
+/// That each of these words ask for theirs of workers.
+fn ask_workers(rt: &(impl Abort + AllocGlobal), rows: &[(&[&str], WorkParts)]) {
+    for (words, parts) in rows {
+        assert!(rt; asks_workers(rt.alloc(), words, parts));
+    }
+}
+
+#[test]
+fn reads_what_workers_are_to_do(rt: HostRuntime) {
+    ask_workers(&rt, &WORKS);
+}
+
+/// Words that ask for nothing of workers.
+static NO_WORK: [&[&str]; 30] = [
+    &["work"],
+    &["work", "a.jobs", "a.type"],
+    &["work", "--workers", "2"],
+    &["work", "--workers", "2", "a.jobs"],
+    &["work", "--workers", "0", "a.jobs", "a.type"],
+    &["work", "--workers", "17", "a.jobs", "a.type"],
+    &["work", "--workers", "258", "a.jobs", "a.type"],
+    &["work", "--workers", "-2", "a.jobs", "a.type"],
+    &["work", "--workers=-2", "a.jobs", "a.type"],
+    &["work", "--workers", "two", "a.jobs", "a.type"],
+    &["work", "--workers", "", "a.jobs", "a.type"],
+    &["work", "--workers=", "a.jobs", "a.type"],
+    &["work", "a.jobs", "a.type", "--workers"],
+    &["work", "--workers", "--", "2", "a.jobs", "a.type"],
+    &["work", "--workers", "--tries", "3", "a.jobs", "a.type"],
+    &[
+        "work",
+        "--workers",
+        "2",
+        "--workers",
+        "2",
+        "a.jobs",
+        "a.type",
+    ],
+    &["work", "--workers", "2", "--workers=2", "a.jobs", "a.type"],
+    &["work", "--workers", "2", "--tries", "0", "a.jobs", "a.type"],
+    &[
+        "work",
+        "--workers",
+        "2",
+        "--tries",
+        "101",
+        "a.jobs",
+        "a.type",
+    ],
+    &[
+        "work",
+        "--tries",
+        "2",
+        "--tries",
+        "2",
+        "--workers",
+        "2",
+        "a.jobs",
+        "a.type",
+    ],
+    &["work", "--seed", "2", "--workers", "2", "a.jobs", "a.type"],
+    &["work", "--work", "2", "a.jobs", "a.type"],
+    &["work", "-w", "2", "a.jobs", "a.type"],
+    &["--workers", "2", "work", "a.jobs", "a.type"],
+    &["stress", "--workers", "2", "a.jobs", "a.type"],
+    &["stress", "--seed", "2", "a.jobs", "a.type"],
+    &[
+        "stress",
+        "--seed",
+        "18446744073709551616",
+        "--workers",
+        "2",
+        "a.jobs",
+        "a.type",
+    ],
+    &[
+        "stress",
+        "--seed",
+        "-1",
+        "--workers",
+        "2",
+        "a.jobs",
+        "a.type",
+    ],
+    &["stress", "--seed=-1", "--workers", "2", "a.jobs", "a.type"],
+    &[
+        "stress",
+        "--seed",
+        "2",
+        "--seed",
+        "2",
+        "--workers",
+        "2",
+        "a.jobs",
+        "a.type",
+    ],
+];
+
+#[test]
+fn refuses_other_words_of_workers(rt: HostRuntime) {
+    are_refused(&rt, &NO_WORK);
 }
 
 /// Words that ask for no task.
@@ -194,7 +450,7 @@ fn usage_names_what_is_missing(rt: HostRuntime) {
 }
 
 /// Options that ask for a text of help.
-static HELP: [(&[&str], Topic); 8] = [
+static HELP: [(&[&str], Topic); 12] = [
     (&["--help"], Topic::Program),
     (&["-h"], Topic::Program),
     (&["check", "--help"], Topic::Check),
@@ -203,6 +459,10 @@ static HELP: [(&[&str], Topic); 8] = [
     (&["tables", "-h"], Topic::Tables),
     (&["run", "-h"], Topic::Run),
     (&["audit", "--help"], Topic::Audit),
+    (&["work", "--help"], Topic::Work),
+    (&["work", "--workers", "2", "-h"], Topic::Work),
+    (&["stress", "-h"], Topic::Stress),
+    (&["stress", "--seed=2", "a.jobs", "--help"], Topic::Stress),
 ];
 
 /// That each of these words are answered with their text.

@@ -9,6 +9,7 @@ use super::{Case, NO_MEMORY, Played, checks, play};
 use crate::tests::stores::folds::{RunText, folded};
 use std::alloc::Global;
 use std::process::Abort;
+use std::sync::Wait;
 use std::test::Fail;
 use std::thread::Threads;
 
@@ -34,7 +35,7 @@ fn is_folded(played: &Played, fold: &RunText) -> bool {
 
 /// That a run does what its fold does. Where that isn't what its case says, memory was refused, and
 /// the next try has it.
-fn run_folds<R: Abort + AllocGlobal + Threads + Sync>(
+fn run_folds<R: Abort + AllocGlobal + Threads + Wait + Sync>(
     rt: &R,
     case: &Case<'static>,
 ) -> Result<(), Fail> {
@@ -47,7 +48,7 @@ fn run_folds<R: Abort + AllocGlobal + Threads + Sync>(
 
 /// That another task does what its case says, or writes nothing and says that memory was refused, and
 /// the next try has it.
-fn says_or_wants<R: Abort + AllocGlobal + Threads + Sync>(
+fn says_or_wants<R: Abort + AllocGlobal + Threads + Wait + Sync>(
     rt: &R,
     case: &Case<'static>,
 ) -> Result<(), Fail> {

@@ -7,6 +7,7 @@ use super::rollbacks::BOTH_KINDS;
 use super::{Case, held_output, play_on};
 use crate::tests::sinks::AtEnd;
 use std::process::Abort;
+use std::sync::Wait;
 use std::test::Fail;
 use std::thread::Threads;
 
@@ -14,7 +15,7 @@ use std::thread::Threads;
 static CASES: [Case<'static>; 3] = [BOTH_KINDS, OWN_OUTPUT, INITIAL_OUTSIDE];
 
 /// That a case stops where the output has room for so many bytes.
-fn stops_at<R: Abort + AllocGlobal + Threads + Sync>(
+fn stops_at<R: Abort + AllocGlobal + Threads + Wait + Sync>(
     rt: &R,
     case: &Case<'_>,
     room: usize,
@@ -27,7 +28,10 @@ fn stops_at<R: Abort + AllocGlobal + Threads + Sync>(
     Ok(())
 }
 
-fn stops<R: Abort + AllocGlobal + Threads + Sync>(rt: &R, case: &Case<'_>) -> Result<(), Fail> {
+fn stops<R: Abort + AllocGlobal + Threads + Wait + Sync>(
+    rt: &R,
+    case: &Case<'_>,
+) -> Result<(), Fail> {
     for room in 0..case.out.len() {
         stops_at(rt, case, room, AtEnd::Fails)?;
         stops_at(rt, case, room, AtEnd::TakesNothing)?;
@@ -36,7 +40,7 @@ fn stops<R: Abort + AllocGlobal + Threads + Sync>(rt: &R, case: &Case<'_>) -> Re
 }
 
 /// That a case has its status where standard error has room for so many bytes.
-fn ends_alike<R: Abort + AllocGlobal + Threads + Sync>(
+fn ends_alike<R: Abort + AllocGlobal + Threads + Wait + Sync>(
     rt: &R,
     case: &Case<'_>,
     room: usize,

@@ -4,6 +4,7 @@
 use super::{Case, all_cases, plays};
 use crate::tests::texts_read::{Reader, beginnings_have_faults};
 use std::process::Abort;
+use std::sync::Wait;
 use std::test::Fail;
 use std::thread::Threads;
 
@@ -13,7 +14,7 @@ fn is_run(case: &Case<'_>) -> bool {
 }
 
 /// That the audit of what a run wrote has the lines that the run wrote of its own audit.
-fn is_audited<R: Abort + AllocGlobal + Threads + Sync>(
+fn is_audited<R: Abort + AllocGlobal + Threads + Wait + Sync>(
     rt: &R,
     case: &Case<'_>,
 ) -> Result<(), Fail> {
@@ -63,7 +64,7 @@ fn beginnings_of(rt: &(impl Abort + AllocGlobal), case: &Case<'_>) {
 }
 
 /// The same of all cases whose text has no fault, and that what each run wrote is a history.
-fn have_texts<R: Abort + AllocGlobal + Threads + Sync>(
+fn have_texts<R: Abort + AllocGlobal + Threads + Wait + Sync>(
     rt: &R,
     cases: &[Case<'_>],
 ) -> Result<(), Fail> {

@@ -1,0 +1,15 @@
+use Rattle.std.proofs.Common.{ap₂, List}
+use Rattle.command_words.specs.Words.{Text}
+use Rattle.command_words.specs.Words as asked
+use Rattle.command_words.proofs.ParseLemmas.{store_read}
+use Rattle.command_words.proofs.words.audit_task.Goals as goal
+
+pub store_words-requires : goal.store_words-requires
+store_words-requires c =
+    let has = c.requires in
+    (has.0, has.1, store_read c.args.values.now has.0 has.1 has.2)
+
+pub returns : goal.returns
+returns c history types has =
+    let read = c.in_ok-history.ensures history types (store_read c.args.values.now history types has) in
+    ap₂ (λ (p : Text) (ts : List Text). asked.order (asked.audit p ts)) read.0 read.1

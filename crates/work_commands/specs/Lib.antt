@@ -1,0 +1,3 @@
+pub mod Tells
+pub mod Performs
+pub mod Examples

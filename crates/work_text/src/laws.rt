@@ -1,0 +1,16 @@
+//! A law of the text of what workers did: a function that does nothing, whose contract is the law. It
+//! calls the laws on which it depends.
+
+ghost use Rattle.work_text.specs.Reading.{WorkIsRead};
+
+use history_text::canonical_is_read;
+use line_text::numbers_read_again;
+
+/// What workers did is read from its text as a history: behind that of the history all lines are
+/// comments.
+pub fn work_is_read()
+    ensures { WorkIsRead }
+{
+    canonical_is_read();
+    numbers_read_again();
+}

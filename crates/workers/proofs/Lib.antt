@@ -1,0 +1,17 @@
+pub mod Lists
+pub mod Events
+pub mod Openings
+pub mod Follows
+pub mod Causes
+pub mod Turned
+pub mod Owners
+pub mod Own
+pub mod Told
+pub mod Kept
+pub mod Endings
+pub mod Taking
+pub mod Doings
+pub mod Reported
+pub mod Unstarted
+pub mod Teams
+pub mod Examples

@@ -1,0 +1,5 @@
+pub mod Events
+pub mod Standing
+pub mod Worked
+pub mod Doing
+pub mod Examples

@@ -1,0 +1,133 @@
+//! Workers that run side by side, each in a thread of its own.
+
+ghost use Rattle.std.specs.Prelude.{◌≡◌, map, length, true, None, [], ◌≤◌, vec_capacity};
+ghost use Rattle.jobs_text.specs.Jobs.{calls_in};
+ghost use Rattle.workers.specs.Doing.{HaveEnded};
+ghost use Rattle.workers.specs.Worked.{DidNothing, Works, are_workers, are_tries};
+
+use crate::fault::WorkFault;
+use crate::floor::{Floor, Opened};
+use crate::gate::Gate;
+use crate::team::{Team, team_of};
+use jobs_text::Job;
+use object_trait::Recovery;
+use std::marker::Brand;
+use std::sync::{Mutex, Wait};
+use std::thread;
+use std::thread::Threads;
+use store::Store;
+use worker_turns::Report;
+
+/// Runs each list of jobs by a worker of its own, in a thread: the first list by worker 0. A job is the
+/// begin of a transaction, its calls in order, and the commit, each as one call of the store under one
+/// lock. A try in which a call is answered `Busy` or `None` is aborted and begun anew, up to so many
+/// tries in all.
+///
+/// The reports tell what each worker was told. `BadWorkers` and `BadTries` come where the lists aren't
+/// 1 to 16 and the tries not 1 to 100, in this order, and nothing was done. `NoMemory` comes where
+/// memory or the start of a thread was refused: either nothing was done, or the workers before that
+/// one did all their jobs, and the others none.
+pub fn run_workers<R: Recovery + Send, G: Gate, H: AllocGlobal + Threads + Wait + Sync>(
+    rt: &H,
+    store: Store<R>,
+    jobs: Vec<Vec<Job>>,
+    tries: u8,
+    gate: &G,
+) -> (Store<R>, Vec<Report>, Option<WorkFault>)
+    ensures { Works (record { store = store; jobs = map calls_in jobs.items; tries = tries }) result.2 result.0 result.1.items }
+{
+    run_opened::<R, G, H, Brand>(rt, store, jobs, tries, gate)
+}
+
+/// The same by an opening, which the floor's type has.
+fn run_opened<
+    R: Recovery + Send,
+    G: Gate,
+    H: AllocGlobal + Threads + Wait + Sync,
+    S: Opened + Send,
+>(
+    rt: &H,
+    store: Store<R>,
+    jobs: Vec<Vec<Job>>,
+    tries: u8,
+    gate: &G,
+) -> (Store<R>, Vec<Report>, Option<WorkFault>)
+    requires { S.opening ≡ record { store = store; jobs = map calls_in jobs.items; tries = tries } }
+    ensures { Works S.opening result.2 result.0 result.1.items }
+{
+    let alloc = rt.alloc();
+    let Team { workers, reports } = match team_of(alloc, jobs, tries) {
+        Ok(team) => team,
+        Err(fault) => return (store, Vec::new(alloc), Some(fault)),
+    };
+    let count = workers.len() as u8;
+    let floor: Mutex<Floor<R, S>> = Mutex::new(Floor::new(store, workers));
+    start_all(rt, &floor, count, gate);
+    let mut floor = floor.into_inner();
+    floor.finish_all();
+    reported(floor, reports)
+}
+
+/// Starts a thread for each worker, as far as threads can be started, and waits for their ends.
+fn start_all<R: Recovery + Send, G: Gate, H: Threads + Wait + Sync, S: Opened + Send>(
+    rt: &H,
+    floor: &Mutex<Floor<R, S>>,
+    count: u8,
+    gate: &G,
+) {
+    thread::scope(thread::scope_env(), rt, |scope| {
+        // a worker is let in before it can take the lock
+        let mut held = floor.lock(rt);
+        for w in 0..count {
+            if scope.spawn(move || work(rt, floor, gate, w)).is_err() {
+                break;
+            }
+            held.let_one_in();
+        }
+    });
+}
+
+/// The turns of a worker until it is at its end. Before each it passes the gate.
+fn work<R: Recovery, G: Gate, H: Wait, S: Opened>(
+    rt: &H,
+    floor: &Mutex<Floor<R, S>>,
+    gate: &G,
+    w: u8,
+) {
+    let mut step = 0u32;
+    let mut at_end = floor.lock(rt).is_at_end(w);
+    for _ in rt.forever() {
+        if at_end {
+            return;
+        }
+        gate.pass(w, step);
+        at_end = floor.lock(rt).step(w);
+        step = step.saturating_add(1);
+    }
+}
+
+/// What comes back of workers who are at their ends. Where not all were let in, memory was refused.
+pub(crate) fn reported<R: Recovery, S: Opened>(
+    floor: Floor<R, S>,
+    reports: Vec<Report>,
+) -> (Store<R>, Vec<Report>, Option<WorkFault>)
+    requires ended { HaveEnded floor }
+    requires lists { are_workers (length S.opening.jobs) ≡ true }
+    requires tries { are_tries S.opening.tries ≡ true }
+    requires none { reports.items ≡ [] }
+    requires room { length S.opening.jobs ≤ vec_capacity reports }
+    ensures works { Works S.opening result.2 result.0 result.1.items }
+    ensures all { floor.let_in ≡ length S.opening.jobs → result.2 ≡ None }
+    ensures nothing { floor.let_in ≡ 0 → DidNothing S.opening.store result.0 result.1.items }
+{
+    let count = floor.count();
+    let started = floor.let_in();
+    let (store, mut reports) = floor.into_reports(reports);
+    if started == count {
+        return (store, reports, None);
+    }
+    if started == 0 {
+        reports.clear();
+    }
+    (store, reports, Some(WorkFault::NoMemory))
+}
