@@ -1,9 +1,10 @@
 #!/usr/bin/env python3
-"""misused_store.py: whether the check refuses a store that is let go without `close`, and one that is
+"""misused_store.py: whether the toolchain refuses a store that is let go without `close`, and one that is
 used behind it.
 
 Such a program isn't proved wrong, but refused before anything is proved, so it can't be among the
-wrong bodies of `must-fail/`. Each body is put into a copy of the crate.
+wrong bodies of `must-fail/`. Each body is put into a copy of the sources, and a program over the crate
+is tried there: a try proves nothing, so that this takes a minute in a clean clone too.
 """
 import os
 import shutil
@@ -13,6 +14,7 @@ import tempfile
 
 ROOT = os.path.join(os.path.dirname(os.path.abspath(__file__)), "..")
 FILE = os.path.join("crates", "store", "src", "worked.rt")
+PROGRAM = os.path.join("crates", "store_bench")
 
 # (what is done, the text that stands in the file, what is put in its place, the refusal)
 MISUSES = [
@@ -22,17 +24,17 @@ MISUSES = [
 
 
 def refusal(old, new):
-    """What the check says of the crate with this body."""
+    """What a try says of a program over the crate with this body."""
     with tempfile.TemporaryDirectory() as folder:
         copy = os.path.join(folder, "copy")
-        shutil.copytree(ROOT, copy, ignore=shutil.ignore_patterns(".git", "drafts"))
+        shutil.copytree(ROOT, copy, ignore=shutil.ignore_patterns(".git", "out"))
         path = os.path.join(copy, FILE)
         with open(path, encoding="utf-8") as file:
             text = file.read()
         assert text.count(old) == 1, old
         with open(path, "w", encoding="utf-8") as file:
             file.write(text.replace(old, new))
-        run = subprocess.run(["rt", "check"], cwd=os.path.join(copy, "crates", "store"), capture_output=True, text=True)
+        run = subprocess.run(["rt", "try"], cwd=os.path.join(copy, PROGRAM), capture_output=True, text=True)
         return run.stdout + run.stderr
 
 

@@ -2,9 +2,11 @@
 //! is held to the end of the transaction, and over the plain store, whose locks are those of operations.
 //!
 //! `plain_workers LOCK KIND FILE WORKERS JOBS TRIES MICROSECONDS CALL...` prints the nanoseconds from
-//! the first worker's start to the last one's end, and how many jobs committed and calls were busy.
-//! LOCK is `object` or `operations`. Each worker does so many jobs; a job is a begin, one of the CALLs in
-//! turn, and a commit, between which the worker sleeps so many microseconds, if any.
+//! the first worker's start to the last one's end, how many jobs committed, and how many calls were
+//! answered `Busy` and `None`. LOCK is `object` or `operations`. Each worker has a list of so many jobs. A
+//! job is a begin, one of the CALLs in turn, and a commit, and is tried so often at the most: where the
+//! call has no reply, the transaction aborts. Between the call and the end the worker sleeps so many
+//! microseconds, if any.
 
 #[path = "../plain_store/intentions.rs"]
 mod intentions;
@@ -30,52 +32,139 @@ use std::sync::Arc;
 use std::thread;
 use std::time::{Duration, Instant};
 
-use types::Type;
+use types::{Call, Type};
 
-/// What each worker does.
+/// The name of a call, of at most 32 bytes.
+pub struct Name {
+    bytes: [u8; 32],
+    len: u8,
+}
+
+impl Name {
+    fn new(text: &str) -> Name {
+        let mut bytes = [0; 32];
+        bytes[..text.len()].copy_from_slice(text.as_bytes());
+        let len = text.len() as u8;
+        Name { bytes, len }
+    }
+
+    fn as_bytes(&self) -> &[u8] {
+        &self.bytes[..usize::from(self.len)]
+    }
+}
+
+/// A transaction that a worker is to run: its calls, each at an object by its place.
+pub struct Job {
+    calls: Vec<(u32, Name)>,
+}
+
+/// How a worker goes about its jobs.
 #[derive(Clone, Copy)]
 pub struct Work<'a> {
-    pub jobs: u32,
+    pub table: &'a Type,
     pub tries: u32,
-    /// Between a call and the commit.
     pub sleep: Duration,
-    /// The numbers of the calls, which are taken in turn.
-    pub calls: &'a [u8],
 }
 
 impl Work<'_> {
-    /// The call of a worker's job.
-    pub fn call(&self, w: u8, job: u32) -> u8 {
-        self.calls[(u32::from(w) + job) as usize % self.calls.len()]
-    }
-
+    /// Between a call and the end of its transaction.
     pub fn think(&self) {
         if !self.sleep.is_zero() {
             thread::sleep(self.sleep);
         }
     }
-}
 
-/// How many jobs committed, and how many calls were answered `Busy` or `None`.
-#[derive(Default, Clone, Copy)]
-pub struct Told {
-    pub commits: u64,
-    pub busy: u64,
-}
+    /// The number of a job's one call.
+    fn call(&self, job: &Job) -> u8 {
+        let (_, name) = &job.calls[0];
+        let named = |call: &&Call| call.name.as_bytes() == name.as_bytes();
+        self.table.calls.iter().find(named).expect("a call").first
+    }
 
-/// Lets the workers do their work, each in a thread.
-pub fn run(workers: u8, work: &(impl Fn(u8) -> Told + Sync)) -> (Duration, Told) {
-    let start = Instant::now();
-    let mut sum = Told::default();
-    thread::scope(|scope| {
-        let threads: Vec<_> = (0..workers).map(|w| scope.spawn(move || work(w))).collect();
-        for thread in threads {
-            let told = thread.join().expect("a worker");
-            sum.commits += told.commits;
-            sum.busy += told.busy;
+    /// Does all jobs of a worker, each tried until its call has a reply.
+    pub fn all(&self, jobs: Vec<Job>, mut try_once: impl FnMut(u8) -> (u32, Reply)) -> Told {
+        let mut told = Told {
+            outcomes: Vec::with_capacity(jobs.len()),
+            ..Told::default()
+        };
+        for job in jobs {
+            let c = self.call(&job);
+            let mut outcome = Outcome::GaveUp;
+            for _ in 0..self.tries {
+                let (t, reply) = try_once(c);
+                told.note(reply);
+                if reply == Reply::Legal {
+                    outcome = Outcome::Committed(t);
+                    break;
+                }
+            }
+            told.outcomes.push(outcome);
         }
+        told
+    }
+}
+
+/// What a call was answered.
+#[derive(Clone, Copy, PartialEq, Eq)]
+pub enum Reply {
+    Legal,
+    Busy,
+    None,
+}
+
+/// What came of a job.
+#[derive(Clone, Copy)]
+pub enum Outcome {
+    #[allow(dead_code)]
+    Committed(u32),
+    GaveUp,
+}
+
+/// What came of a worker's jobs, and how many calls were answered `Busy` and `None`.
+#[derive(Default)]
+pub struct Told {
+    pub outcomes: Vec<Outcome>,
+    pub busy: u64,
+    pub none: u64,
+}
+
+impl Told {
+    fn note(&mut self, reply: Reply) {
+        match reply {
+            Reply::Legal => {}
+            Reply::Busy => self.busy += 1,
+            Reply::None => self.none += 1,
+        }
+    }
+
+    fn commits(&self) -> usize {
+        let committed = |outcome: &&Outcome| matches!(outcome, Outcome::Committed(_));
+        self.outcomes.iter().filter(committed).count()
+    }
+}
+
+/// Lets each worker do its jobs, in a thread: the time that it took, and what came of it.
+pub fn run(
+    jobs: Vec<Vec<Job>>,
+    work: &(impl Fn(u8, Vec<Job>) -> Told + Sync),
+) -> (Duration, Vec<Told>) {
+    let start = Instant::now();
+    let told = thread::scope(|scope| {
+        let start_one = |(w, jobs)| scope.spawn(move || work(w, jobs));
+        let threads: Vec<_> = (0..).zip(jobs).map(start_one).collect();
+        let ends = threads.into_iter().map(|thread| thread.join());
+        ends.map(|told| told.expect("a worker")).collect()
     });
-    (start.elapsed(), sum)
+    (start.elapsed(), told)
+}
+
+/// The jobs of each worker: one call each, which are taken in turn.
+fn jobs_of(workers: usize, jobs: usize, names: &[String]) -> Vec<Vec<Job>> {
+    let job = |place: usize| Job {
+        calls: vec![(0, Name::new(&names[place % names.len()]))],
+    };
+    let list = |w| (0..jobs).map(|n| job(w + n)).collect();
+    (0..workers).map(list).collect()
 }
 
 fn number<T: std::str::FromStr>(word: &str) -> T {
@@ -89,23 +178,19 @@ fn main() {
     };
     let text = std::fs::read_to_string(path).expect("a file");
     let table = Arc::new(Type::read(&text, kind));
-    let first = |name: &String| {
-        let found = table.calls.iter().find(|call| call.name == *name);
-        found.expect("a call").first
-    };
-    let calls: Vec<u8> = names.iter().map(first).collect();
+    let jobs = jobs_of(number(workers), number(jobs), names);
     let work = Work {
-        jobs: number(jobs),
+        table: &table,
         tries: number(tries),
         sleep: Duration::from_micros(number(sleep)),
-        calls: &calls,
     };
-    let workers = number(workers);
     let (time, told) = match (lock.as_str(), kind.as_str()) {
-        ("object", _) => object::run(&table, workers, work),
-        (_, "undo") => operations::run::<undo::Undo>(&table, workers, work),
-        _ => operations::run::<intentions::Intentions>(&table, workers, work),
+        ("object", _) => object::run(work, jobs),
+        (_, "undo") => operations::run::<undo::Undo>(&table, work, jobs),
+        _ => operations::run::<intentions::Intentions>(&table, work, jobs),
     };
     println!("nanoseconds {}", time.as_nanos());
-    println!("commits {}\nbusy {}", told.commits, told.busy);
+    println!("commits {}", told.iter().map(Told::commits).sum::<usize>());
+    println!("busy {}", told.iter().map(|told| told.busy).sum::<u64>());
+    println!("none {}", told.iter().map(|told| told.none).sum::<u64>());
 }

@@ -1,11 +1,11 @@
 //! A lock on the whole object, which a transaction holds from its call to its end.
 
-use std::sync::{Arc, Mutex};
+use std::sync::Mutex;
 use std::time::Duration;
 
 use crate::store::{Event, EventKind};
 use crate::types::{ILLEGAL, Type};
-use crate::{Told, Work};
+use crate::{Job, Reply, Told, Work};
 
 /// The object's state and what happened.
 struct Shared {
@@ -34,38 +34,33 @@ impl Shared {
     }
 }
 
-/// A job, tried once: whether it committed.
-fn try_once(shared: &Mutex<Shared>, table: &Type, w: u8, c: u8, work: &Work) -> bool {
+/// A job, tried once: its transaction, and what its call was answered.
+fn try_once(shared: &Mutex<Shared>, work: &Work, w: u8, c: u8) -> (u32, Reply) {
     let mut held = shared.lock().expect("a lock");
     let t = held.begun;
     held.begun += 1;
     held.note(w, EventKind::Begin { t });
-    let Some((k, next)) = held.reply(table, c) else {
+    if let Some((k, next)) = held.reply(work.table, c) {
+        held.state = next;
+        held.note(w, EventKind::Op { t, x: 0, k });
+        work.think();
+        held.note(w, EventKind::Commit { t });
+        (t, Reply::Legal)
+    } else {
         held.note(w, EventKind::None { t, x: 0, c });
+        work.think();
         held.note(w, EventKind::Abort { t });
-        return false;
-    };
-    held.state = next;
-    held.note(w, EventKind::Op { t, x: 0, k });
-    work.think();
-    held.note(w, EventKind::Commit { t });
-    true
+        (t, Reply::None)
+    }
 }
 
-pub fn run(table: &Arc<Type>, workers: u8, work: Work) -> (Duration, Told) {
+pub fn run(work: Work, jobs: Vec<Vec<Job>>) -> (Duration, Vec<Told>) {
     let shared = Mutex::new(Shared {
-        state: table.initial,
+        state: work.table.initial,
         begun: 0,
         history: Vec::new(),
     });
-    crate::run(workers, &|w| {
-        let mut told = Told::default();
-        for job in 0..work.jobs {
-            let c = work.call(w, job);
-            let committed = (0..work.tries).position(|_| try_once(&shared, table, w, c, &work));
-            told.commits += u64::from(committed.is_some());
-            told.busy += committed.unwrap_or(work.tries as usize) as u64;
-        }
-        told
+    crate::run(jobs, &|w, jobs| {
+        work.all(jobs, |c| try_once(&shared, &work, w, c))
     })
 }

@@ -6,7 +6,7 @@ use std::time::Duration;
 use crate::recovery::Recovery;
 use crate::store::{Answer, Object, Store};
 use crate::types::Type;
-use crate::{Told, Work};
+use crate::{Job, Reply, Told, Work};
 
 /// The most events of a history.
 const MOST_EVENTS: usize = 1_000_000;
@@ -32,52 +32,54 @@ impl<R: Recovery> Shared<R> {
         self.receipts[w as usize].push(Receipt { position, event });
     }
 
-    fn begin(&mut self, w: u8) -> Option<u32> {
-        let t = self.store.begin(w).ok()?;
+    fn begin(&mut self, w: u8) -> u32 {
+        let t = self.store.begin(w).ok().expect("room in the history");
         self.note(w);
-        Some(t)
+        t
     }
 
-    /// Whether the call has a reply.
-    fn call(&mut self, w: u8, t: u32, c: u8) -> bool {
+    fn call(&mut self, w: u8, t: u32, c: u8) -> Reply {
         let answer = self.store.call_op(w, t, 0, c);
         self.note(w);
-        matches!(answer, Ok(Answer::Reply(_)))
+        match answer.ok().expect("room in the history") {
+            Answer::Reply(_) => Reply::Legal,
+            Answer::Busy(_) => Reply::Busy,
+            Answer::None => Reply::None,
+        }
     }
 
     fn end(&mut self, w: u8, t: u32, commits: bool) {
-        let _ = if commits {
+        let ended = if commits {
             self.store.commit(w, t)
         } else {
             self.store.abort(w, t)
         };
+        ended.ok().expect("an open transaction");
         self.note(w);
     }
 }
 
-/// A job, tried once: whether it committed. Each call takes the lock for itself.
-fn try_once<R: Recovery>(shared: &Mutex<Shared<R>>, w: u8, c: u8, work: &Work) -> bool {
-    let begun = shared.lock().expect("a lock").begin(w);
-    let t = begun.expect("room in the history");
-    let replied = shared.lock().expect("a lock").call(w, t, c);
+/// A job, tried once: its transaction, and what its call was answered. Each call takes the lock for
+/// itself.
+fn try_once<R: Recovery>(shared: &Mutex<Shared<R>>, work: &Work, w: u8, c: u8) -> (u32, Reply) {
+    let t = shared.lock().expect("a lock").begin(w);
+    let reply = shared.lock().expect("a lock").call(w, t, c);
     work.think();
-    shared.lock().expect("a lock").end(w, t, replied);
-    replied
+    let mut held = shared.lock().expect("a lock");
+    held.end(w, t, reply == Reply::Legal);
+    (t, reply)
 }
 
-pub fn run<R: Recovery + Send>(table: &Arc<Type>, workers: u8, work: Work) -> (Duration, Told) {
+pub fn run<R: Recovery + Send>(
+    table: &Arc<Type>,
+    work: Work,
+    jobs: Vec<Vec<Job>>,
+) -> (Duration, Vec<Told>) {
     let shared = Mutex::new(Shared {
         store: Store::new(vec![Object::<R>::new(Arc::clone(table))], MOST_EVENTS),
-        receipts: (0..workers).map(|_| Vec::new()).collect(),
+        receipts: jobs.iter().map(|_| Vec::new()).collect(),
     });
-    crate::run(workers, &|w| {
-        let mut told = Told::default();
-        for job in 0..work.jobs {
-            let c = work.call(w, job);
-            let committed = (0..work.tries).position(|_| try_once(&shared, w, c, &work));
-            told.commits += u64::from(committed.is_some());
-            told.busy += committed.unwrap_or(work.tries as usize) as u64;
-        }
-        told
+    crate::run(jobs, &|w, jobs| {
+        work.all(jobs, |c| try_once(&shared, &work, w, c))
     })
 }

@@ -2,6 +2,7 @@
 
 mod any_objects;
 mod checked_types;
+mod gathered;
 mod histories;
 mod lines;
 mod locks;
@@ -11,6 +12,7 @@ mod printed;
 mod programs;
 mod readme;
 mod relations;
+mod reports;
 mod sinks;
 mod source;
 mod stores;

@@ -185,16 +185,30 @@ Options, each at most once, anywhere behind work and before any --:
   --workers N   How many workers there are, 1 to 16.
   --tries K     How often a job is tried at most, 1 to 100, and 3 by default.
 
-A job that is answered busy or none is aborted and tried anew.
+A worker does its jobs in their order. A job begins a transaction, makes its
+calls and commits. Where a call is answered busy or none, the transaction is
+aborted, and the job is tried anew by another transaction, up to K tries in all.
+Where the begin or a call is refused, the job isn't tried anew.
 
-What is written is as colock run writes it, and then for each job what came of
-it.
+  # object X no .., object KIND F, .., end, # kept X S, # audit yes, ..
+      As colock run writes them, but W is any worker, and no refusal has a line
+      of its own. Which worker comes first is left to the threads.
+  # job W I committed T
+      Job I of worker W, both counted from 0, was done by transaction T.
+  # job W I gaveup
+      A call of it was answered busy or none in each of the K tries.
+  # job W I refused N Kind
+      Its begin or a call was refused, and what was open of it was aborted.
+  # job W I notrun
+      The thread of worker W wasn't started, for want of memory.
+
+What is written is the text of a history, which colock audit reads.
 
 Example: colock work --workers 2 transfer.jobs ctr2.type
 
-Status: 0 done, 1 a type that isn't accepted, 2 a fault of the command line or
-of a text, or no TYPE at a place, 3 a file that can't be read, want of memory,
-or an output that failed.
+Status: 0 done, whatever came of the jobs, 1 a type that isn't accepted, 2 a
+fault of the command line or of a text, or no TYPE at a place, 3 a file that
+can't be read, want of memory, or an output that failed.
 ";
 
 pub(crate) const STRESS: &str = "\
@@ -203,25 +217,23 @@ write the history, and audit that. The same seed gives the same history.
 
 Usage: colock stress --seed S --workers N [--tries K] JOBS TYPE...
 
-JOBS is the path of the jobs, and each TYPE that of a type file. The jobs name
-the type of an object by its place among the TYPEs, from 0. The type of each
-object is checked for its kind, as colock check does.
+JOBS and each TYPE are as with colock work, and so are the tries of a job and
+the lines that are written (colock help work). There is one thread, and no job
+is notrun.
 
 Options, each at most once, anywhere behind stress and before any --:
   --seed S      The seed, 0 to 18446744073709551615.
   --workers N   How many workers there are, 1 to 16.
   --tries K     How often a job is tried at most, 1 to 100, and 3 by default.
 
-A job that is answered busy or none is aborted and tried anew.
-
-What is written is as colock run writes it, and then for each job what came of
-it.
+A turn is a begin, a call, a commit or an abort of one worker. Whose turn it is
+is drawn anew each time, among the workers that have jobs left.
 
 Example: colock stress --seed 7 --workers 2 transfer.jobs ctr2.type
 
-Status: 0 done, 1 a type that isn't accepted, 2 a fault of the command line or
-of a text, or no TYPE at a place, 3 a file that can't be read, want of memory,
-or an output that failed.
+Status: 0 done, whatever came of the jobs, 1 a type that isn't accepted, 2 a
+fault of the command line or of a text, or no TYPE at a place, 3 a file that
+can't be read, want of memory, or an output that failed.
 ";
 
 impl Topic {

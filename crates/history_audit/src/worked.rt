@@ -1,7 +1,7 @@
 //! Worked audits: each function does nothing, and its contract is what comes out of a small history.
 #![tactic(auto, unfolding(type_table::specs::Table::next))]
 
-ghost use Rattle.std.specs.Prelude.{◌≡◌, [], ◌∷◌, ◌++◌, Some, None, Err, codes};
+ghost use Rattle.std.specs.Prelude.{◌≡◌, [], ◌∷◌, Some, None, Err, codes};
 ghost use Rattle.type_table.specs.Run.{run};
 ghost use Rattle.type_table.specs.Examples.{counter, one_way};
 ghost use Rattle.serial_order.specs.History.{IsHistory};

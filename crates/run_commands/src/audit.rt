@@ -1,7 +1,6 @@
 //! The audit of a store's history.
 
-ghost use Rattle.std.specs.Prelude.{◌≡◌, ◌⊎◌, None, map, IfOk};
-ghost use Rattle.type_table.specs.Table.{Table};
+ghost use Rattle.std.specs.Prelude.{◌≡◌, None, map, IfOk};
 ghost use Rattle.command_files.specs.Gathered.{under, waiting, taken_by};
 ghost use Rattle.history_audit.specs.Audit.{Audits};
 ghost use Rattle.store_files.specs.Types.{value_of};

@@ -1,6 +1,6 @@
 //! What comes of a call at an object.
 
-ghost use Rattle.std.specs.Prelude.{◌≡◌, ℕ, true, Some, slice_get};
+ghost use Rattle.std.specs.Prelude.{◌≡◌, true, Some, slice_get};
 ghost use Rattle.object_trait.specs.Object.{Object};
 ghost use Rattle.serial_order.specs.History.{seen, is_open};
 ghost use Rattle.serial_order.specs.Laws.{FirstOpIsLeast, AnswerMayFollow, MachineMayApply};

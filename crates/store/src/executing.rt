@@ -1,6 +1,6 @@
 //! The execution of an operation at an object.
 
-ghost use Rattle.std.specs.Prelude.{◌≡◌, ℕ, ◌<◌, ◌≤◌, true, map, length, Some, slice_get, OnOk, OnErr};
+ghost use Rattle.std.specs.Prelude.{◌≡◌, ◌<◌, true, map, length, Some, slice_get, OnOk, OnErr};
 ghost use Rattle.object_trait.specs.Meaning.{Meaning};
 ghost use Rattle.object_trait.specs.Steps.{MayApply};
 ghost use Rattle.open_transactions.specs.Transactions.{is_open};

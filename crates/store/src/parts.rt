@@ -1,6 +1,6 @@
 //! What a store is made of, beside its objects.
 
-ghost use Rattle.std.specs.Prelude.{◌≡◌, ◌↔◌, ℕ, [], All, true, map, length, IfOk, IfErr};
+ghost use Rattle.std.specs.Prelude.{◌≡◌, ◌↔◌, [], All, true, map, length, IfOk, IfErr};
 ghost use Rattle.serial_order.specs.Laws.{AreChecked};
 ghost use Rattle.store_laws.specs.Stored.{types_of};
 ghost use Rattle.store.specs.Ends.{AreFresh, MayBegin, Refuses, is_limit};

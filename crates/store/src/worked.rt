@@ -5,7 +5,7 @@ ghost use Rattle.std.specs.Prelude.{◌≡◌, ◌<◌, List, ◌++◌, [], ◌�
 ghost use Rattle.object_trait.specs.Meaning.{Meaning};
 ghost use Rattle.object_trait.specs.Examples.{held, counter_at};
 ghost use Rattle.store_laws.specs.Examples.{stored, new_counters, counted, one_up, one_back};
-ghost use Rattle.store.specs.Calls.{noted, Answers, unnumbered};
+ghost use Rattle.store.specs.Calls.{Answers, unnumbered};
 ghost use Rattle.store.specs.Ends.{closing, is_limit, Refuses, IsHandedOut};
 ghost use Rattle.store.specs.KeptState.{IsKeptState};
 ghost use Rattle.store.specs.Examples.{by, two_left_open};

@@ -1,8 +1,7 @@
 //! The checked types of a store's objects.
 
-ghost use Rattle.std.specs.Prelude.{◌≡◌, ℕ, Some, map, length, take, IfOk, IfErr, IfSome, IfNone, MatchResult, slice_get};
+ghost use Rattle.std.specs.Prelude.{◌≡◌, Some, map, IfOk, IfErr, IfSome, slice_get};
 ghost use Rattle.store_files.specs.Types.{AreTypesOf, IsTypeOf, IsFirstFault, IsAccepted, IsFaultAt, IsCheckedFor, IsRefusedFor, value_of};
-ghost use Rattle.table_checker.specs.Checked.{Checked};
 
 use crate::object_fault::ObjectFault;
 use std::sync::Arc;

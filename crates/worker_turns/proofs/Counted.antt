@@ -6,6 +6,7 @@ use Rattle.std.proofs.lemmas.Nat.{mul-add-lt}
 use Rattle.std.proofs.lemmas.Option.{slice_get_within}
 use Rattle.object_trait.specs.Object.{Object}
 use Rattle.object_trait.specs.declared.event.EventKind.{EventKind}
+use Rattle.serial_order.specs.declared.refusal.Refusal.TheVariants.{NoMemory}
 use Rattle.store_laws.specs.Stored.{Stored, objects}
 use Rattle.jobs_text.specs.Jobs.{Call}
 use Rattle.worker_turns.specs.Progress.{Progress, job_of, IsAtEnd, IsSoFar, IsTold}
@@ -99,7 +100,8 @@ module _ (old : Stored) (w : ℕ) (p : Progress) (told : IsTold (objects old) p)
 
   counted-in : (phase : Phase) → turns_in p.phase ≡ turns_in phase → TurnsIn phase old w p new q → turns_left q < turns_left p
   counted-in Idle at (inl (makes, is)) = going-on (Going _ 0) _ (omega (arith, at)) is
-  counted-in Idle at (inr (r, refuses, is)) = ending (Refused r) p.receipts is
+  counted-in Idle at (inr (inl (r, refuses, is))) = ending (Refused r) p.receipts is
+  counted-in Idle at (inr (inr (same, is))) = ending (Refused NoMemory) p.receipts is
   counted-in (Going t done) at turns = counted-going t done (slice_get (job_of p) done) at turns
   counted-in (Breaking t done) at (makes, inl (others, is)) = breaking _ is
   counted-in (Breaking t done) at (makes, inr (last, is)) = ending GaveUp _ is

@@ -20,9 +20,9 @@ begin_reason true full r is = inl (sym (same_Some TooManyOpen r is))
 begin_reason false true r is = inr (inl (sym (same_Some HistoryFull r is)))
 begin_reason false false r is = absurd (none-some r is)
 
-pub begin_refused : (s : Stored) (r : Refusal) → (refusal_of s command.Begin ≡ Some r) ⊎ (r ≡ NoMemory) → IsBeginRefusal r
+pub begin_refused : (s : Stored) (r : Refusal) → (refusal_of s command.Begin ≡ Some r) ⊎ ((refusal_of s command.Begin ≡ None) × (r ≡ NoMemory)) → IsBeginRefusal r
 begin_refused s r (inl reason) = begin_reason _ _ r reason
-begin_refused s r (inr memory) = inr (inr memory)
+begin_refused s r (inr (none, memory)) = inr (inr memory)
 
 -- ---- a call of an open transaction
 
@@ -46,13 +46,14 @@ call_reason true true true true r going is = inr (refl, sym (same_Some HistoryFu
 call_reason true true true false r going is = absurd (none-some r is)
 
 pub call_refused : (s : Stored) (t : ℕ) (call : Call) (r : Refusal) → is_open (seen s.history) t ≡ true
-    → (refusal_of s (command.Call t (call.0) (call.1)) ≡ Some r) ⊎ (r ≡ NoMemory) → IsCallRefusal (objects s) call r
+    → (refusal_of s (command.Call t (call.0) (call.1)) ≡ Some r) ⊎ ((refusal_of s (command.Call t (call.0) (call.1)) ≡ None) × (r ≡ NoMemory))
+    → IsCallRefusal (objects s) call r
 call_refused s t call r going (inl reason) =
     elim (call_reason (is_open (seen s.history) t) (is_some (slice_get (objects s) (call.0))) (is_some (number_of (objects s) call)) _ r going reason) [
       | inl its ↦ inl its
       | inr full ↦ inr (inl full)
     ]
-call_refused s t call r going (inr memory) = inr (inr memory)
+call_refused s t call r going (inr (none, memory)) = inr (inr memory)
 
 -- a call that isn't refused has an object and a number
 pub not_refused : (going there numbered full : Bool) → call_refusal going there numbered full ≡ None → (there ≡ true) × (numbered ≡ true)

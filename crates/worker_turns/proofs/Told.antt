@@ -128,11 +128,16 @@ module _ (old : Stored) (w : ℕ) (p : Progress) (told : IsTold (objects old) p)
   told-idle new q none (inl (makes, goes)) =
       let t = begins old.history in
       goes-on (Begin t) (Going t 0) (Begin t ∷ []) new q (ap (λ es. es ++ Begin t ∷ []) none) ([], none-begun (objects old) (job_of p) t, refl) makes goes
-  told-idle new q none (inr (r, refuses, goes)) =
+  told-idle new q none (inr (inl (r, refuses, goes))) =
       subst (λ (s : Stored). IsTold (objects s) q) (sym refuses.0)
       (subst (IsTold (objects old)) (sym goes)
       (ends-told (objects old) p told going (Refused r) told.now p.receipts
       (breaks-before (IsRefused (objects old) (job_of p) r) told.now (inl (none, begin_refused old r refuses.1))) told.are))
+  told-idle new q none (inr (inr (same, goes))) =
+      subst (λ (s : Stored). IsTold (objects s) q) (sym same)
+      (subst (IsTold (objects old)) (sym goes)
+      (ends-told (objects old) p told going (Refused NoMemory) told.now p.receipts
+      (breaks-before (IsRefused (objects old) (job_of p) NoMemory) told.now (inl (none, inr (inr refl)))) told.are))
 
   -- where a call is left
   told-calling : (t done : ℕ) (call : Call) (new : Stored) (q : Progress) → is_open (seen old.history) t ≡ true → slice_get (job_of p) done ≡ Some call

@@ -52,15 +52,16 @@ HasOpen H (Some t) = is_open (seen H) t ≡ true
 abbrev pub Makes : Stored → ℕ → EventKind → Stored → Type 0
 Makes old w happened new = new ≡ noted old w happened
 
--- the store refuses the command, for want of memory or for another reason, and isn't changed
+-- the store refuses the command for this reason, or for want of memory where there is no other, and isn't changed
 abbrev pub RefusesFor : Stored → Command → Refusal → Stored → Type 0
-RefusesFor old asked r new = (new ≡ old) × ((refusal_of old asked ≡ Some r) ⊎ (r ≡ NoMemory))
+RefusesFor old asked r new = (new ≡ old) × ((refusal_of old asked ≡ Some r) ⊎ ((refusal_of old asked ≡ None) × (r ≡ NoMemory)))
 
--- a transaction begins, or the job is refused
+-- a transaction begins, or the job is refused; or there is no memory for receipts, and nothing is asked of the store
 abbrev pub Begins : Stored → ℕ → Progress → Stored → Progress → Type 0
 Begins old w p new q =
     (Makes old w (Begin (begins old.history)) new × (q ≡ goes_to (Going (begins old.history) 0) (gets old.history w (Begin (begins old.history)) p)))
-    ⊎ ((r : Refusal) × RefusesFor old command.Begin r new × (q ≡ ends (Refused r) p))
+    ⊎ (((r : Refusal) × RefusesFor old command.Begin r new × (q ≡ ends (Refused r) p))
+    ⊎ ((new ≡ old) × (q ≡ ends (Refused NoMemory) p)))
 
 -- the next call has a reply, or none, or is refused; or there is no memory for its receipt, and the transaction is aborted in its place
 abbrev pub Calls : ℕ → ℕ → Call → Stored → ℕ → Progress → Stored → Progress → Type 0

@@ -74,6 +74,7 @@ pub fn a_broken_try_takes_a_turn_for_its_abort()
 pub fn a_refused_call_takes_a_turn_for_its_abort()
     ensures refuses { Turns (stored (take 1 one_up)) 7 (away (Phase.Going 0 0) 1) (stored (take 1 one_up)) (away (Phase.Refusing 0 0 Refusal.NoObject) 1) }
     ensures another { Turns (stored (take 1 one_up)) 7 (away (Phase.Going 0 0) 1) (stored (take 1 one_up)) (away (Phase.Refusing 0 0 Refusal.NoCall) 1) → ⊥ }
+    ensures memory { Turns (stored (take 1 one_up)) 7 (away (Phase.Going 0 0) 1) (stored (take 1 one_up)) (away (Phase.Refusing 0 0 Refusal.NoMemory) 1) → ⊥ }
     ensures full { Turns (stored one_up) 7 (counting Phase.Idle 0) (stored one_up) (ends (Outcome.Refused Refusal.HistoryFull) (counting Phase.Idle 0)) }
     ensures not_full { Turns (stored []) 7 (counting Phase.Idle 0) (stored []) (ends (Outcome.Refused Refusal.HistoryFull) (counting Phase.Idle 0)) → ⊥ }
     ensures aborts { Turns (stored (take 1 one_up)) 7 (away (Phase.Refusing 0 0 Refusal.NoObject) 1) (noted (stored (take 1 one_up)) 7 (EventKind.Abort 0))

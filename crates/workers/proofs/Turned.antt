@@ -201,18 +201,19 @@ module _ (o : Opening) (old : Stored) (w : ℕ) (p : Progress) (its : IsWorker o
 
   -- the cause of a refusal that may be for want of memory
   cause-of : (asked : Command) (r : Refusal) → ((reason : Refusal) → refusal_of old asked ≡ Some reason → HasCause o old.history reason)
-      → (refusal_of old asked ≡ Some r) ⊎ (r ≡ NoMemory) → HasCause o old.history r
+      → (refusal_of old asked ≡ Some r) ⊎ ((refusal_of old asked ≡ None) × (r ≡ NoMemory)) → HasCause o old.history r
   cause-of asked r cause (inl reason) = cause r reason
-  cause-of asked r cause (inr wanted) = subst (HasCause o old.history) (sym wanted) tt
+  cause-of asked r cause (inr (none, wanted)) = subst (HasCause o old.history) (sym wanted) tt
 
   -- in front of a try
   begins-turned : p.phase ≡ Idle → open_count (seen old.history) < open_count (seen o.store.history) + length o.jobs → Begins old w p new q → IsTurned o old w p new q
   begins-turned idle few (inl (is, same)) =
       let t = begins old.history in
       made (Begin t) _ is same (goes-noted o old w p its (Begin t) (Going t 0) (ap open_of idle, refl) (λ u done r e. going_refusing t 0 u done r e))
-  begins-turned idle few (inr (r, (is, reason), same)) =
+  begins-turned idle few (inr (inl (r, (is, reason), same))) =
       let cause : HasCause o old.history r = cause-of command.Begin r (λ why refused. begin-cause o old.history (objects old) why few (rw max at refused)) reason in
       kept _ is same (ends-quiet o old w p its r idle cause)
+  begins-turned idle few (inr (inr (is, same))) = kept _ is same (ends-quiet o old w p its NoMemory idle tt)
 
   -- in a try
   calls-turned : (t done : ℕ) (call : Call) → open_of p.phase ≡ Some t → Calls t done call old w p new q → IsTurned o old w p new q

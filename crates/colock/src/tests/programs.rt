@@ -6,6 +6,7 @@ ghost use Rattle.outputs.specs.Out.{sink_fault};
 mod audits;
 mod checks;
 mod deferred;
+mod example_jobs;
 mod examples;
 mod faults;
 mod first_faults;

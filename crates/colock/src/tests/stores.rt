@@ -3,16 +3,16 @@
 mod calls;
 mod closed;
 pub mod folds;
-mod full;
+pub mod full;
 mod laws;
 mod made;
 mod random;
-mod reference;
+pub mod reference;
 mod refused;
 mod run_scripts;
 mod run_scripts_memory;
 mod runs;
-mod scripts;
+pub mod scripts;
 
 use crate::tests::checked_types::checked_of;
 use objects::Object;
@@ -21,10 +21,10 @@ use std::test::Fail;
 use type_table::Kind;
 
 /// An object of a store: its kind of recovery, and the text of its type.
-type Sort = (Kind, &'static str);
+pub type Sort = (Kind, &'static str);
 
 /// New objects of these sorts. Where one allocation is refused, the next try has it.
-fn objects_of(alloc: Global, sorts: &[Sort]) -> Result<Vec<Object>, Fail> {
+pub fn objects_of(alloc: Global, sorts: &[Sort]) -> Result<Vec<Object>, Fail> {
     let mut objects = Vec::new(alloc);
     if objects.reserve(sorts.len()).is_err() {
         objects.reserve(sorts.len())?;

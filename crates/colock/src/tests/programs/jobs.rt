@@ -1,25 +1,14 @@
 //! Jobs that workers do at a store of their objects: side by side, and by turns that are drawn.
 
 use super::{Case, Played, all_play, play};
+use crate::tests::reports::alone::GIVES_UP;
 use crate::tests::tasks::types::COUNTER;
 use std::process::Abort;
 use std::sync::Wait;
 use std::test::Fail;
 use std::thread::Threads;
 
-/// Jobs of one worker: the first has no answer, whoever asks, and is tried until it is given up.
-const JOBS_OF_ONE: &str = "max 20
-object undo 0
-job 0
-do 0 dec:1
-job 0
-do 0 inc:1
-job 0
-do 0 dec:1
-end
-";
-
-/// What comes of them in two tries.
+/// What comes in two tries of the jobs of one worker of which the first is given up.
 const DONE_BY_ONE: &str = "object undo 0
 begin 0 0
 none 0 0 0 1
@@ -44,42 +33,46 @@ end
 # job 0 2 committed 3
 ";
 
+/// With one worker each draw is that worker, so that the text is the one of `work`.
+pub const ONE_WORKER_DRAWN: Case<'static> = Case {
+    words: &[
+        "stress",
+        "--seed",
+        "7",
+        "--workers",
+        "1",
+        "--tries",
+        "2",
+        "the.jobs",
+        "ctr2.type",
+    ],
+    files: &[("the.jobs", GIVES_UP), ("ctr2.type", COUNTER)],
+    out: DONE_BY_ONE,
+    err: "",
+    status: 0,
+};
+
+/// A job is tried twice and given up, and the next ones are done.
+pub const ONE_WORKER: Case<'static> = Case {
+    words: &[
+        "work",
+        "--workers",
+        "1",
+        "--tries",
+        "2",
+        "the.jobs",
+        "ctr2.type",
+    ],
+    files: &[("the.jobs", GIVES_UP), ("ctr2.type", COUNTER)],
+    out: DONE_BY_ONE,
+    err: "",
+    status: 0,
+};
+
 /// What `work` and `stress` do, byte for byte.
-static CASES: [Case<'static>; 10] = [
-    // With one worker each draw is that worker, so that the text is the one of `work`.
-    Case {
-        words: &[
-            "stress",
-            "--seed",
-            "7",
-            "--workers",
-            "1",
-            "--tries",
-            "2",
-            "the.jobs",
-            "ctr2.type",
-        ],
-        files: &[("the.jobs", JOBS_OF_ONE), ("ctr2.type", COUNTER)],
-        out: DONE_BY_ONE,
-        err: "",
-        status: 0,
-    },
-    // A job is tried twice and given up, and the next ones are done.
-    Case {
-        words: &[
-            "work",
-            "--workers",
-            "1",
-            "--tries",
-            "2",
-            "the.jobs",
-            "ctr2.type",
-        ],
-        files: &[("the.jobs", JOBS_OF_ONE), ("ctr2.type", COUNTER)],
-        out: DONE_BY_ONE,
-        err: "",
-        status: 0,
-    },
+pub static CASES: [Case<'static>; 10] = [
+    ONE_WORKER_DRAWN,
+    ONE_WORKER,
     // A begin in a full history is refused, and is no turn of an abort.
     Case {
         words: &["work", "--workers", "1", "the.jobs", "ctr2.type"],
@@ -215,7 +208,7 @@ end
             "the.jobs",
             "ctr2.type",
         ],
-        files: &[("the.jobs", JOBS_OF_ONE), ("ctr2.type", COUNTER)],
+        files: &[("the.jobs", GIVES_UP), ("ctr2.type", COUNTER)],
         out: DONE_BY_ONE,
         err: "",
         status: 0,
@@ -233,7 +226,7 @@ end
             "the.jobs",
             "ctr2.type",
         ],
-        files: &[("the.jobs", JOBS_OF_ONE), ("ctr2.type", COUNTER)],
+        files: &[("the.jobs", GIVES_UP), ("ctr2.type", COUNTER)],
         out: DONE_BY_ONE,
         err: "",
         status: 0,

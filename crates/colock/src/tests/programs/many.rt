@@ -2,6 +2,7 @@
 
 use super::{Case, plays};
 use crate::tests::tasks::types::COUNTER;
+use crate::tests::texts_read::{Reader, beginnings_have_faults};
 use std::alloc::{AllocError, Global};
 use std::fmt::Write;
 use std::test::Fail;
@@ -41,5 +42,7 @@ fn as_many_as_may_be_open(rt: HostRuntime) -> Result<(), Fail> {
         err: "",
         status: 0,
     };
-    plays(&rt, &case)
+    plays(&rt, &case)?;
+    beginnings_have_faults(&rt, Reader::Script, script.as_bytes());
+    Ok(())
 }

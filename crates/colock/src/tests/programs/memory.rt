@@ -1,11 +1,14 @@
 //! Each allocation refused in turn, by `rt try --test --fail-alloc N`: the program says that memory was
-//! refused, or a run goes on without the command that met it; and no answer is another one.
+//! refused, or a run goes on without the command that met it, or workers without the job that met it; and
+//! no answer is another one.
 
 use super::audits::OWN_OUTPUT;
 use super::deferred::BOTH_COMMIT;
 use super::in_place::{ONE_WAY_ORDER, TWO_DEQUEUES};
+use super::jobs::{ONE_WORKER, ONE_WORKER_DRAWN};
 use super::rollbacks::BOTH_KINDS;
 use super::{Case, NO_MEMORY, Played, checks, play};
+use crate::tests::reports::folds::{OneWorker, ROOMS, WorkText, written};
 use crate::tests::stores::folds::{RunText, folded};
 use std::alloc::Global;
 use std::process::Abort;
@@ -75,4 +78,57 @@ fn runs_want_memory(rt: HostRuntime) -> Result<(), Fail> {
         run_folds(&rt, case)?;
     }
     Ok(())
+}
+
+/// The jobs of a case of one worker, in two tries.
+fn worker_of(case: &Case<'static>) -> Result<OneWorker, Fail> {
+    let [(_, jobs), (_, type_text)] = case.files else {
+        return Err("no jobs at one type")?;
+    };
+    Ok(OneWorker {
+        jobs: *jobs,
+        type_text: *type_text,
+        max: 20,
+        tries: 2,
+    })
+}
+
+/// Whether this is all that is written of the jobs, or all of it but the audit, where memory was refused.
+fn is_written(played: &Played, text: &WorkText) -> bool {
+    let Some(behind) = played.out.strip_prefix(text.run.as_slice()) else {
+        return false;
+    };
+    let jobs = text.jobs.as_slice();
+    let is_whole = behind.strip_prefix(text.audit.as_slice()) == Some(jobs);
+    is_whole && played.status == 0 && played.err.is_empty()
+        || played.status == 3 && behind == jobs && played.err.as_slice() == NO_MEMORY.as_bytes()
+}
+
+/// Whether this is what the slow fold writes of the jobs, where memory may be refused for one of them.
+fn is_work(alloc: Global, case: &Case<'static>, played: &Played) -> Result<bool, Fail> {
+    let worker = worker_of(case)?;
+    for room in &ROOMS {
+        if is_written(played, &written(alloc, &worker, *room)?) {
+            return Ok(true);
+        }
+    }
+    Ok(false)
+}
+
+/// That a worker's jobs are written as they are by the slow fold, or that memory was refused is said alone.
+/// Where that isn't what its case says, the next try has its memory.
+fn work_folds<R: Abort + AllocGlobal + Threads + Wait + Sync>(
+    rt: &R,
+    case: &Case<'static>,
+) -> Result<(), Fail> {
+    let first = play(rt, case)?;
+    assert!(rt; first.is(3, b"", NO_MEMORY) || is_work(rt.alloc(), case, &first)?);
+    assert!(rt; first.is_of(case) || play(rt, case)?.is_of(case));
+    Ok(())
+}
+
+#[test]
+fn works_want_memory(rt: HostRuntime) -> Result<(), Fail> {
+    work_folds(&rt, &ONE_WORKER)?;
+    work_folds(&rt, &ONE_WORKER_DRAWN)
 }

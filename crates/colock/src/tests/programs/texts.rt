@@ -1,28 +1,46 @@
-//! The texts of the cases: what a run writes is a history with the same audit, and each proper beginning
-//! of a script or of a history has its fault.
+//! The texts of the cases: what a run or workers write is a history with the same audit, and each proper
+//! beginning of a script, of a history or of jobs has its fault.
 
-use super::{Case, all_cases, plays};
+use super::{Case, all_cases, jobs, plays};
 use crate::tests::texts_read::{Reader, beginnings_have_faults};
 use std::process::Abort;
 use std::sync::Wait;
 use std::test::Fail;
 use std::thread::Threads;
 
-/// Whether a case is a run.
-fn is_run(case: &Case<'_>) -> bool {
-    case.words.first() == Some(&"run")
+/// Whether a case writes a history.
+fn writes_history(case: &Case<'_>) -> bool {
+    case.out.starts_with("object ")
 }
 
-/// That the audit of what a run wrote has the lines that the run wrote of its own audit.
+/// The words of a case behind its first file: the type files.
+fn types_of<'a>(case: &Case<'a>) -> &'a [&'a str] {
+    let path = case.files.first().map_or("", |file| file.0);
+    match case.words.iter().position(|word| *word == path) {
+        Some(place) => case.words.get(place.wrapping_add(1)..).unwrap_or(&[]),
+        None => &[],
+    }
+}
+
+/// The lines of the audit that a case writes: those of jobs are behind them.
+fn audit_of<'a>(case: &Case<'a>) -> Option<&'a str> {
+    let (_, lines) = case.out.split_once("# audit ")?;
+    match lines.split_once("# job ") {
+        Some((audit, _)) => Some(audit),
+        None => Some(lines),
+    }
+}
+
+/// That the audit of the history that a case writes has the lines that it writes of its own audit.
 fn is_audited<R: Abort + AllocGlobal + Threads + Wait + Sync>(
     rt: &R,
     case: &Case<'_>,
 ) -> Result<(), Fail> {
     let mut words = vec![in rt.alloc(); "audit", "the.history"]?;
-    words.extend_from_slice(case.words.get(2..).unwrap_or(&[]))?;
+    words.extend_from_slice(types_of(case))?;
     let mut files = vec![in rt.alloc(); ("the.history", case.out)]?;
     files.extend_from_slice(case.files)?;
-    let (_, lines) = case.out.split_once("# audit ").ok_or("no audit")?;
+    let lines = audit_of(case).ok_or("no audit")?;
     let out = format!(in rt.alloc(); "# audit {lines}")?;
     let audit = Case {
         words: &words,
@@ -46,24 +64,34 @@ fn until_end(text: &str) -> &[u8] {
     }
 }
 
+/// How many workers a case has.
+fn workers_of(case: &Case<'_>) -> Option<u8> {
+    let mut words = case.words.iter().skip_while(|word| **word != "--workers");
+    words.nth(1)?.parse().ok()
+}
+
+/// Who reads the first file of a case.
+fn reader_of(case: &Case<'_>) -> Reader {
+    match case.words.first().copied().unwrap_or("") {
+        "run" => Reader::Script,
+        "audit" => Reader::History,
+        _ => Reader::Jobs(workers_of(case).unwrap_or(0)),
+    }
+}
+
 /// That each proper beginning of the text that a case reads has its fault, and so has each of the
-/// history that a run writes.
+/// history that it writes.
 fn beginnings_of(rt: &(impl Abort + AllocGlobal), case: &Case<'_>) {
     let Some((_, text)) = case.files.first() else {
         return;
     };
-    let reader = if is_run(case) {
-        Reader::Script
-    } else {
-        Reader::History
-    };
-    beginnings_have_faults(rt, reader, until_end(text));
-    if case.out.starts_with("object ") {
+    beginnings_have_faults(rt, reader_of(case), until_end(text));
+    if writes_history(case) {
         beginnings_have_faults(rt, Reader::History, until_end(case.out));
     }
 }
 
-/// The same of all cases whose text has no fault, and that what each run wrote is a history.
+/// The same of all cases whose text has no fault, and that what each writes is a history.
 fn have_texts<R: Abort + AllocGlobal + Threads + Wait + Sync>(
     rt: &R,
     cases: &[Case<'_>],
@@ -72,7 +100,7 @@ fn have_texts<R: Abort + AllocGlobal + Threads + Wait + Sync>(
         if !case.err.contains(": line ") {
             beginnings_of(rt, case);
         }
-        if is_run(case) && case.status == 0 {
+        if writes_history(case) {
             is_audited(rt, case)?;
         }
     }
@@ -80,9 +108,9 @@ fn have_texts<R: Abort + AllocGlobal + Threads + Wait + Sync>(
 }
 
 #[test]
-fn texts_of_runs_and_audits(rt: HostRuntime) -> Result<(), Fail> {
+fn texts_of_all_cases(rt: HostRuntime) -> Result<(), Fail> {
     for cases in all_cases() {
         have_texts(&rt, cases)?;
     }
-    Ok(())
+    have_texts(&rt, &jobs::CASES)
 }

@@ -24,7 +24,7 @@ pub struct RunText {
 const NO_MEMORY: &str = "# refused 6 NoMemory";
 
 /// The line of another refusal.
-fn refusal_line(refusal: Refusal) -> &'static str {
+pub fn refusal_line(refusal: Refusal) -> &'static str {
     match refusal {
         Refusal::NotOpen => "# refused 1 NotOpen",
         Refusal::NoObject => "# refused 2 NoObject",
@@ -37,7 +37,7 @@ fn refusal_line(refusal: Refusal) -> &'static str {
 }
 
 /// The line of an event of worker 0.
-fn event_line(alloc: Global, event: Event) -> Result<String, AllocError> {
+pub fn event_line(alloc: Global, event: Event) -> Result<String, AllocError> {
     let line = match event.kind {
         EventKind::Begin { t } => format!(in alloc; "begin 0 {t}")?,
         EventKind::Op { t, x, k } => format!(in alloc; "op 0 {t} {x} {k}")?,
@@ -84,7 +84,7 @@ fn sort_of(line: &str, types: &[&'static str]) -> Option<Sort> {
 }
 
 /// Puts a line behind the others.
-fn push_line(text: &mut Vec<u8>, line: &str) -> Result<(), AllocError> {
+pub fn push_line(text: &mut Vec<u8>, line: &str) -> Result<(), AllocError> {
     text.extend_from_slice(line.as_bytes())?;
     text.extend_from_slice(b"\n")?;
     Ok(())
@@ -136,7 +136,7 @@ fn push_lines(
 }
 
 /// Puts the lines behind the commands.
-fn push_end(alloc: Global, text: &mut Vec<u8>, fold: &mut Reference) -> Result<(), AllocError> {
+pub fn push_end(alloc: Global, text: &mut Vec<u8>, fold: &mut Reference) -> Result<(), AllocError> {
     for t in 0..fold.count() {
         if fold.open_at(0) == Some(t) {
             push_told(alloc, text, fold, Ask::Abort(t))?;
@@ -153,7 +153,7 @@ fn push_end(alloc: Global, text: &mut Vec<u8>, fold: &mut Reference) -> Result<(
 }
 
 /// The lines of the audit: who committed, in that order, and where their operations lead.
-fn audit_of(alloc: Global, fold: &Reference) -> Result<Vec<u8>, AllocError> {
+pub fn audit_of(alloc: Global, fold: &Reference) -> Result<Vec<u8>, AllocError> {
     let mut text = b"# audit yes\n".to_vec(alloc)?;
     for event in fold.events() {
         if let EventKind::Commit { t } = event.kind {
@@ -198,7 +198,7 @@ pub fn sorts_of(
 }
 
 /// The checked types of these objects. Where one allocation is refused, the next try has it.
-fn types_of(alloc: Global, sorts: &[Sort]) -> Result<Vec<Arc<CheckedType>>, Fail> {
+pub fn types_of(alloc: Global, sorts: &[Sort]) -> Result<Vec<Arc<CheckedType>>, Fail> {
     let mut types = Vec::new(alloc);
     if types.reserve(sorts.len()).is_err() {
         types.reserve(sorts.len())?;

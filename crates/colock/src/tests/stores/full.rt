@@ -13,16 +13,16 @@ use type_table::Kind;
 /// The most transactions that are open at once.
 const MOST: u32 = 1024;
 
-/// Begins as many as there can be.
-fn begin_most<R: Recovery>(rt: &impl Abort, store: &mut Store<R>) {
-    for t in 0..MOST {
+/// Begins so many.
+pub fn begin_many<R: Recovery>(rt: &impl Abort, store: &mut Store<R>, count: u32) {
+    for t in 0..count {
         assert!(rt; outcome(store, 7, Ask::Begin) == Told::Begun(t));
     }
 }
 
 /// That one more isn't begun until one has ended, and then as long as the history has room.
 fn are_most<R: Recovery>(rt: &impl Abort, store: &mut Store<R>) {
-    begin_most(rt, store);
+    begin_many(rt, store, MOST);
     assert!(rt; outcome(store, 7, Ask::Begin) == Told::Refused(Refusal::TooManyOpen));
     assert!(rt; outcome(store, 7, Ask::Commit(500)) == Told::Done);
     assert!(rt; outcome(store, 7, Ask::Begin) == Told::Begun(MOST));

@@ -1,4 +1,4 @@
-//! Many commands from a small generator, at stores and at lists of what happened.
+//! Many commands from a generator, at stores and at lists of what happened.
 
 use super::reference::Reference;
 use super::scripts::{Ask, are_closed, outcome, store_of};
@@ -7,6 +7,8 @@ use crate::tests::tasks::types::{ONE_WAY, SEMIQUEUE, TWIN};
 use history_audit::{Audit, audit};
 use object_trait::{EventKind, Recovery};
 use objects::Object;
+use rand_core::utils::NextWord;
+use rand_pcg::Lcg64Xsh32;
 use std::alloc::{AllocError, Global};
 use std::process::Abort;
 use std::sync::Arc;
@@ -15,36 +17,44 @@ use store::Store;
 use table_checker::CheckedType;
 use type_table::{Kind, TypeTable};
 
-/// How many stores there are.
-const STORES: u32 = 250;
+/// How many seeds there are.
+const SEEDS: u64 = 10;
+
+/// How many stores there are for each seed.
+const STORES: usize = 10;
 
 /// How many commands each of them is given.
-const COMMANDS: u32 = 800;
+const COMMANDS: u32 = 2000;
 
-/// How many events it may have.
-const EVENTS: u32 = 400;
+/// How many events a store may have: each second one can't have them all.
+const EVENTS: [u32; 2] = [10_000, 1000];
 
 /// A kind of recovery, the text of a type, and calls, of which the last isn't there.
 type Sort = (Kind, &'static str, [&'static str; 4]);
 
-static SORTS: [Sort; 7] = [
+/// The sorts of objects with update in place.
+static IN_PLACE: [Sort; 3] = [
     (
         Kind::Undo,
         COUNTER_OF_FOUR,
         ["inc:1", "dec:1", "inc:1", "no"],
     ),
+    (Kind::Undo, SEMIQUEUE, ["enq:a", "enq:b", "deq", "enq"]),
+    (Kind::Undo, ONE_WAY, ["p", "q", "r", "s"]),
+];
+
+/// The sorts of deferred objects.
+static DEFERRED: [Sort; 4] = [
     (
         Kind::Intentions,
         COUNTER_OF_FOUR,
         ["inc:1", "dec:1", "dec:1", "no"],
     ),
-    (Kind::Undo, SEMIQUEUE, ["enq:a", "enq:b", "deq", "enq"]),
     (
         Kind::Intentions,
         SEMIQUEUE,
         ["enq:a", "enq:b", "deq", "enq"],
     ),
-    (Kind::Undo, ONE_WAY, ["p", "q", "r", "s"]),
     (Kind::Intentions, TWIN, ["p", "q", "r", "s"]),
     (
         Kind::Intentions,
@@ -53,21 +63,29 @@ static SORTS: [Sort; 7] = [
     ),
 ];
 
-/// A small generator: a shift register of 32 bits.
+/// The sorts of the four objects of a store: two with update in place, and two deferred ones between
+/// and behind them.
+fn sorts_of(store: usize) -> [&'static Sort; 4] {
+    let following = store.wrapping_add(1);
+    [
+        &IN_PLACE[store % 3],
+        &DEFERRED[store % 4],
+        &IN_PLACE[following % 3],
+        &DEFERRED[following % 4],
+    ]
+}
+
+/// What commands are drawn from: a generator, and the sorts of a store's objects.
 #[derive(Drop)]
 struct Dice {
-    state: u32,
+    words: Lcg64Xsh32,
+    sorts: [&'static Sort; 4],
 }
 
 impl Dice {
     /// The next number below n.
     fn below(&mut self, n: u32) -> u32 {
-        let mut state = self.state;
-        state ^= state << 13;
-        state ^= state >> 17;
-        state ^= state << 5;
-        self.state = state;
-        state % n.max(1)
+        self.words.next_word() % n.max(1)
     }
 
     /// A transaction: mostly one of the first that are open, else one that began lately or would be next.
@@ -86,8 +104,12 @@ impl Dice {
 
     /// A call of t, by name or by number.
     fn call(&mut self, t: u32) -> Ask {
-        let x = self.below(40) % 8;
-        let names: [&'static str; 4] = match SORTS.get(x as usize) {
+        // one of 33 is of an object that isn't there
+        let x = match self.below(33) {
+            32 => 4,
+            n => n % 4,
+        };
+        let names: [&'static str; 4] = match self.sorts.get(x as usize) {
             Some(sort) => sort.2,
             None => ["p"; 4],
         };
@@ -118,11 +140,11 @@ impl Dice {
     }
 }
 
-/// The checked types of all sorts.
-fn checked_types(alloc: Global) -> Result<Vec<Arc<CheckedType>>, Fail> {
+/// The checked types of these sorts.
+fn checked_types(alloc: Global, sorts: &[&'static Sort]) -> Result<Vec<Arc<CheckedType>>, Fail> {
     let mut types = Vec::new(alloc);
-    for (kind, text, _) in &SORTS {
-        let checked = checked_of(alloc, text, *kind)?;
+    for sort in sorts {
+        let checked = checked_of(alloc, sort.1, sort.0)?;
         types.push(checked).ok().ok_or("no room")?;
     }
     Ok(types)
@@ -189,7 +211,7 @@ fn is_audited_alike(rt: &impl Abort, audit: &Audit, reference: &Reference) {
         }
     }
     assert!(rt; order.next() == None);
-    for x in 0..8 {
+    for x in 0..5 {
         let state = audit.finals.get(x as usize).copied();
         assert!(rt; state == reference.serial_state(x));
     }
@@ -198,35 +220,40 @@ fn is_audited_alike(rt: &impl Abort, audit: &Audit, reference: &Reference) {
 /// One store, from its beginning to its end, and the audit of its history.
 fn live_alike(
     rt: &(impl Abort + AllocGlobal),
-    types: &[Arc<CheckedType>],
     dice: &mut Dice,
+    max_events: u32,
 ) -> Result<(), Fail> {
-    let mut reference = Reference::new(rt.alloc(), copies(rt.alloc(), types)?, EVENTS);
-    let mut store = store_of(rt, objects_of(rt.alloc(), types)?, EVENTS)?;
+    let types = checked_types(rt.alloc(), &dice.sorts)?;
+    let mut reference = Reference::new(rt.alloc(), copies(rt.alloc(), &types)?, max_events);
+    let mut store = store_of(rt, objects_of(rt.alloc(), &types)?, max_events)?;
     let alike = answer_alike(rt, &mut store, &mut reference, dice);
     let (history, objects) = store.close();
     alike?;
     reference.close()?;
     assert!(rt; history.as_slice() == reference.events());
     are_closed(rt, &objects);
-    let audit = audit(rt.alloc(), &history, &tables_of(rt.alloc(), types)?)?;
+    let audit = audit(rt.alloc(), &history, &tables_of(rt.alloc(), &types)?)?;
     is_audited_alike(rt, &audit, &reference);
     Ok(())
 }
 
-/// All stores.
-fn are_alike(rt: &(impl Abort + AllocGlobal)) -> Result<(), Fail> {
-    let types = checked_types(rt.alloc())?;
+/// All stores of a seed.
+fn are_alike(rt: &(impl Abort + AllocGlobal), seed: u64) -> Result<(), Fail> {
     let mut dice = Dice {
-        state: 2_463_534_242,
+        words: Lcg64Xsh32::new(seed, 0),
+        sorts: sorts_of(0),
     };
-    for _ in 0..STORES {
-        live_alike(rt, &types, &mut dice)?;
+    for store in 0..STORES {
+        dice.sorts = sorts_of(store);
+        live_alike(rt, &mut dice, EVENTS[store % 2])?;
     }
     Ok(())
 }
 
 #[test]
 fn commands_are_answered_as_by_lists(rt: HostRuntime) -> Result<(), Fail> {
-    are_alike(&rt)
+    for seed in 0..SEEDS {
+        are_alike(&rt, seed)?;
+    }
+    Ok(())
 }

@@ -377,3 +377,48 @@ conflict intentions 2 2
 conflict intentions 3 3
 end
 ";
+
+/// A counter for sixteen workers: `make counter 16 1`.
+pub const TALLY: &str = "type counter
+states 17
+initial 0
+op inc:1 ok
+op dec:1 ok
+step 0 0 1
+step 1 0 2
+step 1 1 0
+step 2 0 3
+step 2 1 1
+step 3 0 4
+step 3 1 2
+step 4 0 5
+step 4 1 3
+step 5 0 6
+step 5 1 4
+step 6 0 7
+step 6 1 5
+step 7 0 8
+step 7 1 6
+step 8 0 9
+step 8 1 7
+step 9 0 10
+step 9 1 8
+step 10 0 11
+step 10 1 9
+step 11 0 12
+step 11 1 10
+step 12 0 13
+step 12 1 11
+step 13 0 14
+step 13 1 12
+step 14 0 15
+step 14 1 13
+step 15 0 16
+step 15 1 14
+step 16 1 15
+conflict undo 0 1
+conflict undo 1 0
+conflict intentions 0 0
+conflict intentions 1 1
+end
+";

@@ -1,6 +1,6 @@
 //! The worked examples of `make`: texts of families, and words of which none is made.
 
-use super::examples::{CREDIT, POOL, SEATS, STOCK};
+use super::examples::{CREDIT, POOL, SEATS, STOCK, TALLY};
 use super::large::set_of_ten;
 use super::types::{ACCOUNT, COUNTER, SEMIQUEUE};
 use super::{performed, writes};
@@ -11,7 +11,7 @@ use std::thread::Threads;
 use type_table::Kind;
 
 /// Words, and the text that they make. Each is good for both kinds of recovery.
-static TEXTS: [(&str, &str); 7] = [
+static TEXTS: [(&str, &str); 8] = [
     ("make account 2 1", ACCOUNT),
     ("make counter 2 1", COUNTER),
     ("make semiqueue 2 a b", SEMIQUEUE),
@@ -19,6 +19,7 @@ static TEXTS: [(&str, &str); 7] = [
     ("make counter 5 1 2", STOCK),
     ("make account 5 1 2", CREDIT),
     ("make semiqueue 2 mail report", POOL),
+    ("make counter 16 1", TALLY),
 ];
 
 /// Words, how the text that they make begins, and how many operations it has.
