@@ -1,15 +1,23 @@
 #!/usr/bin/env python3
 """each_allocation.py PROGRAM WORD...: runs a program with each of its allocations refused in turn.
+each_allocation.py --tests PROGRAM: the same of the program of `colock`'s tests, for each test that is
+written for it.
 
 The first run refuses none. Each further run refuses one allocation, the next one each time, until
 a run ends that has fewer. A run must end as the first one did, or with `colock: no memory` on
 standard error, nothing on standard output and status 3. The refusals are made by a small library
-that is put in front of the C library's allocator.
+that is put in front of the C library's allocator. Where there is no program of tests, or no `cc`,
+that is said and nothing is tried.
 """
 import os
+import shutil
 import subprocess
 import sys
 import tempfile
+
+# What the names of tests end with that say what comes of refused memory.
+TESTS = ("want_memory", "wants_memory", "memory_is_wanted", "runs_are_played", "scenes_are_played_in_place",
+         "scenes_are_played_deferred", "scripts_are_folds_of_their_commands")
 
 SHIM = r"""
 #define _GNU_SOURCE
@@ -73,22 +81,47 @@ def run(words, library, place):
     return (done.stdout, done.stderr, done.returncode), was_refused
 
 
+def sweep(words, library):
+    """How many allocations there are, and how many of them were wanted."""
+    expected, _ = run(words, library, 0)
+    place, starved = 1, 0
+    while True:
+        got, was_refused = run(words, library, place)
+        if not was_refused:
+            return place - 1, starved
+        if got == (b"", b"colock: no memory\n", 3):
+            starved += 1
+        elif got != expected:
+            sys.exit(f"{' '.join(words)}: allocation {place}: {got}, and not {expected}")
+        place += 1
+
+
+def tests_of(program):
+    """The tests that are written for it, by their full names."""
+    told = subprocess.run([program, "--list"], check=True, capture_output=True, text=True).stdout
+    names = [line.removesuffix(": test") for line in told.split("\n") if line.endswith(": test")]
+    return [name for name in names if name.endswith(TESTS)]
+
+
+def sweep_tests(program, library):
+    for name in tests_of(program):
+        allocations, _ = sweep([program, name], library)
+        print(f"{name}: {allocations} allocations, each refused in turn: passed")
+
+
 def main():
     words = sys.argv[1:]
+    is_tests = words[0] == "--tests"
+    if is_tests and not (os.path.exists(words[1]) and shutil.which("cc")):
+        print(f"{words[1]} isn't there, or no cc: no allocation was refused")
+        return
     with tempfile.TemporaryDirectory() as folder:
         library = shim_in(folder)
-        expected, _ = run(words, library, 0)
-        place, starved = 1, 0
-        while True:
-            got, was_refused = run(words, library, place)
-            if not was_refused:
-                break
-            if got == (b"", b"colock: no memory\n", 3):
-                starved += 1
-            elif got != expected:
-                sys.exit(f"allocation {place}: {got}, and not {expected}")
-            place += 1
-    print(f"{place - 1} allocations, {starved} of them wanted: no other outcome")
+        if is_tests:
+            sweep_tests(words[1], library)
+            return
+        allocations, starved = sweep(words, library)
+    print(f"{allocations} allocations, {starved} of them wanted: no other outcome")
 
 
 main()

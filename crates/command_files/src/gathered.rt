@@ -1,10 +1,11 @@
 //! An output that gathers small pieces into large ones.
 
-ghost use Rattle.std.specs.Prelude.{◌≡◌, ◌≢◌, ◌<◌, ◌≤◌, ℕ, List, [], length, take, None, IfOk, OnOk, vec_len, vec_capacity};
+ghost use Rattle.std.specs.Prelude.{◌≡◌, ◌≢◌, ◌<◌, ◌≤◌, ◌+◌, ◌*◌, ℕ, List, [], length, take, None, IfOk, OnOk, vec_len, vec_capacity};
 ghost use Rattle.std.specs.Result.{result_err};
 ghost use Rattle.std.specs.Io.KnownBytes.{Appends, Keeps};
+ghost use Rattle.outputs.specs.Numbers.{numbers_line};
 
-use outputs::{Failed, Out, OutFault};
+use outputs::{Failed, LONGEST, Out, OutFault, spell_line};
 use std::alloc::{AllocError, Global};
 
 /// A piece has at least so many bytes, but for the last.
@@ -88,6 +89,7 @@ impl<W: Out> Gathered<W> {
     }
 
     /// Hands on what is waiting, where that is a piece.
+    #[inline(always)]
     fn make_room(&mut self) -> Result<(), OutFault>
         requires { W.fault (under self.old) ≡ None }
         ensures bytes { Keeps (taken_by W.taken self.old) (taken_by W.taken self.new) }
@@ -118,6 +120,21 @@ impl<W: Out> Gathered<W> {
         let _ = self.bytes.extend_from_slice(&piece[..count]);
         count
     }
+
+    /// Spells a line of a keyword and numbers behind what is waiting.
+    #[inline(always)]
+    fn gather_line(&mut self, keyword: &[u8], numbers: &[u32])
+        requires room { vec_len self.old.bytes < 65536 }
+        requires short { length keyword.now + 11 * length numbers.now < 64 }
+        ensures bytes { Appends (taken_by W.taken self.old) (taken_by W.taken self.new) (numbers_line keyword.now numbers.now) }
+        ensures stays { under self.new ≡ under self.old }
+    {
+        let start = self.bytes.len();
+        // there is room for so many
+        let _ = self.bytes.extend_from_slice(&[0; LONGEST]);
+        let end = spell_line(self.bytes.as_mut_slice(), start, keyword, numbers);
+        self.bytes.truncate(end);
+    }
 }
 
 impl<W: Out> Out for Gathered<W> {
@@ -140,6 +157,13 @@ impl<W: Out> Out for Gathered<W> {
 
     fn fault(&self) -> Option<OutFault> {
         self.inner.fault()
+    }
+
+    #[inline(always)]
+    fn put_numbers(&mut self, keyword: &[u8], numbers: &[u32]) -> Result<(), OutFault> {
+        self.make_room()?;
+        self.gather_line(keyword, numbers);
+        Ok(())
     }
 }
 

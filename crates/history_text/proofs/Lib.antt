@@ -1,6 +1,5 @@
 pub mod Taken
 pub mod Turns
-pub mod LineEnds
 pub mod Writing
 pub mod Follows
 pub mod Accepted

@@ -20,7 +20,7 @@ objects_said [] happened = no_object happened
 objects_said (o ∷ objects) happened = ap (λ rest. o ∷ rest) (objects_said objects happened)
 
 -- the line of an event says it
-event_again : (w : ℕ) (k : EventKind) → event_of (line_at w k) ≡ record { worker = w; kind = k }
+pub event_again : (w : ℕ) (k : EventKind) → event_of (line_at w k) ≡ record { worker = w; kind = k }
 event_again w (kind.Begin t) = refl
 event_again w (kind.Op t x k) = refl
 event_again w (kind.Busy c t x u) = refl

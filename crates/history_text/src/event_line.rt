@@ -1,7 +1,7 @@
 //! An event as its line says it, with numbers that may be too great for an event.
 
 ghost use Rattle.std.specs.Prelude.{◌≡◌, true};
-ghost use Rattle.history_text.specs.Events.{event_of, line_of, is_in_range, is_worker, is_transaction, is_object, is_operation};
+ghost use Rattle.history_text.specs.Events.{event_of, is_in_range, is_worker, is_transaction, is_object, is_operation};
 
 use object_trait::{Event, EventKind};
 
@@ -56,6 +56,7 @@ pub enum EventLine {
 
 impl EventLine {
     /// Whether the numbers are those of an event.
+    #[inline(always)]
     pub fn is_in_range(self) -> bool
         ensures { result ≡ is_in_range self }
     {
@@ -83,6 +84,7 @@ impl EventLine {
     }
 
     /// The event.
+    #[inline(always)]
     pub fn event(self) -> Event
         requires { is_in_range self ≡ true }
         ensures { result ≡ event_of self }
@@ -107,41 +109,10 @@ impl EventLine {
             EventLine::Rollback { w, t, n } => event(w, EventKind::Rollback { t, n }),
         }
     }
-
-    /// The line of an event.
-    pub fn of(event: &Event) -> EventLine
-        ensures { result ≡ line_of event.now }
-    {
-        let w = event.worker as u32;
-        match event.kind {
-            EventKind::Begin { t } => EventLine::Begin { w, t },
-            EventKind::Op { t, x, k } => EventLine::Op {
-                w,
-                t,
-                x,
-                k: k as u32,
-            },
-            EventKind::Busy { t, x, c, u } => EventLine::Busy {
-                w,
-                t,
-                x,
-                c: c as u32,
-                u,
-            },
-            EventKind::None { t, x, c } => EventLine::Nothing {
-                w,
-                t,
-                x,
-                c: c as u32,
-            },
-            EventKind::Commit { t } => EventLine::Commit { w, t },
-            EventKind::Abort { t } => EventLine::Abort { w, t },
-            EventKind::Rollback { t, n } => EventLine::Rollback { w, t, n },
-        }
-    }
 }
 
 /// The event of a kind at a worker's call.
+#[inline(always)]
 fn event(w: u32, kind: EventKind) -> Event
     requires { is_worker w ≡ true }
     ensures { result ≡ record { worker = w; kind = kind } }

@@ -1,11 +1,12 @@
 //! The event lines of a history.
 
 ghost use Rattle.std.specs.Prelude.{◌≡◌, map};
-ghost use Rattle.history_text.specs.Events.{events, event_line_of, begin_of, op_of, busy_of, nothing_of, commit_of, abort_of, rollback_of};
+ghost use Rattle.history_text.specs.Events.{events, line_of, event_line_of, begin_of, op_of, busy_of, nothing_of, commit_of, abort_of, rollback_of};
 
 use crate::event_line::EventLine;
 use crate::plain::keep_plain;
 use line_text::{FaultKind, exactly, is_key, number_at};
+use object_trait::Event;
 use store_text::Entries;
 
 /// The events of a history.
@@ -15,7 +16,11 @@ pub struct Events;
 impl Entries for Events {
     type Entry = EventLine;
 
+    type Kept = Event;
+
     ghost body = { λ _. events };
+
+    ghost said = { λ event. line_of event };
 
     fn has_max(&self) -> bool {
         false
@@ -42,7 +47,11 @@ impl Entries for Events {
         }
     }
 
-    fn keep_plain<'a>(&self, entries: &mut Vec<EventLine>, text: &'a [u8]) -> Option<&'a [u8]> {
+    fn kept(&self, entry: EventLine) -> Event {
+        entry.event()
+    }
+
+    fn keep_plain<'a>(&self, entries: &mut Vec<Event>, text: &'a [u8]) -> Option<&'a [u8]> {
         keep_plain(entries, text)
     }
 

@@ -1,4 +1,3 @@
-use crate::event_line::EventLine;
 use object_trait::Event;
 use std::mem::size_of;
 use store_text::ObjectLine;
@@ -10,9 +9,7 @@ pub struct HistoryFile {
     pub events: Vec<Event>,
 }
 
-// Bytes for each line: at most 64 of the value, and at most 160 while it is read. The list of the
-// events' lines doubles as it grows, so three times as much as they take may be there at once; at its
-// end it is cut to its length, and the events are made beside it.
-const _: () = prove!(size_of::<Event>() == 20 && 3 * size_of::<EventLine>() <= 160);
-
-const _: () = prove!(size_of::<EventLine>() + size_of::<Event>() <= 160);
+// Bytes for each line: at most 64 of the value, and at most 160 while it is read. The list of events
+// doubles as it grows, so three times as much as they take may be there at once; at its end it is cut to
+// its length, beside a list of at most twice as much.
+const _: () = prove!(size_of::<Event>() == 20 && 3 * size_of::<Event>() <= 160);

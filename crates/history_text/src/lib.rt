@@ -6,7 +6,6 @@ mod event_line;
 mod events;
 mod history_file;
 mod laws;
-mod line_end;
 mod plain;
 mod read;
 mod write;

@@ -1,19 +1,20 @@
 //! The event lines as they are usually written, with one space between two words and none elsewhere.
 
-ghost use Rattle.std.specs.Prelude.{◌≡◌, ◌+◌, ◌<◌, ◌≤◌, [], ◌∷◌, ◌++◌, true, length, vec_len, vec_capacity, MatchOption, codes};
+ghost use Rattle.std.specs.Prelude.{◌≡◌, ◌+◌, ◌<◌, ◌≤◌, [], ◌∷◌, ◌++◌, true, length, map, vec_len, vec_capacity, MatchOption, codes};
 ghost use Rattle.store_text.specs.PlainEntry.{KeepsEntry};
-ghost use Rattle.history_text.specs.Events.{events, is_in_range};
+ghost use Rattle.history_text.specs.Events.{events, line_of, is_in_range};
 
 use crate::event_line::EventLine;
 use line_text::number_before;
+use object_trait::Event;
 
 /// Keeps the event of a text's first line, where that is a plain one whose numbers are in range and there
 /// is room for it, and gives what is behind it.
-#[inline]
-pub fn keep_plain<'a>(kept: &mut Vec<EventLine>, text: &'a [u8]) -> Option<&'a [u8]>
+#[inline(always)]
+pub fn keep_plain<'a>(kept: &mut Vec<Event>, text: &'a [u8]) -> Option<&'a [u8]>
     ensures items { MatchOption result
         (kept.new.items ≡ kept.old.items)
-        (λ behind. KeepsEntry events text.now behind.now kept.old.items kept.new.items) }
+        (λ behind. KeepsEntry events text.now behind.now (map line_of kept.old.items) (map line_of kept.new.items)) }
     ensures few { length kept.new.items ≤ length kept.old.items + 1 }
 {
     if kept.len() == kept.capacity() {
@@ -42,28 +43,28 @@ pub fn keep_plain<'a>(kept: &mut Vec<EventLine>, text: &'a [u8]) -> Option<&'a [
     }
 }
 
-/// Puts a line whose numbers are in range behind the others.
-#[inline]
-fn keep(kept: &mut Vec<EventLine>, line: EventLine) -> Option<()>
+/// Puts the event of a line whose numbers are in range behind the others.
+#[inline(always)]
+fn keep(kept: &mut Vec<Event>, line: EventLine) -> Option<()>
     requires { vec_len kept.old < vec_capacity kept.old }
     ensures items { MatchOption result
         (kept.new.items ≡ kept.old.items)
-        (λ _. (is_in_range line ≡ true) × (kept.new.items ≡ kept.old.items ++ line ∷ [])) }
+        (λ _. (is_in_range line ≡ true) × (map line_of kept.new.items ≡ map line_of kept.old.items ++ line ∷ [])) }
     ensures few { length kept.new.items ≤ length kept.old.items + 1 }
 {
     if !line.is_in_range() {
         return None;
     }
-    kept.push_reserved(line);
+    kept.push_reserved(line.event());
     Some(())
 }
 
-#[inline]
-fn keep_begin<'a>(kept: &mut Vec<EventLine>, rest: &'a [u8]) -> Option<&'a [u8]>
+#[inline(always)]
+fn keep_begin<'a>(kept: &mut Vec<Event>, rest: &'a [u8]) -> Option<&'a [u8]>
     requires { vec_len kept.old < vec_capacity kept.old }
     ensures items { MatchOption result
         (kept.new.items ≡ kept.old.items)
-        (λ behind. KeepsEntry events (codes "begin " ++ rest.now) behind.now kept.old.items kept.new.items) }
+        (λ behind. KeepsEntry events (codes "begin " ++ rest.now) behind.now (map line_of kept.old.items) (map line_of kept.new.items)) }
     ensures few { length kept.new.items ≤ length kept.old.items + 1 }
 {
     let (w, rest) = number_before(rest, b' ')?;
@@ -72,12 +73,12 @@ fn keep_begin<'a>(kept: &mut Vec<EventLine>, rest: &'a [u8]) -> Option<&'a [u8]>
     Some(behind)
 }
 
-#[inline]
-fn keep_op<'a>(kept: &mut Vec<EventLine>, rest: &'a [u8]) -> Option<&'a [u8]>
+#[inline(always)]
+fn keep_op<'a>(kept: &mut Vec<Event>, rest: &'a [u8]) -> Option<&'a [u8]>
     requires { vec_len kept.old < vec_capacity kept.old }
     ensures items { MatchOption result
         (kept.new.items ≡ kept.old.items)
-        (λ behind. KeepsEntry events (codes "op " ++ rest.now) behind.now kept.old.items kept.new.items) }
+        (λ behind. KeepsEntry events (codes "op " ++ rest.now) behind.now (map line_of kept.old.items) (map line_of kept.new.items)) }
     ensures few { length kept.new.items ≤ length kept.old.items + 1 }
 {
     let (w, rest) = number_before(rest, b' ')?;
@@ -88,12 +89,12 @@ fn keep_op<'a>(kept: &mut Vec<EventLine>, rest: &'a [u8]) -> Option<&'a [u8]>
     Some(behind)
 }
 
-#[inline]
-fn keep_busy<'a>(kept: &mut Vec<EventLine>, rest: &'a [u8]) -> Option<&'a [u8]>
+#[inline(always)]
+fn keep_busy<'a>(kept: &mut Vec<Event>, rest: &'a [u8]) -> Option<&'a [u8]>
     requires { vec_len kept.old < vec_capacity kept.old }
     ensures items { MatchOption result
         (kept.new.items ≡ kept.old.items)
-        (λ behind. KeepsEntry events (codes "busy " ++ rest.now) behind.now kept.old.items kept.new.items) }
+        (λ behind. KeepsEntry events (codes "busy " ++ rest.now) behind.now (map line_of kept.old.items) (map line_of kept.new.items)) }
     ensures few { length kept.new.items ≤ length kept.old.items + 1 }
 {
     let (w, rest) = number_before(rest, b' ')?;
@@ -105,12 +106,12 @@ fn keep_busy<'a>(kept: &mut Vec<EventLine>, rest: &'a [u8]) -> Option<&'a [u8]>
     Some(behind)
 }
 
-#[inline]
-fn keep_nothing<'a>(kept: &mut Vec<EventLine>, rest: &'a [u8]) -> Option<&'a [u8]>
+#[inline(always)]
+fn keep_nothing<'a>(kept: &mut Vec<Event>, rest: &'a [u8]) -> Option<&'a [u8]>
     requires { vec_len kept.old < vec_capacity kept.old }
     ensures items { MatchOption result
         (kept.new.items ≡ kept.old.items)
-        (λ behind. KeepsEntry events (codes "none " ++ rest.now) behind.now kept.old.items kept.new.items) }
+        (λ behind. KeepsEntry events (codes "none " ++ rest.now) behind.now (map line_of kept.old.items) (map line_of kept.new.items)) }
     ensures few { length kept.new.items ≤ length kept.old.items + 1 }
 {
     let (w, rest) = number_before(rest, b' ')?;
@@ -121,12 +122,12 @@ fn keep_nothing<'a>(kept: &mut Vec<EventLine>, rest: &'a [u8]) -> Option<&'a [u8
     Some(behind)
 }
 
-#[inline]
-fn keep_commit<'a>(kept: &mut Vec<EventLine>, rest: &'a [u8]) -> Option<&'a [u8]>
+#[inline(always)]
+fn keep_commit<'a>(kept: &mut Vec<Event>, rest: &'a [u8]) -> Option<&'a [u8]>
     requires { vec_len kept.old < vec_capacity kept.old }
     ensures items { MatchOption result
         (kept.new.items ≡ kept.old.items)
-        (λ behind. KeepsEntry events (codes "commit " ++ rest.now) behind.now kept.old.items kept.new.items) }
+        (λ behind. KeepsEntry events (codes "commit " ++ rest.now) behind.now (map line_of kept.old.items) (map line_of kept.new.items)) }
     ensures few { length kept.new.items ≤ length kept.old.items + 1 }
 {
     let (w, rest) = number_before(rest, b' ')?;
@@ -135,12 +136,12 @@ fn keep_commit<'a>(kept: &mut Vec<EventLine>, rest: &'a [u8]) -> Option<&'a [u8]
     Some(behind)
 }
 
-#[inline]
-fn keep_abort<'a>(kept: &mut Vec<EventLine>, rest: &'a [u8]) -> Option<&'a [u8]>
+#[inline(always)]
+fn keep_abort<'a>(kept: &mut Vec<Event>, rest: &'a [u8]) -> Option<&'a [u8]>
     requires { vec_len kept.old < vec_capacity kept.old }
     ensures items { MatchOption result
         (kept.new.items ≡ kept.old.items)
-        (λ behind. KeepsEntry events (codes "abort " ++ rest.now) behind.now kept.old.items kept.new.items) }
+        (λ behind. KeepsEntry events (codes "abort " ++ rest.now) behind.now (map line_of kept.old.items) (map line_of kept.new.items)) }
     ensures few { length kept.new.items ≤ length kept.old.items + 1 }
 {
     let (w, rest) = number_before(rest, b' ')?;
@@ -149,12 +150,12 @@ fn keep_abort<'a>(kept: &mut Vec<EventLine>, rest: &'a [u8]) -> Option<&'a [u8]>
     Some(behind)
 }
 
-#[inline]
-fn keep_rollback<'a>(kept: &mut Vec<EventLine>, rest: &'a [u8]) -> Option<&'a [u8]>
+#[inline(always)]
+fn keep_rollback<'a>(kept: &mut Vec<Event>, rest: &'a [u8]) -> Option<&'a [u8]>
     requires { vec_len kept.old < vec_capacity kept.old }
     ensures items { MatchOption result
         (kept.new.items ≡ kept.old.items)
-        (λ behind. KeepsEntry events (codes "rollback " ++ rest.now) behind.now kept.old.items kept.new.items) }
+        (λ behind. KeepsEntry events (codes "rollback " ++ rest.now) behind.now (map line_of kept.old.items) (map line_of kept.new.items)) }
     ensures few { length kept.new.items ≤ length kept.old.items + 1 }
 {
     let (w, rest) = number_before(rest, b' ')?;

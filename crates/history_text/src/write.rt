@@ -6,10 +6,8 @@ ghost use Rattle.outputs.specs.Out.{Puts};
 ghost use Rattle.store_text.specs.declared.line.Line.TheVariants.{End};
 ghost use Rattle.history_text.specs.Canonical.{canonical_text, words_of, object_line, event_line};
 
-use crate::event_line::EventLine;
-use crate::line_end::put_numbers;
 use itoa::Buffer;
-use object_trait::Event;
+use object_trait::{Event, EventKind};
 use outputs::{Out, OutFault, items_in_turn, put_line, texts_in_turn};
 use store_text::ObjectLine;
 
@@ -80,7 +78,8 @@ pub fn write_object<W: Out>(out: &mut W, object: &ObjectLine) -> Result<(), OutF
     )
 }
 
-/// Writes the line of an event. The output is offered it as one piece.
+/// Writes the line of an event. The output is offered it as one piece, or spells it where it keeps its
+/// bytes.
 ///
 /// # Errors
 ///
@@ -89,13 +88,14 @@ pub fn write_event<W: Out>(out: &mut W, event: &Event) -> Result<(), OutFault>
     requires { W.fault out.old ≡ None }
     ensures { Puts (W.taken out.old) (W.taken out.new) (W.fault out.new) (spaced (words_of (event_line event.now)) ++ 10 ∷ []) result }
 {
-    match EventLine::of(event) {
-        EventLine::Begin { w, t } => put_numbers(out, b"begin", &[w, t]),
-        EventLine::Op { w, t, x, k } => put_numbers(out, b"op", &[w, t, x, k]),
-        EventLine::Busy { w, t, x, c, u } => put_numbers(out, b"busy", &[w, t, x, c, u]),
-        EventLine::Nothing { w, t, x, c } => put_numbers(out, b"none", &[w, t, x, c]),
-        EventLine::Commit { w, t } => put_numbers(out, b"commit", &[w, t]),
-        EventLine::Abort { w, t } => put_numbers(out, b"abort", &[w, t]),
-        EventLine::Rollback { w, t, n } => put_numbers(out, b"rollback", &[w, t, n]),
+    let w = u32::from(event.worker);
+    match event.kind {
+        EventKind::Begin { t } => out.put_numbers(b"begin", &[w, t]),
+        EventKind::Op { t, x, k } => out.put_numbers(b"op", &[w, t, x, u32::from(k)]),
+        EventKind::Busy { t, x, c, u } => out.put_numbers(b"busy", &[w, t, x, u32::from(c), u]),
+        EventKind::None { t, x, c } => out.put_numbers(b"none", &[w, t, x, u32::from(c)]),
+        EventKind::Commit { t } => out.put_numbers(b"commit", &[w, t]),
+        EventKind::Abort { t } => out.put_numbers(b"abort", &[w, t]),
+        EventKind::Rollback { t, n } => out.put_numbers(b"rollback", &[w, t, n]),
     }
 }

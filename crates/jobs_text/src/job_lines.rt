@@ -16,7 +16,11 @@ pub struct Jobs {
 impl Entries for Jobs {
     type Entry = JobLine;
 
+    type Kept = JobLine;
+
     ghost body = { λ g. jobs g.workers };
+
+    ghost said = { λ line. line };
 
     fn has_max(&self) -> bool {
         true
@@ -31,6 +35,10 @@ impl Entries for Jobs {
         } else {
             Err(FaultKind::UnknownWord)
         }
+    }
+
+    fn kept(&self, entry: JobLine) -> JobLine {
+        entry
     }
 
     fn is_in_range(&self, entry: JobLine) -> bool {

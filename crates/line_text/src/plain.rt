@@ -7,26 +7,29 @@ ghost use Rattle.line_text.specs.Plain.{IsNumberBefore};
 
 use crate::number::{MOST_DIGITS, has_leading_zero, is_digit};
 
-/// The number in front of a text that this byte ends, and what is behind that byte.
-#[inline]
+/// The number in front of a text that this byte ends, and what is behind that byte. A text that has no
+/// byte behind the most digits isn't looked at.
+#[inline(always)]
 pub fn number_before(text: &[u8], stop: u8) -> Option<(u32, &[u8])>
     ensures { IfSome result (λ taken. IsNumberBefore stop text.now taken.0 taken.1.now) }
 {
+    // one test of the length, so that the compiler writes the loop out
+    if text.len() <= MOST_DIGITS {
+        return None;
+    }
     let mut number = 0;
-    for (count, b) in text.iter().enumerate() {
-        if !is_digit(*b) {
+    for count in 0..MOST_DIGITS {
+        let digit = text[count];
+        if !is_digit(digit) {
             return behind_digits(text, count, number, stop);
         }
-        if count == MOST_DIGITS {
-            return None;
-        }
-        number = 10 * number + u32::from(*b - b'0');
+        number = 10 * number + u32::from(digit - b'0');
     }
-    None
+    behind_digits(text, MOST_DIGITS, number, stop)
 }
 
 /// The same where so many digits are in front of the text, which say this number.
-#[inline]
+#[inline(always)]
 fn behind_digits(text: &[u8], count: usize, number: u32, stop: u8) -> Option<(u32, &[u8])>
     requires within { count < length text.now }
     requires short { count ≤ 7 }

@@ -5,9 +5,11 @@
 mod laws;
 mod out;
 mod sink;
+mod spelling;
 mod writing;
 
 pub use laws::{items_in_turn, texts_in_turn};
 pub use out::{Failed, Out, OutFault};
 pub use sink::Sink;
+pub use spelling::{LONGEST, spell_line};
 pub use writing::{put, put_all, put_line};

@@ -1,8 +1,10 @@
-ghost use Rattle.std.specs.Prelude.{◌≡◌, ◌≤◌, List, ℕ, Option, None, length, IfOk};
+ghost use Rattle.std.specs.Prelude.{◌≡◌, ◌≤◌, ◌<◌, ◌+◌, ◌*◌, List, ℕ, Option, None, length, IfOk};
 ghost use Rattle.std.specs.Io.KnownBytes.{WriteAppends};
-ghost use Rattle.outputs.specs.Out.{fault_after};
+ghost use Rattle.outputs.specs.Numbers.{numbers_line};
+ghost use Rattle.outputs.specs.Out.{Puts, fault_after};
 ghost use Rattle.outputs.specs.declared.out.OutFault.{OutFault};
 
+use crate::spelling::{LONGEST, spell_line};
 use thiserror::Error;
 
 /// What stopped an output.
@@ -40,4 +42,32 @@ pub trait Out {
     /// What stopped the output, and `None` while it takes bytes.
     fn fault(&self) -> Option<OutFault>
         ensures { result ≡ fault self.now };
+
+    /// Writes a whole piece, as `put` does.
+    fn put_piece(&mut self, piece: &[u8]) -> Result<(), OutFault>
+        requires { fault self.old ≡ None }
+        ensures { Puts (taken self.old) (taken self.new) (fault self.new) piece.now result }
+    {
+        let mut rest = piece;
+        while !rest.is_empty() {
+            match self.take(rest) {
+                Ok(0) => return Err(OutFault::WroteNothing),
+                Ok(count) => rest = &rest[count..],
+                Err(Failed) => return Err(OutFault::Device),
+            }
+        }
+        Ok(())
+    }
+
+    /// Writes a line of a keyword and numbers, with one space between two, as one piece. An output that
+    /// keeps its bytes may spell it where they lie.
+    fn put_numbers(&mut self, keyword: &[u8], numbers: &[u32]) -> Result<(), OutFault>
+        requires takes { fault self.old ≡ None }
+        requires short { length keyword.now + 11 * length numbers.now < 64 }
+        ensures { Puts (taken self.old) (taken self.new) (fault self.new) (numbers_line keyword.now numbers.now) result }
+    {
+        let mut line = [0; LONGEST];
+        let end = spell_line(&mut line, 0, keyword, numbers);
+        self.put_piece(&line[..end])
+    }
 }

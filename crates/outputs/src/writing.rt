@@ -4,7 +4,7 @@ ghost use Rattle.std.specs.Prelude.{◌≡◌, ◌++◌, ◌∷◌, [], None, ma
 ghost use Rattle.std.specs.List.{flat_map, join_with_byte};
 ghost use Rattle.outputs.specs.Out.{Puts};
 
-use crate::out::{Failed, Out, OutFault};
+use crate::out::{Out, OutFault};
 
 /// Writes a whole piece. After an error the output took a beginning of the piece, and its fault is
 /// that error. An empty piece is written with no call of the writer.
@@ -12,15 +12,7 @@ pub fn put<W: Out>(out: &mut W, piece: &[u8]) -> Result<(), OutFault>
     requires { W.fault out.old ≡ None }
     ensures { Puts (W.taken out.old) (W.taken out.new) (W.fault out.new) piece.now result }
 {
-    let mut rest = piece;
-    while !rest.is_empty() {
-        match out.take(rest) {
-            Ok(0) => return Err(OutFault::WroteNothing),
-            Ok(count) => rest = &rest[count..],
-            Err(Failed) => return Err(OutFault::Device),
-        }
-    }
-    Ok(())
+    out.put_piece(piece)
 }
 
 /// Writes several pieces as one text, as `put` writes one.

@@ -7,7 +7,7 @@ use Rattle.script_text.specs.Commands.{commands}
 use Rattle.script_text.specs.Script.{IsFit}
 
 -- they are those of its parts
-pub is_fit : (parts : Parts Command) → AreFit commands parts → IsFit (record { max = parts.max; objects = parts.objects; commands = parts.entries })
+pub is_fit : (parts : Parts Command) → AreFit commands (λ x. x) parts → IsFit (record { max = parts.max; objects = parts.objects; commands = parts.entries })
 is_fit parts fit =
     let limit = fit.max refl in
     record {

@@ -16,7 +16,11 @@ pub struct Commands;
 impl Entries for Commands {
     type Entry = Command;
 
+    type Kept = Command;
+
     ghost body = { λ _. commands };
+
+    ghost said = { λ command. command };
 
     fn has_max(&self) -> bool {
         true
@@ -37,6 +41,10 @@ impl Entries for Commands {
         } else {
             Err(FaultKind::UnknownWord)
         }
+    }
+
+    fn kept(&self, entry: Command) -> Command {
+        entry
     }
 
     fn keep_plain<'a>(&self, entries: &mut Vec<Command>, text: &'a [u8]) -> Option<&'a [u8]> {

@@ -1,7 +1,8 @@
 -- What is known of the lines of an accepted text.
-use Rattle.std.proofs.Common.{◌≡◌, ℕ, zero, suc, ◌+◌, ◌<◌, ◌≤◌, Bool, true, false, ◌&&◌, cond, eqb, leb, List, [], ◌∷◌, length, Some, refl, sym, ap, ◌∙◌, arith}
+use Rattle.std.proofs.Common.{◌≡◌, ℕ, zero, suc, ◌+◌, ◌<◌, ◌≤◌, Bool, true, false, ◌&&◌, cond, eqb, leb, List, [], ◌∷◌, length, map, Some, refl, sym, ap, ◌∙◌, arith}
 use Rattle.std.specs.List.{slice_get, AllByRecursion}
 use Rattle.std.proofs.lemmas.Bool.{leb-true, leb-false, ne_eqb, and_parts}
+use Rattle.std.proofs.lemmas.List.{length-map}
 use Rattle.std.proofs.lemmas.List.Sums.{sum_by-cons}
 use Rattle.std.proofs.lemmas.Option.{none-some, same_Some}
 use Rattle.type_table.specs.declared.kind.Kind.{Kind}
@@ -77,15 +78,16 @@ entry_count b (Entry x ∷ lines) =
 entry_count b (End ∷ lines) = entry_count b lines
 
 -- an object that passed its tests had room
-pub object_room : {A : Type 0} (b : Body A) (k : KeptParts A) (kind : Kind) (file : ℕ) → HasPassed (store_rules b) (kept_lines k) (Object kind file) → length k.objects.items < 256
-object_room b k kind file h =
-    let free : leb 256 (count_at (store_rules b) (kept_lines k) 1) ≡ false = h.has_room in
-    omega (arith, leb-false 256 (count_at (store_rules b) (kept_lines k) 1) free, object_count b (kept_lines k), ap length (objects_said k.max k.objects.items k.entries.items k.has_ended))
+pub object_room : {K A : Type 0} (b : Body A) (said : K → A) (k : KeptParts K) (kind : Kind) (file : ℕ) → HasPassed (store_rules b) (kept_lines said k) (Object kind file) → length k.objects.items < 256
+object_room b said k kind file h =
+    let free : leb 256 (count_at (store_rules b) (kept_lines said k) 1) ≡ false = h.has_room in
+    omega (arith, leb-false 256 (count_at (store_rules b) (kept_lines said k) 1) free, object_count b (kept_lines said k), ap length (objects_said k.max k.objects.items (map said k.entries.items) k.has_ended))
 
 -- so has an entry where their section isn't full
-pub entry_room : {A : Type 0} (b : Body A) (k : KeptParts A) → is_full (Some entry_lines) (count_at (store_rules b) (kept_lines k) 2) ≡ false → length k.entries.items < 1000000
-entry_room b k free =
-    omega (arith, leb-false 1000000 (count_at (store_rules b) (kept_lines k) 2) free, entry_count b (kept_lines k), ap length (entries_said k.max k.objects.items k.entries.items k.has_ended))
+pub entry_room : {K A : Type 0} (b : Body A) (said : K → A) (k : KeptParts K) → is_full (Some entry_lines) (count_at (store_rules b) (kept_lines said k) 2) ≡ false → length k.entries.items < 1000000
+entry_room b said k free =
+    let count : length (map said k.entries.items) ≡ length k.entries.items = length-map k.entries.items said in
+    omega (arith, leb-false 1000000 (count_at (store_rules b) (kept_lines said k) 2) free, entry_count b (kept_lines said k), ap length (entries_said k.max k.objects.items (map said k.entries.items) k.has_ended), count)
 
 -- ---- plain lines
 
@@ -95,22 +97,22 @@ has_another true n some = ne_eqb n 0 (λ e. omega (arith, some))
 has_another false n some = refl
 
 -- an entry that was kept behind the others is a line that was kept behind the others
-pub keeps_entry : {A : Type 0} (b : Body A) (k : KeptParts A) (text behind : List ℕ) (after : List A) → TakesMore (store_rules b) (kept_lines k) 2 → KeepsEntry b text behind k.entries.items after
-    → KeepsPlainly (store_rules b) 2 text behind (kept_lines k) (lines_of_parts k.max k.objects.items after k.has_ended)
-keeps_entry b k text behind after takes h = record {
+pub keeps_entry : {K A : Type 0} (b : Body A) (said : K → A) (k : KeptParts K) (text behind : List ℕ) (after : List A) → TakesMore (store_rules b) (kept_lines said k) 2 → KeepsEntry b text behind (map said k.entries.items) after
+    → KeepsPlainly (store_rules b) 2 text behind (kept_lines said k) (lines_of_parts k.max k.objects.items after k.has_ended)
+keeps_entry b said k text behind after takes h = record {
   item = Entry h.entry;
   says = h.says;
   place = refl;
   passed = record {
     in_order = takes.in_order (Entry h.entry) refl;
     lacks_none = takes.lacks_none;
-    misses_none = has_another (b.wants_another h.entry) (count_at (store_rules b) (kept_lines k) 2) takes.some;
+    misses_none = has_another (b.wants_another h.entry) (count_at (store_rules b) (kept_lines said k) 2) takes.some;
     in_range = h.in_range;
     has_room = takes.has_room;
     ascending = takes.ascending (Entry h.entry) refl;
-    no_twin = sym (never (kept_lines k));
+    no_twin = sym (never (kept_lines said k));
   };
-  kept = rw h.kept (entry_more b k.max k.objects.items k.entries.items k.has_ended h.entry (takes.in_order (Entry h.entry) refl));
+  kept = rw h.kept (entry_more b k.max k.objects.items (map said k.entries.items) k.has_ended h.entry (takes.in_order (Entry h.entry) refl));
 }
 
 -- where a line of the objects' rank stands, there is an object
@@ -135,35 +137,36 @@ files_in_range b (End ∷ lines) h = files_in_range b lines (λ n x at. h (suc n
 -- ---- all together
 
 -- parts that were made of accepted lines are theirs
-pub are_parts : {A : Type 0} (b : Body A) (lines : List (Line A)) (parts : Parts A) → AreInOrder (store_rules b) lines
-    → parts.max ≡ max_in (slice_get lines 0) → parts.objects.items ≡ objects_of lines → parts.entries.items ≡ entries_of lines → IsPartsOf b lines parts
-are_parts b lines parts order max objects entries = record {
+pub are_parts : {K A : Type 0} (b : Body A) (said : K → A) (lines : List (Line A)) (parts : Parts K) → AreInOrder (store_rules b) lines
+    → parts.max ≡ max_in (slice_get lines 0) → parts.objects.items ≡ objects_of lines → map said parts.entries.items ≡ entries_of lines → IsPartsOf b said lines parts
+are_parts b said lines parts order max objects entries = record {
   max = λ h. max_first b lines order h ∙ ap (λ most. Some (Max most)) (sym max);
   objects = objects;
   entries = entries;
 }
 
 -- so are the parts that were kept
-pub are_parts_of : {A : Type 0} (b : Body A) (k : KeptParts A) (parts : Parts A) → AreInOrder (store_rules b) (kept_lines k)
-    → parts.max ≡ limit_of k.max → parts.objects.items ≡ k.objects.items → parts.entries.items ≡ k.entries.items → IsPartsOf b (kept_lines k) parts
-are_parts_of b k parts order max objects entries =
-    are_parts b (kept_lines k) parts order
-    (max ∙ sym (limit_said k.max k.objects.items k.entries.items k.has_ended))
-    (objects ∙ sym (objects_said k.max k.objects.items k.entries.items k.has_ended))
-    (entries ∙ sym (entries_said k.max k.objects.items k.entries.items k.has_ended))
+pub are_parts_of : {K A : Type 0} (b : Body A) (said : K → A) (k : KeptParts K) (parts : Parts K) → AreInOrder (store_rules b) (kept_lines said k)
+    → parts.max ≡ limit_of k.max → parts.objects.items ≡ k.objects.items → parts.entries.items ≡ k.entries.items → IsPartsOf b said (kept_lines said k) parts
+are_parts_of b said k parts order max objects entries =
+    are_parts b said (kept_lines said k) parts order
+    (max ∙ sym (limit_said k.max k.objects.items (map said k.entries.items) k.has_ended))
+    (objects ∙ sym (objects_said k.max k.objects.items (map said k.entries.items) k.has_ended))
+    (ap (map said) entries ∙ sym (entries_said k.max k.objects.items (map said k.entries.items) k.has_ended))
 
 -- and each of their numbers and counts is in its range
-pub are_fit : {A : Type 0} (b : Body A) (lines : List (Line A)) (parts : Parts A) → AreInOrder (store_rules b) lines → IsPartsOf b lines parts → AreFit b parts
-are_fit b lines parts order said =
+pub are_fit : {K A : Type 0} (b : Body A) (said : K → A) (lines : List (Line A)) (parts : Parts K) → AreInOrder (store_rules b) lines → IsPartsOf b said lines parts → AreFit b said parts
+are_fit b said lines parts order are =
     let ranges = in_range b lines order in
     let first = order.needed.each 1 (omega arith) refl in
+    let count : length parts.entries.items ≡ length (entries_of lines) = sym (length-map parts.entries.items said) ∙ ap length are.entries in
     record {
       max = λ h.
-          let ends = and_parts (leb 2 parts.max) (leb parts.max 1000000) (ranges 0 (Max parts.max) (said.max h)) in
+          let ends = and_parts (leb 2 parts.max) (leb parts.max 1000000) (ranges 0 (Max parts.max) (are.max h)) in
           (leb-true 2 parts.max ends.0, leb-true parts.max 1000000 ends.1);
-      some_object = rw said.objects (some_object lines first.place first.item first.at first.ranked);
-      objects = rw (said.objects, ← object_count b lines) (order.limits 1 256 object_lines refl refl);
-      files = rw said.objects (files_in_range b lines ranges);
-      entries = rw (said.entries, ← entry_count b lines) (order.limits 2 1000000 entry_lines refl refl);
-      in_range = rw said.entries (entries_in_range b lines ranges);
+      some_object = rw are.objects (some_object lines first.place first.item first.at first.ranked);
+      objects = rw (are.objects, ← object_count b lines) (order.limits 1 256 object_lines refl refl);
+      files = rw are.objects (files_in_range b lines ranges);
+      entries = rw (count, ← entry_count b lines) (order.limits 2 1000000 entry_lines refl refl);
+      in_range = rw are.entries (entries_in_range b lines ranges);
     }

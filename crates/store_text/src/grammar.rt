@@ -59,19 +59,19 @@ pub struct StoreGrammar<E> {
 impl<E: Entries> Grammar for StoreGrammar<E> {
     type Item = Line<E::Entry>;
 
-    type Kept = KeptParts<E::Entry>;
+    type Kept = KeptParts<E::Kept>;
 
     ghost rules = { λ g. store_rules (E.body g.entries) };
 
-    ghost kept = { λ kept. kept_lines kept };
+    ghost kept = { λ kept. kept_lines E.said kept };
 
-    fn nothing(&self, alloc: Global) -> KeptParts<E::Entry> {
+    fn nothing(&self, alloc: Global) -> KeptParts<E::Kept> {
         KeptParts::new(alloc)
     }
 
     fn keep(
         &self,
-        before: &mut KeptParts<E::Entry>,
+        before: &mut KeptParts<E::Kept>,
         item: Line<E::Entry>,
     ) -> Result<(), AllocError> {
         match item {
@@ -80,7 +80,7 @@ impl<E: Entries> Grammar for StoreGrammar<E> {
                 let file = file as u8;
                 before.objects.push(ObjectLine { kind, file })?;
             }
-            Line::Entry(entry) => before.entries.push(entry)?,
+            Line::Entry(entry) => before.entries.push(self.entries.kept(entry))?,
             Line::End => before.has_ended = true,
         }
         Ok(())
@@ -102,7 +102,7 @@ impl<E: Entries> Grammar for StoreGrammar<E> {
 
     fn keep_plain<'a>(
         &self,
-        before: &mut KeptParts<E::Entry>,
+        before: &mut KeptParts<E::Kept>,
         rank: usize,
         text: &'a [u8],
     ) -> Option<&'a [u8]> {
@@ -130,12 +130,7 @@ impl<E: Entries> Grammar for StoreGrammar<E> {
         }
     }
 
-    fn misses(
-        &self,
-        _before: &KeptParts<E::Entry>,
-        counts: &[usize],
-        item: Line<E::Entry>,
-    ) -> bool {
+    fn misses(&self, _before: &KeptParts<E::Kept>, counts: &[usize], item: Line<E::Entry>) -> bool {
         match item {
             Line::Entry(entry) => self.entries.wants_another(entry) && counts[ENTRY_RANK] == 0,
             _ => false,
@@ -144,7 +139,7 @@ impl<E: Entries> Grammar for StoreGrammar<E> {
 
     fn is_in_range(
         &self,
-        _before: &KeptParts<E::Entry>,
+        _before: &KeptParts<E::Kept>,
         _counts: &[usize],
         item: Line<E::Entry>,
     ) -> bool {
@@ -160,7 +155,7 @@ impl<E: Entries> Grammar for StoreGrammar<E> {
         None
     }
 
-    fn has_twin(&self, _before: &KeptParts<E::Entry>, _item: Line<E::Entry>) -> bool {
+    fn has_twin(&self, _before: &KeptParts<E::Kept>, _item: Line<E::Entry>) -> bool {
         false
     }
 }

@@ -4,25 +4,28 @@ use crate::line::ObjectLine;
 use crate::parts::Parts;
 use std::alloc::Global;
 
-/// The parts that the lines so far say.
+/// The parts that the lines so far say, with what is kept of each entry.
 #[derive(Drop)]
-pub struct KeptParts<Entry> {
+pub struct KeptParts<Kept> {
     pub max: Option<u32>,
     pub objects: Vec<ObjectLine>,
-    pub entries: Vec<Entry>,
+    pub entries: Vec<Kept>,
     /// Whether `end` has come.
     pub has_ended: bool,
     ghost few_objects: { length objects.items ≤ 256 },
     ghost few_entries: { length entries.items ≤ 1000000 },
 }
 
-impl<Entry: Copy> KeptParts<Entry> {
-    ghost use Rattle.std.specs.Prelude.{◌≡◌, []};
-    ghost use Rattle.store_text.specs.Kept.{kept_lines, limit_of};
+impl<Kept: Copy> KeptParts<Kept> {
+    ghost use Rattle.std.specs.Prelude.{◌≡◌, [], None, false};
+    ghost use Rattle.store_text.specs.Kept.{limit_of};
 
     /// No line.
-    pub fn new(alloc: Global) -> KeptParts<Entry>
-        ensures { kept_lines result ≡ [] }
+    pub fn new(alloc: Global) -> KeptParts<Kept>
+        ensures max { result.max ≡ None }
+        ensures objects { result.objects.items ≡ [] }
+        ensures entries { result.entries.items ≡ [] }
+        ensures unended { result.has_ended ≡ false }
     {
         KeptParts {
             max: None,
@@ -33,7 +36,7 @@ impl<Entry: Copy> KeptParts<Entry> {
     }
 
     /// The parts of a text that was read to its end.
-    pub fn into_parts(self) -> Parts<Entry>
+    pub fn into_parts(self) -> Parts<Kept>
         ensures max { result.max ≡ limit_of self.max }
         ensures objects { result.objects.items ≡ self.objects.items }
         ensures entries { result.entries.items ≡ self.entries.items }

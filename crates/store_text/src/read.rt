@@ -16,9 +16,9 @@ pub fn read_parts<E: Entries>(
     alloc: Global,
     grammar: &StoreGrammar<E>,
     text: &[u8],
-) -> Result<Parts<E::Entry>, TextFault>
-    ensures exact { Reads (E.body grammar.now.entries) (IsPartsOf (E.body grammar.now.entries)) result text.now }
-    ensures fit { IfOk result (AreFit (E.body grammar.now.entries)) }
+) -> Result<Parts<E::Kept>, TextFault>
+    ensures exact { Reads (E.body grammar.now.entries) (IsPartsOf (E.body grammar.now.entries) E.said) result text.now }
+    ensures fit { IfOk result (AreFit (E.body grammar.now.entries) E.said) }
 {
     accepted_in_order::<Line<E::Entry>>();
     let kept = read_items(alloc, grammar, text)?;

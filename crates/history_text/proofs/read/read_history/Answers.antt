@@ -1,7 +1,10 @@
-use Rattle.history_text.proofs.Fit.{are_in_range}
+use Rattle.history_text.proofs.Fit.{is_history, are_in_range}
 use Rattle.history_text.proofs.read.read_history.Goals as goal
 
-pub returns-in-Ok-clause-fit : goal.returns-in-Ok-clause-fit
-returns-in-Ok-clause-fit c =
-    let happened = rw c.deref.ensures.value at c.in-Ok.ensures in
-    are_in_range c.in_ok-parts.parts c.in-Ok.events.items c.in_ok-parts.ensures.fit happened
+pub returns-clause-exact : goal.returns-clause-exact
+returns-clause-exact c =
+    let read = c.in_ok-parts.ensures.exact in
+    (read.0, read.1, is_history read.0 c.in_ok-parts.parts read.2)
+
+pub returns-clause-fit : goal.returns-clause-fit
+returns-clause-fit c = are_in_range c.in_ok-parts.parts c.in_ok-parts.ensures.fit

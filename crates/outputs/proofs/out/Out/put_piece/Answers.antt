@@ -3,7 +3,7 @@ use Rattle.std.proofs.lemmas.Grind.{common_steps}
 use Rattle.outputs.specs.declared.out.OutFault.TheVariants.{Device, WroteNothing}
 use Rattle.outputs.proofs.Puts.{Puts-append}
 use Rattle.outputs.proofs.Takes.{Appends-from_kept, Puts-taken, Puts-untaken, fault_after-nothing, piece-moved}
-use Rattle.outputs.proofs.writing.put.Goals as goal
+use Rattle.outputs.proofs.out.Out.put_piece.Goals as goal
 
 pub returns-in-Ok-eq0 : goal.returns-in-Ok-eq0
 returns-in-Ok-eq0 g c =
