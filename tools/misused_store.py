@@ -23,11 +23,17 @@ MISUSES = [
 ]
 
 
+def what_is_made(folder, names):
+    """What isn't a source: the history of versions, and what a check keeps in `out` of each crate."""
+    is_crate = os.path.basename(os.path.dirname(os.path.abspath(folder))) == "crates"
+    return [name for name in names if name == ".git" or name == "out" and is_crate]
+
+
 def refusal(old, new):
     """What a try says of a program over the crate with this body."""
     with tempfile.TemporaryDirectory() as folder:
         copy = os.path.join(folder, "copy")
-        shutil.copytree(ROOT, copy, ignore=shutil.ignore_patterns(".git", "out"))
+        shutil.copytree(ROOT, copy, ignore=what_is_made)
         path = os.path.join(copy, FILE)
         with open(path, encoding="utf-8") as file:
             text = file.read()
