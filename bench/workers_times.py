@@ -33,7 +33,7 @@ JOBS_WITHOUT_CONFLICTS = 320_000
 # beyond its time.
 RUN, LATE = 150_000, 60
 
-PROGRAMS = ("colock", "operations", "object")
+PROGRAMS = ("colock", "operations", "object", "pausing")
 
 
 def write_types(folder):
@@ -49,14 +49,20 @@ def write_types(folder):
             file.write(text)
 
 
+def plain(folder, name, *flags):
+    """The plain program, built with these flags."""
+    path = os.path.join(folder, name)
+    source = os.path.join(HERE, "plain_workers", "main.rs")
+    subprocess.run(["rustc", "-O", "-C", "codegen-units=1", "-C", "target-cpu=x86-64-v2", "--edition", "2024",
+                    "--check-cfg", "cfg(pausing)", *flags, "-o", path, source], check=True)
+    return path
+
+
 def programs(folder):
     """The words by which each program begins."""
-    plain = os.path.join(folder, "plain_workers")
-    source = os.path.join(HERE, "plain_workers", "main.rs")
-    subprocess.run(["rustc", "-O", "-C", "codegen-units=1", "-C", "target-cpu=x86-64-v2",
-                    "--edition", "2024", "-o", plain, source], check=True)
-    return {"colock": [store_times.built("workers_bench")],
-            "operations": [plain, "operations"], "object": [plain, "object"]}
+    at_once, pausing = plain(folder, "at_once"), plain(folder, "pausing", "--cfg", "pausing")
+    return {"colock": [store_times.built("workers_bench")], "operations": [at_once, "operations"],
+            "object": [at_once, "object"], "pausing": [pausing, "operations"]}
 
 
 def work(program, name, think, workers):
@@ -91,17 +97,18 @@ def row(programs, folder, name, kind, think, workers, rounds):
             seen[program].append(outcome(program, programs[program], name, kind, path, think, workers))
     rates = {program: [rate for rate, _ in runs] for program, runs in seen.items()}
     most = {program: max(runs) for program, runs in rates.items()}
-    busy = [sum(share for _, share in seen[program]) / rounds for program in ("colock", "operations")]
+    locking = ("colock", "operations", "pausing")
+    busy = [sum(share for _, share in seen[program]) / rounds for program in locking]
     cells = [name, kind, str(workers)]
     cells += [f"{min(rates[program]):,.0f} to {most[program]:,.0f}" for program in PROGRAMS]
-    cells += [f"{most['colock'] / most[program]:.2f}" for program in ("operations", "object")]
+    cells += [f"{most['colock'] / most[program]:.2f}" for program in PROGRAMS[1:]]
     cells += [f"{share:.0%}" for share in busy]
     return "| " + " | ".join(cells) + " |"
 
 
 HEAD = """
-| {}: commits a second | kind | workers | colock | operations | object | to operations | to object | busy | operations' |
-|---|---|---|---|---|---|---|---|---|---|"""
+| {}: commits a second | kind | workers | colock | operations | object | pausing | to operations | to object | to pausing | busy | operations' | pausing's |
+|---|---|---|---|---|---|---|---|---|---|---|---|---|"""
 
 
 def main(rounds):

@@ -6,7 +6,7 @@
 //! answered `Busy` and `None`. LOCK is `object` or `operations`. Each worker has a list of so many jobs. A
 //! job is a begin, one of the CALLs in turn, and a commit, and is tried so often at the most: where the
 //! call has no reply, the transaction aborts. Between the call and the end the worker sleeps so many
-//! microseconds, if any.
+//! microseconds, if any. Built with `--cfg pausing`, a worker waits as those of `run_workers` do.
 
 #[path = "../plain_store/intentions.rs"]
 mod intentions;
@@ -27,12 +27,20 @@ mod undo;
 
 mod object;
 mod operations;
+#[allow(dead_code)]
+mod waiting;
 
 use std::sync::Arc;
 use std::thread;
 use std::time::{Duration, Instant};
 
+use intentions::Intentions;
 use types::{Call, Type};
+use undo::Undo;
+#[cfg(not(pausing))]
+use waiting::AtOnce as Waiting;
+#[cfg(pausing)]
+use waiting::Pausing as Waiting;
 
 /// The name of a call, of at most 32 bytes.
 pub struct Name {
@@ -81,8 +89,9 @@ impl Work<'_> {
         self.table.calls.iter().find(named).expect("a call").first
     }
 
-    /// Does all jobs of a worker, each tried until its call has a reply.
-    pub fn all(&self, jobs: Vec<Job>, mut try_once: impl FnMut(u8) -> (u32, Reply)) -> Told {
+    /// Does all jobs of a worker, each tried until its call has a reply. A try is handed the number of
+    /// the call, and how many tries of the job were broken.
+    pub fn all(&self, jobs: Vec<Job>, mut try_once: impl FnMut(u8, u32) -> (u32, Reply)) -> Told {
         let mut told = Told {
             outcomes: Vec::with_capacity(jobs.len()),
             ..Told::default()
@@ -90,8 +99,8 @@ impl Work<'_> {
         for job in jobs {
             let c = self.call(&job);
             let mut outcome = Outcome::GaveUp;
-            for _ in 0..self.tries {
-                let (t, reply) = try_once(c);
+            for broken in 0..self.tries {
+                let (t, reply) = try_once(c, broken);
                 told.note(reply);
                 if reply == Reply::Legal {
                     outcome = Outcome::Committed(t);
@@ -186,8 +195,8 @@ fn main() {
     };
     let (time, told) = match (lock.as_str(), kind.as_str()) {
         ("object", _) => object::run(work, jobs),
-        (_, "undo") => operations::run::<undo::Undo>(&table, work, jobs),
-        _ => operations::run::<intentions::Intentions>(&table, work, jobs),
+        (_, "undo") => operations::run::<Undo, Waiting>(&table, work, jobs),
+        _ => operations::run::<Intentions, Waiting>(&table, work, jobs),
     };
     println!("nanoseconds {}", time.as_nanos());
     println!("commits {}", told.iter().map(Told::commits).sum::<usize>());

@@ -61,6 +61,6 @@ pub fn run(work: Work, jobs: Vec<Vec<Job>>) -> (Duration, Vec<Told>) {
         history: Vec::new(),
     });
     crate::run(jobs, &|w, jobs| {
-        work.all(jobs, |c| try_once(&shared, &work, w, c))
+        work.all(jobs, |c, _broken| try_once(&shared, &work, w, c))
     })
 }

@@ -6,6 +6,7 @@ use std::time::Duration;
 use crate::recovery::Recovery;
 use crate::store::{Answer, Object, Store};
 use crate::types::Type;
+use crate::waiting::Manner;
 use crate::{Job, Reply, Told, Work};
 
 /// The most events of a history.
@@ -61,16 +62,20 @@ impl<R: Recovery> Shared<R> {
 
 /// A job, tried once: its transaction, and what its call was answered. Each call takes the lock for
 /// itself.
-fn try_once<R: Recovery>(shared: &Mutex<Shared<R>>, work: &Work, w: u8, c: u8) -> (u32, Reply) {
-    let t = shared.lock().expect("a lock").begin(w);
-    let reply = shared.lock().expect("a lock").call(w, t, c);
+fn try_once<R: Recovery, M: Manner>(
+    shared: &Mutex<Shared<R>>,
+    work: &Work,
+    w: u8,
+    c: u8,
+) -> (u32, Reply) {
+    let t = M::take(shared).begin(w);
+    let reply = M::take(shared).call(w, t, c);
     work.think();
-    let mut held = shared.lock().expect("a lock");
-    held.end(w, t, reply == Reply::Legal);
+    M::take(shared).end(w, t, reply == Reply::Legal);
     (t, reply)
 }
 
-pub fn run<R: Recovery + Send>(
+pub fn run<R: Recovery + Send, M: Manner>(
     table: &Arc<Type>,
     work: Work,
     jobs: Vec<Vec<Job>>,
@@ -80,6 +85,9 @@ pub fn run<R: Recovery + Send>(
         receipts: jobs.iter().map(|_| Vec::new()).collect(),
     });
     crate::run(jobs, &|w, jobs| {
-        work.all(jobs, |c| try_once(&shared, &work, w, c))
+        work.all(jobs, |c, broken| {
+            M::wait_for_a_try(broken);
+            try_once::<R, M>(&shared, &work, w, c)
+        })
     })
 }

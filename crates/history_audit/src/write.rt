@@ -6,11 +6,8 @@ ghost use Rattle.outputs.specs.Out.{Puts};
 ghost use Rattle.history_audit.specs.Text.{commit_line, serial_line, audit_text};
 
 use crate::outcome::{Audit, AuditFault};
-use itoa::{Buffer, write_digits};
-use outputs::{Out, OutFault, items_in_turn, put, put_line, texts_in_turn};
-
-/// The most bytes of a number of 32 bits and a LF.
-const LONGEST: usize = 11;
+use itoa::Buffer;
+use outputs::{Out, OutFault, items_in_turn, put_line, texts_in_turn};
 
 /// Writes the lines of an audit: after a yes one for it, one for each committed transaction in commit order, and
 /// one for each object with its serial state; else one for the fault, and none where memory was refused. It takes
@@ -54,16 +51,12 @@ fn write_order<W: Out>(order: &[u32], out: &mut W) -> Result<(), OutFault>
     Ok(())
 }
 
-/// Writes the line of a committed transaction, of which there may be many, in two pieces.
+/// Writes the line of a committed transaction, of which there may be many.
 fn write_commit<W: Out>(t: u32, out: &mut W) -> Result<(), OutFault>
     requires { W.fault out.old ≡ None }
     ensures { Puts (W.taken out.old) (W.taken out.new) (W.fault out.new) (commit_line t) result }
 {
-    texts_in_turn();
-    let mut line_end = [b'\n'; LONGEST];
-    let start = write_digits(u64::from(t), &mut line_end, LONGEST - 1);
-    put(out, b"# commit ")?;
-    put(out, &line_end[start..])
+    out.put_numbers(b"# commit", &[t])
 }
 
 /// Writes the lines of the objects.

@@ -7,6 +7,7 @@ use crate::event_line::EventLine;
 use crate::plain::keep_plain;
 use line_text::{FaultKind, exactly, is_key, number_at};
 use object_trait::Event;
+use std::alloc::{AllocError, Global};
 use store_text::Entries;
 
 /// The events of a history.
@@ -16,11 +17,11 @@ pub struct Events;
 impl Entries for Events {
     type Entry = EventLine;
 
-    type Kept = Event;
+    type Kept = Vec<Event>;
 
     ghost body = { λ _. events };
 
-    ghost said = { λ event. line_of event };
+    ghost said = { λ happened. map line_of happened.items };
 
     fn has_max(&self) -> bool {
         false
@@ -47,12 +48,21 @@ impl Entries for Events {
         }
     }
 
-    fn kept(&self, entry: EventLine) -> Event {
-        entry.event()
+    fn nothing(&self, alloc: Global) -> Vec<Event> {
+        Vec::new(alloc)
     }
 
-    fn keep_plain<'a>(&self, entries: &mut Vec<Event>, text: &'a [u8]) -> Option<&'a [u8]> {
-        keep_plain(entries, text)
+    fn keep(&self, happened: &mut Vec<Event>, entry: EventLine) -> Result<(), AllocError> {
+        happened.push(entry.event())?;
+        Ok(())
+    }
+
+    fn keep_plain<'a>(&self, happened: &mut Vec<Event>, text: &'a [u8]) -> Option<&'a [u8]> {
+        keep_plain(happened, text)
+    }
+
+    fn are_few(&self, happened: &Vec<Event>) {
+        happened.as_slice();
     }
 
     fn is_in_range(&self, entry: EventLine) -> bool {

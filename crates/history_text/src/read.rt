@@ -23,10 +23,8 @@ pub fn read_history(alloc: Global, text: &[u8]) -> Result<HistoryFile, TextFault
     let Parts {
         max: _,
         objects,
-        entries,
+        entries: mut events,
     } = parts;
-    Ok(HistoryFile {
-        objects,
-        events: entries,
-    })
+    events.shrink_to_fit();
+    Ok(HistoryFile { objects, events })
 }

@@ -10,7 +10,7 @@ use Rattle.jobs_text.specs.declared.job_line.JobLine.{JobLine}
 use Rattle.jobs_text.specs.declared.jobs_file.Job.{Job}
 
 -- they are those of their parts
-pub is_fit : (workers : ℕ) (parts : Parts JobLine) (lists : Vec (Vec Job Global) Global) → AreFit (jobs workers) (λ x. x) parts
+pub is_fit : (workers : ℕ) (parts : Parts (Vec JobLine Global)) (lists : Vec (Vec Job Global) Global) → AreFit (jobs workers) (λ lines. lines.items) parts
     → IsFit (record { max = parts.max; objects = parts.objects; jobs = lists })
 is_fit workers parts lists fit =
     let limit = fit.max refl in

@@ -5,6 +5,7 @@ ghost use Rattle.jobs_text.specs.JobLines.{jobs, job_line_of, job_of, do_of};
 
 use crate::job_line::JobLine;
 use line_text::{FaultKind, exactly, is_key, name_at, number_at};
+use std::alloc::{AllocError, Global};
 use store_text::Entries;
 
 /// The jobs of so many workers.
@@ -16,11 +17,11 @@ pub struct Jobs {
 impl Entries for Jobs {
     type Entry = JobLine;
 
-    type Kept = JobLine;
+    type Kept = Vec<JobLine>;
 
     ghost body = { λ g. jobs g.workers };
 
-    ghost said = { λ line. line };
+    ghost said = { λ lines. lines.items };
 
     fn has_max(&self) -> bool {
         true
@@ -37,8 +38,17 @@ impl Entries for Jobs {
         }
     }
 
-    fn kept(&self, entry: JobLine) -> JobLine {
-        entry
+    fn nothing(&self, alloc: Global) -> Vec<JobLine> {
+        Vec::new(alloc)
+    }
+
+    fn keep(&self, lines: &mut Vec<JobLine>, entry: JobLine) -> Result<(), AllocError> {
+        lines.push(entry)?;
+        Ok(())
+    }
+
+    fn are_few(&self, lines: &Vec<JobLine>) {
+        lines.as_slice();
     }
 
     fn is_in_range(&self, entry: JobLine) -> bool {

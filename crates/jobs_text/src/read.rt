@@ -25,9 +25,10 @@ pub fn read_jobs(alloc: Global, text: &[u8], workers: u8) -> Result<JobsFile, Te
     let Parts {
         max,
         objects,
-        entries,
+        entries: mut lines,
     } = parts;
-    match jobs_of(alloc, workers, &entries) {
+    lines.shrink_to_fit();
+    match jobs_of(alloc, workers, &lines) {
         Ok(jobs) => Ok(JobsFile { max, objects, jobs }),
         Err(_) => Err(TextFault {
             line: 1,

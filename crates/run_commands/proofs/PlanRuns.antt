@@ -70,7 +70,7 @@ pub record HasText (old : Stored) (script : Script) (before after : Option (List
 text_of_run : (old : Stored) (script : Script) (before after : Option (List ℕ)) (fault : Option OutFault) (left : Stored) (done : Unit {0})
     → RunsScript old script before after fault left (Ok done) → HasText old script before after left
 text_of_run old script before after fault left done ran = record {
-  text = text_of (script_turns (objects old) old.max ran.wanting ran.kept old.history script.objects.items script.commands.items);
+  text = text_of (script_turns (objects old) old.max ran.wanting ran.kept old.history script.objects.items script.commands);
   ran = record {
     wanting = ran.wanting;
     may_want = ran.may_want;

@@ -22,7 +22,7 @@ pub record Has (order finals : List ℕ) (a : Audit) : Type 0 where
 pub record KeepsOthers (plan : Plan) : Type 0 where
   pub max_is : plan.script.max ≡ 20
   pub objects_are : plan.script.objects.items ≡ one_line
-  pub commands_are : plan.script.commands.items ≡ keeps_others
+  pub commands_are : plan.script.commands ≡ keeps_others
   pub types_are : map value_of plan.types.items ≡ record { kind = Undo; file = counter_file } ∷ []
 
 -- the text of its run, and the lines of the audit

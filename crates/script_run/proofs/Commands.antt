@@ -1,5 +1,6 @@
 -- Commands that are asked one after another.
-use Rattle.std.proofs.Common.{◌≡◌, ℕ, zero, suc, ◌+◌, ◌<◌, ◌≤◌, Bool, false, List, [], ◌∷◌, ◌++◌, length, take, drop, get_or, Option, None, Result, Ok, Err, refl, sym, ap, ◌∙◌, subst}
+use Rattle.std.proofs.Common.{◌≡◌, ℕ, zero, suc, ◌+◌, ◌<◌, ◌≤◌, Bool, false, List, [], ◌∷◌, ◌++◌, length, take, drop, get_or, Option, None, Result, Ok, Err, refl, sym, ap, ◌∙◌, subst, arith}
+use Rattle.std.specs.Prelude.{slice_get}
 use Rattle.std.proofs.lemmas.Bool.{false≢true}
 use Rattle.std.proofs.lemmas.List.{take_more, take_all, take-append-drop}
 use Rattle.object_trait.specs.Object.{Object}
@@ -102,3 +103,9 @@ pub commands-stop_at : (s mid new : Stored) (cs : List Command) (i : ℕ) (d : C
 commands-stop_at s mid new cs i d {a = a} {c = c} {g = g} {e = e} inside is so_far stopped =
     subst (λ l. RunsCommands s l a c g new (Err e)) (take-append-drop (i + 1) cs)
     (commands-stop s new (take (i + 1) cs) (drop (i + 1) cs) (commands-more s mid new cs i d inside is so_far stopped))
+
+-- there is a command at each place
+pub no_gap : (cs : List Command) (i : ℕ) → i < length cs → slice_get cs i ≡ None → ⊥
+no_gap (c ∷ cs) zero inside gap = absurd cc
+no_gap (c ∷ cs) (suc i) inside gap = no_gap cs i (omega (arith, inside)) gap
+no_gap [] i inside gap = omega (arith, inside)

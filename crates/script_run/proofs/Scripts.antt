@@ -36,7 +36,7 @@ pub script-objects : (s : Stored) (script : Script) {a b : Option (List ℕ)} {f
 script-objects s script p =
     record {
       wanting = λ place. false;
-      may_want = never-wanted (objects s) s.max s.history script.commands.items;
+      may_want = never-wanted (objects s) s.max s.history script.commands;
       kept = [];
       are_kept = none_kept s;
       all_kept = tt;
@@ -45,7 +45,7 @@ script-objects s script p =
 
 -- at a command's
 pub script-commands : (s new : Stored) (script : Script) {a b c : Option (List ℕ)} {f g : Option OutFault} {e : OutFault}
-    → Writes s (object_turns s.history script.objects.items) a b f s (Ok tt) → RunsCommands s script.commands.items b c g new (Err e)
+    → Writes s (object_turns s.history script.objects.items) a b f s (Ok tt) → RunsCommands s script.commands b c g new (Err e)
     → RunsScript s script a c g new (Err e)
 script-commands s new script front p =
     record {
@@ -59,11 +59,11 @@ script-commands s new script front p =
 
 -- behind them, or nowhere
 pub script-last : (s mid new : Stored) (script : Script) (kept : List ℕ) {a b c d : Option (List ℕ)} {f g h : Option OutFault} {result : Result (Unit {0}) OutFault}
-    → Writes s (object_turns s.history script.objects.items) a b f s (Ok tt) → RunsCommands s script.commands.items b c g mid (Ok tt)
+    → Writes s (object_turns s.history script.objects.items) a b f s (Ok tt) → RunsCommands s script.commands b c g mid (Ok tt)
     → Writes mid (last_turns mid.history kept) c d h new result → AreKept new kept → OnOk result (length kept ≡ length new.types)
     → RunsScript s script a d h new result
 script-last s mid new script kept {c = c} {d = d} {h = h} {result = result} front p behind are all =
-    let asked = command_turns (objects s) s.max p.wanting s.history script.commands.items in
+    let asked = command_turns (objects s) s.max p.wanting s.history script.commands in
     let rest = subst (λ K. Writes mid (last_turns K kept) c d h new result) (history_is s mid asked p.writes) behind in
     record {
       wanting = p.wanting;

@@ -98,8 +98,8 @@ pub record WritesKept (s : Stored) (before after : Option (List ℕ)) (fault : O
 -- back: of all objects at `Ok`, else of those to which it came
 pub record RunsScript (old : Stored) (script : Script) (before after : Option (List ℕ)) (fault : Option OutFault) (new : Stored) (result : Result (Unit {0}) OutFault) : Type 0 where
   pub wanting : ℕ → Bool
-  pub may_want : MayWant (objects old) old.max wanting old.history script.commands.items
+  pub may_want : MayWant (objects old) old.max wanting old.history script.commands
   pub kept : List ℕ
   pub are_kept : AreKept new kept
   pub all_kept : OnOk result (length kept ≡ length new.types)
-  pub writes : Writes old (script_turns (objects old) old.max wanting kept old.history script.objects.items script.commands.items) before after fault new result
+  pub writes : Writes old (script_turns (objects old) old.max wanting kept old.history script.objects.items script.commands) before after fault new result

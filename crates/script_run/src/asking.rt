@@ -11,6 +11,7 @@ use crate::lines::write_refused;
 use history_text::write_event;
 use object_trait::{Event, Recovery};
 use outputs::{Out, OutFault};
+use script_text::CommandList;
 use serial_order::{Command, Refusal, command_appends};
 use store::Store;
 
@@ -22,14 +23,16 @@ use store::Store;
 /// The fault that stopped the output. No further command was asked.
 pub(crate) fn run_commands<R: Recovery, W: Out>(
     store: &mut Store<R>,
-    commands: &[Command],
+    commands: &CommandList,
     out: &mut W,
 ) -> Result<(), OutFault>
     requires { W.fault out.old ≡ None }
     ensures { RunsCommands store.old commands.now (W.taken out.old) (W.taken out.new) (W.fault out.new) store.new result }
 {
-    for command in commands {
-        run_command(store, command, out)?;
+    for place in 0..commands.len() {
+        if let Some(command) = commands.get(place) {
+            run_command(store, &command, out)?;
+        }
     }
     Ok(())
 }

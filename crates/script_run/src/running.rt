@@ -45,9 +45,8 @@ fn write_run<R: Recovery, W: Out>(
     requires { W.fault out.old ≡ None }
     ensures { RunsScript store.old script.now (W.taken out.old) (W.taken out.new) (W.fault out.new) store.new result }
 {
-    let (objects, commands) = (script.objects.as_slice(), script.commands.as_slice());
-    write_objects(out, objects)?;
-    run_commands(store, commands, out)?;
+    write_objects(out, script.objects.as_slice())?;
+    run_commands(store, &script.commands, out)?;
     abort_all(store, out)?;
     put_line(out, b"end", &[])?;
     write_states(store, out)

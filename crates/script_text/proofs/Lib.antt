@@ -1,2 +1,3 @@
 pub mod Fit
+pub mod KeptCommands
 pub mod PlainCommands

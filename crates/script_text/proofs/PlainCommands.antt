@@ -1,5 +1,5 @@
 -- The plain line of a command says it.
-use Rattle.std.proofs.Common.{◌≡◌, ℕ, ◌≤◌, Bool, true, false, ◌&&◌, cond, leb, List, [], ◌∷◌, ◌++◌, length, Some, None, refl, ap, arith}
+use Rattle.std.proofs.Common.{◌≡◌, ℕ, ◌≤◌, Bool, true, ◌&&◌, leb, List, [], ◌∷◌, ◌++◌, length, refl, ap, arith}
 use Rattle.std.specs.Prelude.{codes}
 use Rattle.std.specs.List.{AllByRecursion, list_all}
 use Rattle.std.proofs.lemmas.Bool.{leb-true, and_parts}
@@ -39,27 +39,17 @@ begin_plainly behind = record {
   said = refl;
 }
 
--- what a test of names let through is one, and what it gave
-name_is : (w name : List ℕ) → Some name ≡ cond (is_name w) (Some w) None → (is_name w ≡ true) × (name ≡ w)
-name_is w name e = go (is_name w) refl e
-  where
-    go : (b : Bool) → is_name w ≡ b → Some name ≡ cond b (Some w) None → (is_name w ≡ true) × (name ≡ w)
-    go true is found = (is, cc)
-    go false is found = absurd cc
-
-pub call_plainly : (t x : ℕ) (name word rest first second behind : List ℕ) → IsNumberBefore 32 rest t first → IsNumberBefore 32 first x second
-    → second ≡ word ++ 10 ∷ behind → Some name ≡ cond (is_name word) (Some word) None → NameIsWord word
-    → SaysPlainly (line_of commands) (codes "call " ++ rest) (Entry (Call t x name)) behind
+pub call_plainly : (t x : ℕ) (word rest first second behind : List ℕ) → IsNumberBefore 32 rest t first → IsNumberBefore 32 first x second
+    → second ≡ word ++ 10 ∷ behind → is_name word ≡ true → NameIsWord word
+    → SaysPlainly (line_of commands) (codes "call " ++ rest) (Entry (Call t x word)) behind
 unfolding line_of is_key command_of call_of exactly name_at number_at
-call_plainly t x name word rest first second behind a b front named words =
-    let is = name_is word name named in
-    record {
-      words = codes "call" ∷ a.word ∷ b.word ∷ word ∷ [];
-      line = (rest, keyword (codes "call") refl refl, refl, (first, a.is_word, a.front, (second, b.is_word, b.front, ((words is.0).0, front))));
-      no_comment = λ e. omega (arith, e);
-      short = omega (arith, a.short, b.short, ap length front, length-append word (10 ∷ behind), (words is.0).1);
-      said = rw (is.0, is.1, a.said, b.said) refl;
-    }
+call_plainly t x word rest first second behind a b front is words = record {
+  words = codes "call" ∷ a.word ∷ b.word ∷ word ∷ [];
+  line = (rest, keyword (codes "call") refl refl, refl, (first, a.is_word, a.front, (second, b.is_word, b.front, ((words is).0, front))));
+  no_comment = λ e. omega (arith, e);
+  short = omega (arith, a.short, b.short, ap length front, length-append word (10 ∷ behind), (words is).1);
+  said = rw (is, a.said, b.said) refl;
+}
 
 pub commit_plainly : (t : ℕ) (rest behind : List ℕ) → IsNumberBefore 10 rest t behind → SaysPlainly (line_of commands) (codes "commit " ++ rest) (Entry (Commit t)) behind
 unfolding line_of is_key command_of commit_of exactly number_at

@@ -1,3 +1,4 @@
 pub mod Commands
+pub mod Kept
 pub mod Script
 pub mod Examples

@@ -10,7 +10,7 @@ use Rattle.script_text.specs.declared.script.Script.{Script}
 pub record IsScriptOf (lines : List (Line Command)) (script : Script) : Type 0 where
   pub max : slice_get lines 0 ≡ Some (Max script.max)
   pub objects : script.objects.items ≡ objects_of lines
-  pub commands : script.commands.items ≡ entries_of lines
+  pub commands : script.commands ≡ entries_of lines
 
 -- its numbers and counts are in their ranges
 pub record IsFit (script : Script) : Type 0 where
@@ -18,4 +18,4 @@ pub record IsFit (script : Script) : Type 0 where
   pub high : script.max ≤ 1000000
   pub some_object : 0 < length script.objects.items
   pub objects_fit : length script.objects.items ≤ 256
-  pub commands_fit : length script.commands.items ≤ 1000000
+  pub commands_fit : length script.commands ≤ 1000000

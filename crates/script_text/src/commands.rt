@@ -3,9 +3,11 @@
 ghost use Rattle.std.specs.Prelude.{◌≡◌, map};
 ghost use Rattle.script_text.specs.Commands.{commands, command_of, begin_of, call_of, commit_of, abort_of, rollback_of};
 
+use crate::command_list::CommandList;
 use crate::plain::keep_plain;
 use line_text::{FaultKind, exactly, is_key, name_at, number_at};
 use serial_order::Command;
+use std::alloc::{AllocError, Global};
 use store_text::Entries;
 
 /// The commands of a script. Their transactions and objects may have any number, since the store
@@ -16,11 +18,11 @@ pub struct Commands;
 impl Entries for Commands {
     type Entry = Command;
 
-    type Kept = Command;
+    type Kept = CommandList;
 
     ghost body = { λ _. commands };
 
-    ghost said = { λ command. command };
+    ghost said = { λ commands. commands };
 
     fn has_max(&self) -> bool {
         true
@@ -43,12 +45,20 @@ impl Entries for Commands {
         }
     }
 
-    fn kept(&self, entry: Command) -> Command {
-        entry
+    fn nothing(&self, alloc: Global) -> CommandList {
+        CommandList::new(alloc)
     }
 
-    fn keep_plain<'a>(&self, entries: &mut Vec<Command>, text: &'a [u8]) -> Option<&'a [u8]> {
-        keep_plain(entries, text)
+    fn keep(&self, commands: &mut CommandList, entry: Command) -> Result<(), AllocError> {
+        commands.push(entry)
+    }
+
+    fn keep_plain<'a>(&self, commands: &mut CommandList, text: &'a [u8]) -> Option<&'a [u8]> {
+        keep_plain(commands, text)
+    }
+
+    fn are_few(&self, commands: &CommandList) {
+        commands.len();
     }
 
     fn is_in_range(&self, _entry: Command) -> bool {

@@ -2,26 +2,22 @@
 //!
 //! Each is kept where it is read, since a command that is handed on is copied on the way.
 
-ghost use Rattle.std.specs.Prelude.{◌≡◌, ◌+◌, ◌<◌, ◌≤◌, ◌∷◌, ◌++◌, length, vec_len, vec_capacity, MatchOption, codes};
+ghost use Rattle.std.specs.Prelude.{◌≡◌, ◌∷◌, ◌++◌, MatchOption, codes};
 ghost use Rattle.store_text.specs.PlainEntry.{KeepsEntry};
 ghost use Rattle.script_text.specs.Commands.{commands};
 
+use crate::command_list::CommandList;
 use line_text::{bytes_before, names_are_words, number_before};
 use serial_order::Command;
-use type_table::Name;
 
 /// Keeps the command of a text's first line, where that is a plain one and there is room for it, and gives
 /// what is behind it.
 #[inline]
-pub fn keep_plain<'a>(kept: &mut Vec<Command>, text: &'a [u8]) -> Option<&'a [u8]>
-    ensures items { MatchOption result
-        (kept.new.items ≡ kept.old.items)
-        (λ behind. KeepsEntry commands text.now behind.now kept.old.items kept.new.items) }
-    ensures few { length kept.new.items ≤ length kept.old.items + 1 }
+pub fn keep_plain<'a>(kept: &mut CommandList, text: &'a [u8]) -> Option<&'a [u8]>
+    ensures { MatchOption result
+        (kept.new ≡ kept.old)
+        (λ behind. KeepsEntry commands text.now behind.now kept.old kept.new) }
 {
-    if kept.len() == kept.capacity() {
-        return None;
-    }
     match text {
         [b'c', b'a', b'l', b'l', b' ', rest @ ..] => keep_call(kept, rest),
         [b'b', b'e', b'g', b'i', b'n', b'\n', behind @ ..] => keep_begin(kept, behind),
@@ -44,70 +40,59 @@ pub fn keep_plain<'a>(kept: &mut Vec<Command>, text: &'a [u8]) -> Option<&'a [u8
 }
 
 #[inline]
-fn keep_begin<'a>(kept: &mut Vec<Command>, behind: &'a [u8]) -> Option<&'a [u8]>
-    requires { vec_len kept.old < vec_capacity kept.old }
-    ensures items { MatchOption result
-        (kept.new.items ≡ kept.old.items)
-        (λ left. KeepsEntry commands (codes "begin" ++ 10 ∷ behind.now) left.now kept.old.items kept.new.items) }
-    ensures few { length kept.new.items ≤ length kept.old.items + 1 }
+fn keep_begin<'a>(kept: &mut CommandList, behind: &'a [u8]) -> Option<&'a [u8]>
+    ensures { MatchOption result
+        (kept.new ≡ kept.old)
+        (λ left. KeepsEntry commands (codes "begin" ++ 10 ∷ behind.now) left.now kept.old kept.new) }
 {
-    kept.push_reserved(Command::Begin);
+    kept.put(Command::Begin)?;
     Some(behind)
 }
 
 #[inline]
-fn keep_call<'a>(kept: &mut Vec<Command>, rest: &'a [u8]) -> Option<&'a [u8]>
-    requires { vec_len kept.old < vec_capacity kept.old }
-    ensures items { MatchOption result
-        (kept.new.items ≡ kept.old.items)
-        (λ behind. KeepsEntry commands (codes "call " ++ rest.now) behind.now kept.old.items kept.new.items) }
-    ensures few { length kept.new.items ≤ length kept.old.items + 1 }
+fn keep_call<'a>(kept: &mut CommandList, rest: &'a [u8]) -> Option<&'a [u8]>
+    ensures { MatchOption result
+        (kept.new ≡ kept.old)
+        (λ behind. KeepsEntry commands (codes "call " ++ rest.now) behind.now kept.old kept.new) }
 {
     let (t, rest) = number_before(rest, b' ')?;
     let (x, rest) = number_before(rest, b' ')?;
     let (word, behind) = bytes_before(rest, b'\n')?;
-    let call = Name::from_bytes(word)?;
     names_are_words();
-    kept.push_reserved(Command::Call { t, x, call });
+    kept.put_call(t, x, word)?;
     Some(behind)
 }
 
 #[inline]
-fn keep_commit<'a>(kept: &mut Vec<Command>, rest: &'a [u8]) -> Option<&'a [u8]>
-    requires { vec_len kept.old < vec_capacity kept.old }
-    ensures items { MatchOption result
-        (kept.new.items ≡ kept.old.items)
-        (λ behind. KeepsEntry commands (codes "commit " ++ rest.now) behind.now kept.old.items kept.new.items) }
-    ensures few { length kept.new.items ≤ length kept.old.items + 1 }
+fn keep_commit<'a>(kept: &mut CommandList, rest: &'a [u8]) -> Option<&'a [u8]>
+    ensures { MatchOption result
+        (kept.new ≡ kept.old)
+        (λ behind. KeepsEntry commands (codes "commit " ++ rest.now) behind.now kept.old kept.new) }
 {
     let (t, behind) = number_before(rest, b'\n')?;
-    kept.push_reserved(Command::Commit { t });
+    kept.put(Command::Commit { t })?;
     Some(behind)
 }
 
 #[inline]
-fn keep_abort<'a>(kept: &mut Vec<Command>, rest: &'a [u8]) -> Option<&'a [u8]>
-    requires { vec_len kept.old < vec_capacity kept.old }
-    ensures items { MatchOption result
-        (kept.new.items ≡ kept.old.items)
-        (λ behind. KeepsEntry commands (codes "abort " ++ rest.now) behind.now kept.old.items kept.new.items) }
-    ensures few { length kept.new.items ≤ length kept.old.items + 1 }
+fn keep_abort<'a>(kept: &mut CommandList, rest: &'a [u8]) -> Option<&'a [u8]>
+    ensures { MatchOption result
+        (kept.new ≡ kept.old)
+        (λ behind. KeepsEntry commands (codes "abort " ++ rest.now) behind.now kept.old kept.new) }
 {
     let (t, behind) = number_before(rest, b'\n')?;
-    kept.push_reserved(Command::Abort { t });
+    kept.put(Command::Abort { t })?;
     Some(behind)
 }
 
 #[inline]
-fn keep_rollback<'a>(kept: &mut Vec<Command>, rest: &'a [u8]) -> Option<&'a [u8]>
-    requires { vec_len kept.old < vec_capacity kept.old }
-    ensures items { MatchOption result
-        (kept.new.items ≡ kept.old.items)
-        (λ behind. KeepsEntry commands (codes "rollback " ++ rest.now) behind.now kept.old.items kept.new.items) }
-    ensures few { length kept.new.items ≤ length kept.old.items + 1 }
+fn keep_rollback<'a>(kept: &mut CommandList, rest: &'a [u8]) -> Option<&'a [u8]>
+    ensures { MatchOption result
+        (kept.new ≡ kept.old)
+        (λ behind. KeepsEntry commands (codes "rollback " ++ rest.now) behind.now kept.old kept.new) }
 {
     let (t, rest) = number_before(rest, b' ')?;
     let (n, behind) = number_before(rest, b'\n')?;
-    kept.push_reserved(Command::Rollback { t, n });
+    kept.put(Command::Rollback { t, n })?;
     Some(behind)
 }

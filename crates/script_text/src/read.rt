@@ -22,11 +22,12 @@ pub fn read_script(alloc: Global, text: &[u8]) -> Result<Script, TextFault>
     let Parts {
         max,
         objects,
-        entries,
+        entries: mut commands,
     } = parts;
+    commands.shrink_to_fit();
     Ok(Script {
         max,
         objects,
-        commands: entries,
+        commands,
     })
 }

@@ -53,7 +53,7 @@ module _ (text : List ℕ) (known : TypeFile) (described : Describes text known)
 pub script-fits : (script : Script) → Has 20 script_objects script_commands script → IsFit script
 script-fits script has =
     let objects : length script.objects.items ≡ 2 = ap length has.objects_are in
-    let commands : length script.commands.items ≡ 5 = ap length has.commands_are in
+    let commands : length script.commands ≡ 5 = ap length has.commands_are in
     record { low = omega (arith, has.max_is); high = omega (arith, has.max_is); some_object = omega arith; objects_fit = omega arith; commands_fit = omega arith }
 
 -- the objects of what its text describes

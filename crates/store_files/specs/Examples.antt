@@ -26,7 +26,7 @@ at_place place = record { kind = Undo; file = place }
 pub record Has (max : ℕ) (objects : List ObjectLine) (commands : List Command) (script : Script) : Type 0 where
   pub max_is : script.max ≡ max
   pub objects_are : script.objects.items ≡ objects
-  pub commands_are : script.commands.items ≡ commands
+  pub commands_are : script.commands ≡ commands
 
 -- the text of the example's script without its `end`
 abbrev pub endless_script : List ℕ

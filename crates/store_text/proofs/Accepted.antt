@@ -1,8 +1,7 @@
 -- What is known of the lines of an accepted text.
-use Rattle.std.proofs.Common.{◌≡◌, ℕ, zero, suc, ◌+◌, ◌<◌, ◌≤◌, Bool, true, false, ◌&&◌, cond, eqb, leb, List, [], ◌∷◌, length, map, Some, refl, sym, ap, ◌∙◌, arith}
+use Rattle.std.proofs.Common.{◌≡◌, ℕ, zero, suc, ◌+◌, ◌<◌, ◌≤◌, Bool, true, false, ◌&&◌, cond, eqb, leb, List, [], ◌∷◌, length, Some, refl, sym, ap, ◌∙◌, arith}
 use Rattle.std.specs.List.{slice_get, AllByRecursion}
 use Rattle.std.proofs.lemmas.Bool.{leb-true, leb-false, ne_eqb, and_parts}
-use Rattle.std.proofs.lemmas.List.{length-map}
 use Rattle.std.proofs.lemmas.List.Sums.{sum_by-cons}
 use Rattle.std.proofs.lemmas.Option.{none-some, same_Some}
 use Rattle.type_table.specs.declared.kind.Kind.{Kind}
@@ -78,16 +77,15 @@ entry_count b (Entry x ∷ lines) =
 entry_count b (End ∷ lines) = entry_count b lines
 
 -- an object that passed its tests had room
-pub object_room : {K A : Type 0} (b : Body A) (said : K → A) (k : KeptParts K) (kind : Kind) (file : ℕ) → HasPassed (store_rules b) (kept_lines said k) (Object kind file) → length k.objects.items < 256
+pub object_room : {K A : Type 0} (b : Body A) (said : K → List A) (k : KeptParts K) (kind : Kind) (file : ℕ) → HasPassed (store_rules b) (kept_lines said k) (Object kind file) → length k.objects.items < 256
 object_room b said k kind file h =
     let free : leb 256 (count_at (store_rules b) (kept_lines said k) 1) ≡ false = h.has_room in
-    omega (arith, leb-false 256 (count_at (store_rules b) (kept_lines said k) 1) free, object_count b (kept_lines said k), ap length (objects_said k.max k.objects.items (map said k.entries.items) k.has_ended))
+    omega (arith, leb-false 256 (count_at (store_rules b) (kept_lines said k) 1) free, object_count b (kept_lines said k), ap length (objects_said k.max k.objects.items (said k.entries) k.has_ended))
 
 -- so has an entry where their section isn't full
-pub entry_room : {K A : Type 0} (b : Body A) (said : K → A) (k : KeptParts K) → is_full (Some entry_lines) (count_at (store_rules b) (kept_lines said k) 2) ≡ false → length k.entries.items < 1000000
+pub entry_room : {K A : Type 0} (b : Body A) (said : K → List A) (k : KeptParts K) → is_full (Some entry_lines) (count_at (store_rules b) (kept_lines said k) 2) ≡ false → length (said k.entries) < 1000000
 entry_room b said k free =
-    let count : length (map said k.entries.items) ≡ length k.entries.items = length-map k.entries.items said in
-    omega (arith, leb-false 1000000 (count_at (store_rules b) (kept_lines said k) 2) free, entry_count b (kept_lines said k), ap length (entries_said k.max k.objects.items (map said k.entries.items) k.has_ended), count)
+    omega (arith, leb-false 1000000 (count_at (store_rules b) (kept_lines said k) 2) free, entry_count b (kept_lines said k), ap length (entries_said k.max k.objects.items (said k.entries) k.has_ended))
 
 -- ---- plain lines
 
@@ -97,7 +95,7 @@ has_another true n some = ne_eqb n 0 (λ e. omega (arith, some))
 has_another false n some = refl
 
 -- an entry that was kept behind the others is a line that was kept behind the others
-pub keeps_entry : {K A : Type 0} (b : Body A) (said : K → A) (k : KeptParts K) (text behind : List ℕ) (after : List A) → TakesMore (store_rules b) (kept_lines said k) 2 → KeepsEntry b text behind (map said k.entries.items) after
+pub keeps_entry : {K A : Type 0} (b : Body A) (said : K → List A) (k : KeptParts K) (text behind : List ℕ) (after : List A) → TakesMore (store_rules b) (kept_lines said k) 2 → KeepsEntry b text behind (said k.entries) after
     → KeepsPlainly (store_rules b) 2 text behind (kept_lines said k) (lines_of_parts k.max k.objects.items after k.has_ended)
 keeps_entry b said k text behind after takes h = record {
   item = Entry h.entry;
@@ -112,7 +110,7 @@ keeps_entry b said k text behind after takes h = record {
     ascending = takes.ascending (Entry h.entry) refl;
     no_twin = sym (never (kept_lines said k));
   };
-  kept = rw h.kept (entry_more b k.max k.objects.items (map said k.entries.items) k.has_ended h.entry (takes.in_order (Entry h.entry) refl));
+  kept = rw h.kept (entry_more b k.max k.objects.items (said k.entries) k.has_ended h.entry (takes.in_order (Entry h.entry) refl));
 }
 
 -- where a line of the objects' rank stands, there is an object
@@ -137,8 +135,8 @@ files_in_range b (End ∷ lines) h = files_in_range b lines (λ n x at. h (suc n
 -- ---- all together
 
 -- parts that were made of accepted lines are theirs
-pub are_parts : {K A : Type 0} (b : Body A) (said : K → A) (lines : List (Line A)) (parts : Parts K) → AreInOrder (store_rules b) lines
-    → parts.max ≡ max_in (slice_get lines 0) → parts.objects.items ≡ objects_of lines → map said parts.entries.items ≡ entries_of lines → IsPartsOf b said lines parts
+pub are_parts : {K A : Type 0} (b : Body A) (said : K → List A) (lines : List (Line A)) (parts : Parts K) → AreInOrder (store_rules b) lines
+    → parts.max ≡ max_in (slice_get lines 0) → parts.objects.items ≡ objects_of lines → said parts.entries ≡ entries_of lines → IsPartsOf b said lines parts
 are_parts b said lines parts order max objects entries = record {
   max = λ h. max_first b lines order h ∙ ap (λ most. Some (Max most)) (sym max);
   objects = objects;
@@ -146,20 +144,20 @@ are_parts b said lines parts order max objects entries = record {
 }
 
 -- so are the parts that were kept
-pub are_parts_of : {K A : Type 0} (b : Body A) (said : K → A) (k : KeptParts K) (parts : Parts K) → AreInOrder (store_rules b) (kept_lines said k)
-    → parts.max ≡ limit_of k.max → parts.objects.items ≡ k.objects.items → parts.entries.items ≡ k.entries.items → IsPartsOf b said (kept_lines said k) parts
+pub are_parts_of : {K A : Type 0} (b : Body A) (said : K → List A) (k : KeptParts K) (parts : Parts K) → AreInOrder (store_rules b) (kept_lines said k)
+    → parts.max ≡ limit_of k.max → parts.objects.items ≡ k.objects.items → parts.entries ≡ k.entries → IsPartsOf b said (kept_lines said k) parts
 are_parts_of b said k parts order max objects entries =
     are_parts b said (kept_lines said k) parts order
-    (max ∙ sym (limit_said k.max k.objects.items (map said k.entries.items) k.has_ended))
-    (objects ∙ sym (objects_said k.max k.objects.items (map said k.entries.items) k.has_ended))
-    (ap (map said) entries ∙ sym (entries_said k.max k.objects.items (map said k.entries.items) k.has_ended))
+    (max ∙ sym (limit_said k.max k.objects.items (said k.entries) k.has_ended))
+    (objects ∙ sym (objects_said k.max k.objects.items (said k.entries) k.has_ended))
+    (ap said entries ∙ sym (entries_said k.max k.objects.items (said k.entries) k.has_ended))
 
 -- and each of their numbers and counts is in its range
-pub are_fit : {K A : Type 0} (b : Body A) (said : K → A) (lines : List (Line A)) (parts : Parts K) → AreInOrder (store_rules b) lines → IsPartsOf b said lines parts → AreFit b said parts
+pub are_fit : {K A : Type 0} (b : Body A) (said : K → List A) (lines : List (Line A)) (parts : Parts K) → AreInOrder (store_rules b) lines → IsPartsOf b said lines parts → AreFit b said parts
 are_fit b said lines parts order are =
     let ranges = in_range b lines order in
     let first = order.needed.each 1 (omega arith) refl in
-    let count : length parts.entries.items ≡ length (entries_of lines) = sym (length-map parts.entries.items said) ∙ ap length are.entries in
+    let count : length (said parts.entries) ≡ length (entries_of lines) = ap length are.entries in
     record {
       max = λ h.
           let ends = and_parts (leb 2 parts.max) (leb parts.max 1000000) (ranges 0 (Max parts.max) (are.max h)) in

@@ -27,9 +27,9 @@ end_lines true = End ∷ []
 abbrev pub lines_of_parts : {A : Type 0} → Option ℕ → List ObjectLine → List A → Bool → List (Line A)
 lines_of_parts max objects entries has_ended = limit_lines max ++ (map object_line objects ++ (map entry_line entries ++ end_lines has_ended))
 
--- those of which parts were kept, where what is kept of an entry says it
-abbrev pub kept_lines : {K A : Type 0} → (K → A) → KeptParts K → List (Line A)
-kept_lines said kept = lines_of_parts kept.max kept.objects.items (map said kept.entries.items) kept.has_ended
+-- those of which parts were kept, where what is kept of the entries says them
+abbrev pub kept_lines : {K A : Type 0} → (K → List A) → KeptParts K → List (Line A)
+kept_lines said kept = lines_of_parts kept.max kept.objects.items (said kept.entries) kept.has_ended
 
 -- the limit, which is 0 where no line tells it
 abbrev pub limit_of : Option ℕ → ℕ

@@ -1,5 +1,5 @@
 -- The value of a text about a store's objects.
-use Rattle.std.specs.Prelude.{◌≡◌, ◌⊎◌, ℕ, ◌<◌, ◌≤◌, true, List, length, map, slice_get, Some, Result, Ok, Err}
+use Rattle.std.specs.Prelude.{◌≡◌, ◌⊎◌, ℕ, ◌<◌, ◌≤◌, true, List, length, slice_get, Some, Result, Ok, Err}
 use Rattle.std.specs.List.{AllByRecursion}
 use Rattle.line_text.specs.Outcome.{outcome_of, IsReached}
 use Rattle.line_text.specs.Text.{lines_of}
@@ -12,20 +12,20 @@ use Rattle.store_text.specs.declared.parts.Parts.{Parts}
 use Rattle.store_text.specs.Body.{Body, store_rules}
 use Rattle.store_text.specs.Said.{objects_of, entries_of}
 
--- the parts are what the lines say, where what is kept of an entry says it
-pub record IsPartsOf {K A : Type 0} (b : Body A) (said : K → A) (lines : List (Line A)) (parts : Parts K) : Type 0 where
+-- the parts are what the lines say, where what is kept of the entries says them
+pub record IsPartsOf {K A : Type 0} (b : Body A) (said : K → List A) (lines : List (Line A)) (parts : Parts K) : Type 0 where
   pub max : b.has_max ≡ true → slice_get lines 0 ≡ Some (Max parts.max)
   pub objects : parts.objects.items ≡ objects_of lines
-  pub entries : map said parts.entries.items ≡ entries_of lines
+  pub entries : said parts.entries ≡ entries_of lines
 
 -- every number and count of a text's parts is in its range
-pub record AreFit {K A : Type 0} (b : Body A) (said : K → A) (parts : Parts K) : Type 0 where
+pub record AreFit {K A : Type 0} (b : Body A) (said : K → List A) (parts : Parts K) : Type 0 where
   pub max : b.has_max ≡ true → (2 ≤ parts.max) × (parts.max ≤ 1000000)
   pub some_object : 0 < length parts.objects.items
   pub objects : length parts.objects.items ≤ 256
   pub files : AllByRecursion (λ (o : ObjectLine). o.file ≤ 255) parts.objects.items
-  pub entries : length parts.entries.items ≤ 1000000
-  pub in_range : AllByRecursion (λ x. b.is_in_range x ≡ true) (map said parts.entries.items)
+  pub entries : length (said parts.entries) ≤ 1000000
+  pub in_range : AllByRecursion (λ x. b.is_in_range x ≡ true) (said parts.entries)
 
 -- the value of a text that has one, else the text's fault; or memory was refused at the line that was being read
 abbrev pub Reads : {A V : Type 0} → Body A → (List (Line A) → V → Type 0) → Result V TextFault → List ℕ → Type 0

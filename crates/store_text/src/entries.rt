@@ -1,8 +1,9 @@
-ghost use Rattle.std.specs.Prelude.{◌≡◌, ◌+◌, ◌≤◌, true, map, length, MatchOption};
+ghost use Rattle.std.specs.Prelude.{◌≡◌, ◌<◌, ◌^◌, ◌∷◌, ◌++◌, [], true, List, map, length, MatchOption, OnOk};
 ghost use Rattle.store_text.specs.Body.{Body};
 ghost use Rattle.store_text.specs.PlainEntry.{KeepsEntry};
 
 use line_text::FaultKind;
+use std::alloc::{AllocError, Global};
 
 /// What a text about a store's objects has of its own: the lines between those of the objects and
 /// `end`.
@@ -10,14 +11,14 @@ pub trait Entries {
     /// What such a line says.
     type Entry: Copy;
 
-    /// What is kept of such a line, where its numbers are in range.
-    type Kept: Copy;
+    /// The entries of the lines that were read: a list, or what takes less room.
+    type Kept: Drop;
 
     /// The text's own as contracts see it.
     ghost body: { Self → Body Self.Entry };
 
-    /// What the line said of which this is kept.
-    ghost said: { Self.Kept → Self.Entry };
+    /// The entries that are kept, in order.
+    ghost said: { Self.Kept → List Self.Entry };
 
     /// Whether the text begins with a `max` line.
     fn has_max(&self) -> bool
@@ -27,22 +28,29 @@ pub trait Entries {
     fn entry(&self, words: &[&[u8]]) -> Result<Self::Entry, FaultKind>
         ensures { result ≡ (body self.now).entry_of (map (λ w. w.now) words.now) };
 
-    /// What is kept of an entry.
-    fn kept(&self, entry: Self::Entry) -> Self::Kept
+    /// What is kept before the first entry.
+    fn nothing(&self, alloc: Global) -> Self::Kept
+        ensures { said result ≡ [] };
+
+    /// Keeps an entry behind those before it.
+    fn keep(&self, kept: &mut Self::Kept, entry: Self::Entry) -> Result<(), AllocError>
         requires { (body self.now).is_in_range entry ≡ true }
-        ensures { said result ≡ entry };
+        ensures { OnOk result (said kept.new ≡ said kept.old ++ entry ∷ []) };
 
     /// Keeps what a text's first line says, where it is the plain line of an entry, with one space between
     /// two words and none elsewhere, whose numbers are in range, and gives what is behind it. `None` says
     /// nothing of the line: nothing was kept.
-    fn keep_plain<'a>(&self, _entries: &mut Vec<Self::Kept>, _text: &'a [u8]) -> Option<&'a [u8]>
-        ensures items { MatchOption result
-            (_entries.new.items ≡ _entries.old.items)
-            (λ behind. KeepsEntry (body self.now) _text.now behind.now (map said _entries.old.items) (map said _entries.new.items)) }
-        ensures few { length _entries.new.items ≤ length _entries.old.items + 1 }
+    fn keep_plain<'a>(&self, _kept: &mut Self::Kept, _text: &'a [u8]) -> Option<&'a [u8]>
+        ensures { MatchOption result
+            (said _kept.new ≡ said _kept.old)
+            (λ behind. KeepsEntry (body self.now) _text.now behind.now (said _kept.old) (said _kept.new)) }
     {
         None
     }
+
+    /// There are never so many entries that a number can't count them.
+    fn are_few(&self, kept: &Self::Kept)
+        ensures { length (said kept.now) < 2 ^ 63 };
 
     /// Whether the entry's numbers are in range.
     fn is_in_range(&self, entry: Self::Entry) -> bool

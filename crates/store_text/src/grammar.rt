@@ -66,7 +66,7 @@ impl<E: Entries> Grammar for StoreGrammar<E> {
     ghost kept = { λ kept. kept_lines E.said kept };
 
     fn nothing(&self, alloc: Global) -> KeptParts<E::Kept> {
-        KeptParts::new(alloc)
+        KeptParts::new(alloc, self.entries.nothing(alloc))
     }
 
     fn keep(
@@ -74,13 +74,14 @@ impl<E: Entries> Grammar for StoreGrammar<E> {
         before: &mut KeptParts<E::Kept>,
         item: Line<E::Entry>,
     ) -> Result<(), AllocError> {
+        self.entries.are_few(&before.entries);
         match item {
             Line::Max(most) => before.max = Some(most),
             Line::Object { kind, file } => {
                 let file = file as u8;
                 before.objects.push(ObjectLine { kind, file })?;
             }
-            Line::Entry(entry) => before.entries.push(self.entries.kept(entry))?,
+            Line::Entry(entry) => self.entries.keep(&mut before.entries, entry)?,
             Line::End => before.has_ended = true,
         }
         Ok(())
@@ -110,6 +111,7 @@ impl<E: Entries> Grammar for StoreGrammar<E> {
             return None;
         }
         let behind = self.entries.keep_plain(&mut before.entries, text)?;
+        self.entries.are_few(&before.entries);
         Some(behind)
     }
 

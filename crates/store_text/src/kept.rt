@@ -4,33 +4,32 @@ use crate::line::ObjectLine;
 use crate::parts::Parts;
 use std::alloc::Global;
 
-/// The parts that the lines so far say, with what is kept of each entry.
+/// The parts that the lines so far say, with what is kept of the entries.
 #[derive(Drop)]
-pub struct KeptParts<Kept> {
+pub struct KeptParts<Kept: Drop> {
     pub max: Option<u32>,
     pub objects: Vec<ObjectLine>,
-    pub entries: Vec<Kept>,
+    pub entries: Kept,
     /// Whether `end` has come.
     pub has_ended: bool,
     ghost few_objects: { length objects.items ≤ 256 },
-    ghost few_entries: { length entries.items ≤ 1000000 },
 }
 
-impl<Kept: Copy> KeptParts<Kept> {
+impl<Kept: Drop> KeptParts<Kept> {
     ghost use Rattle.std.specs.Prelude.{◌≡◌, [], None, false};
     ghost use Rattle.store_text.specs.Kept.{limit_of};
 
-    /// No line.
-    pub fn new(alloc: Global) -> KeptParts<Kept>
+    /// No line, and what is kept of no entry.
+    pub fn new(alloc: Global, entries: Kept) -> KeptParts<Kept>
         ensures max { result.max ≡ None }
         ensures objects { result.objects.items ≡ [] }
-        ensures entries { result.entries.items ≡ [] }
+        ensures entries { result.entries ≡ entries }
         ensures unended { result.has_ended ≡ false }
     {
         KeptParts {
             max: None,
             objects: Vec::new(alloc),
-            entries: Vec::new(alloc),
+            entries,
             has_ended: false,
         }
     }
@@ -39,15 +38,14 @@ impl<Kept: Copy> KeptParts<Kept> {
     pub fn into_parts(self) -> Parts<Kept>
         ensures max { result.max ≡ limit_of self.max }
         ensures objects { result.objects.items ≡ self.objects.items }
-        ensures entries { result.entries.items ≡ self.entries.items }
+        ensures entries { result.entries ≡ self.entries }
     {
         let KeptParts {
             max,
             objects,
-            mut entries,
+            entries,
             has_ended: _,
         } = self;
-        entries.shrink_to_fit();
         Parts {
             max: max.unwrap_or(0),
             objects,

@@ -1,13 +1,13 @@
 //! `work` and `stress`, behind their plan.
 
-ghost use Rattle.std.specs.Prelude.{◌≡◌, [], None, map};
+ghost use Rattle.std.specs.Prelude.{◌≡◌, ◌⊎◌, [], true, false, None, map};
 ghost use Rattle.command_files.specs.Gathered.{under, waiting, taken_by};
 ghost use Rattle.jobs_text.specs.Jobs.{calls_in};
 ghost use Rattle.store.specs.Ends.{AreFresh};
 ghost use Rattle.store_laws.specs.Stored.{types_of};
 ghost use Rattle.store_files.specs.Types.{value_of};
-ghost use Rattle.work_commands.specs.Performs.{PerformsWork};
-ghost use Rattle.work_commands.specs.Tells.{TellsWork};
+ghost use Rattle.work_commands.specs.Performs.{PerformsWork, WritesWork};
+ghost use Rattle.work_commands.specs.Tells.{TellsAll, TellsWork, did_nothing};
 ghost use Rattle.workers.specs.Worked.{Works};
 
 use crate::schedule::Schedule;
@@ -47,7 +47,9 @@ pub fn perform_work<R: Recovery + Send, W: Out, E: Out, H: AllocGlobal + Threads
     requires nothing_waits { waiting out.old ≡ [] }
     requires fresh { AreFresh (map R.meaning objects.items) }
     requires types { types_of (map R.meaning objects.items) ≡ map value_of plan.types.items }
-    ensures { PerformsWork plan tries result (W.taken (under out.old)) (W.taken (under out.new)) }
+    ensures performs { PerformsWork plan tries result (W.taken (under out.old)) (W.taken (under out.new)) }
+    ensures whole { W.fault (under out.new) ≡ None → (W.taken (under out.new) ≡ W.taken (under out.old))
+        ⊎ WritesWork plan tries (W.taken (under out.old)) (W.taken (under out.new)) }
 {
     let alloc = rt.alloc();
     let WorkPlan { jobs: file, types } = plan;
@@ -94,7 +96,10 @@ fn end_work<R: Recovery, W: Out, E: Out>(
     requires out_takes { W.fault (under out.old) ≡ None }
     requires err_takes { E.fault err.old ≡ None }
     requires types { worked.0.types ≡ map value_of types.now }
-    ensures { TellsWork worked.0 objects.now worked.1.items worked.2 result (taken_by W.taken out.old) (taken_by W.taken out.new) (waiting out.new) }
+    ensures tells { TellsWork worked.0 objects.now worked.1.items worked.2 result (taken_by W.taken out.old) (taken_by W.taken out.new) (waiting out.new) }
+    ensures nothing { did_nothing worked.2 worked.1.items ≡ true → out.new ≡ out.old }
+    ensures whole { did_nothing worked.2 worked.1.items ≡ false → W.fault (under out.new) ≡ None
+        → TellsAll worked.0 objects.now worked.1.items (taken_by W.taken out.old) (taken_by W.taken out.new) × (waiting out.new ≡ []) }
 {
     let (store, reports, fault) = worked;
     let status = tell_work(alloc, &store, types, objects, &reports, fault, out, err);

@@ -1,10 +1,10 @@
 //! The text of the work of some workers, and the status.
 
-ghost use Rattle.std.specs.Prelude.{◌≡◌, [], None, map, IfOk};
+ghost use Rattle.std.specs.Prelude.{◌≡◌, [], true, false, None, Some, map, IfOk, IfErr};
 ghost use Rattle.command_files.specs.Gathered.{under, waiting, taken_by};
 ghost use Rattle.run_commands.specs.Performs.{IsPassed};
 ghost use Rattle.store_files.specs.Types.{value_of};
-ghost use Rattle.work_commands.specs.Tells.{TakesWork, TellsWork};
+ghost use Rattle.work_commands.specs.Tells.{TakesWork, TellsAll, TellsWork, did_nothing};
 
 use command_files::{FAILED, Gathered, out_of_memory};
 use history_audit::{Audit, AuditFault};
@@ -37,7 +37,10 @@ pub(crate) fn tell_work<R: Recovery, W: Out, E: Out>(
     requires out_takes { W.fault (under out.old) ≡ None }
     requires err_takes { E.fault err.old ≡ None }
     requires types { store.now.types ≡ map value_of types.now }
-    ensures { TellsWork store.now objects.now reports.now fault result (taken_by W.taken out.old) (taken_by W.taken out.new) (waiting out.new) }
+    ensures tells { TellsWork store.now objects.now reports.now fault result (taken_by W.taken out.old) (taken_by W.taken out.new) (waiting out.new) }
+    ensures nothing { did_nothing fault reports.now ≡ true → out.new ≡ out.old }
+    ensures whole { did_nothing fault reports.now ≡ false → W.fault (under out.new) ≡ None
+        → TellsAll store.now objects.now reports.now (taken_by W.taken out.old) (taken_by W.taken out.new) × (waiting out.new ≡ []) }
 {
     if fault.is_some() && reports.is_empty() {
         return out_of_memory(err);
@@ -70,6 +73,7 @@ fn write_audited<R: Recovery, W: Out>(
     ensures passed { IfOk result (IsPassed store.now) }
     ensures written { IfOk result (λ audit. TakesWork store.now objects.now audit reports.now (taken_by W.taken out.old) (taken_by W.taken out.new)) }
     ensures none { IfOk result (λ audit. waiting out.new ≡ []) }
+    ensures failed { IfErr result (λ fault. W.fault (under out.new) ≡ Some fault) }
 {
     let audit = audit_of(alloc, store, types);
     write_work(store, objects, &audit, reports, out)?;

@@ -129,9 +129,8 @@ module _ (old : Stored) (w t : ℕ) (call : Call) (a : Answer) (new : Stored) wh
 
 -- a reply
 reply-answered : (old : Stored) (w t : ℕ) (call : Call) (k : ℕ) (new : Stored) → IsAnswered old w t call (answer.Reply k) new
-    → (e : EventKind) × IsReply (objects old) t call e × (new ≡ noted old w e)
+    → IsReply (objects old) t call (Op t (call.0) k) × (new ≡ noted old w (Op t (call.0) k))
 reply-answered old w t call k new its = (
-  Op t (call.0) k,
   record {
     o = its.o;
     there = its.there;
@@ -157,6 +156,14 @@ none-answered old w t call new its =
 
 -- ---- what the worker makes of it
 
+-- at a reply it gets the receipt of the operation, and its try goes on
+pub calls-reply : (old : Stored) (w t done : ℕ) (call : Call) (p : Progress) (new : Stored) (k : ℕ) → IsAnswered old w t call (answer.Reply k) new
+    → (receipts : List Receipt) → receipts ≡ p.receipts ++ receipt old.history w (Op t (call.0) k) ∷ []
+    → Calls t done call old w p new (record p { receipts = receipts; phase = Going t (done + 1) })
+calls-reply old w t done call p new k its receipts gets =
+    let (reply, makes) = reply-answered old w t call k new its in
+    inl (Op t (call.0) k, reply, makes, ap (λ rs. record p { receipts = rs; phase = Going t (done + 1) }) gets)
+
 module _ (old : Stored) (w t done : ℕ) (call : Call) (p : Progress) (new : Stored) (a : Answer) (its : IsAnswered old w t call a new)
     (held receipts : List Receipt) (kept : held ≡ p.receipts)
     (notes : (H : List Event) (v : ℕ) (happened : EventKind) → new.history ≡ H ++ (record { worker = v; kind = happened }) ∷ []
@@ -166,13 +173,7 @@ module _ (old : Stored) (w t done : ℕ) (call : Call) (p : Progress) (new : Sto
   got happened makes =
       notes old.history w happened (ap (λ (s : Stored). s.history) makes) ∙ ap (λ rs. rs ++ receipt old.history w happened ∷ []) kept
 
-  -- at a reply its try goes on
-  pub calls-reply : (k : ℕ) → a ≡ answer.Reply k → Calls t done call old w p new (record p { receipts = receipts; phase = Going t (done + 1) })
-  calls-reply k is =
-      let (e, reply, makes) = reply-answered old w t call k new (subst (λ b. IsAnswered old w t call b new) is its) in
-      inl (e, reply, makes, ap (λ rs. record p { receipts = rs; phase = Going t (done + 1) }) (got e makes))
-
-  -- else it is broken
+  -- without a reply its try is broken
   breaking : (e : EventKind) × IsNoReply (objects old) t call e × (new ≡ noted old w e)
       → Calls t done call old w p new (record p { receipts = receipts; phase = Breaking t done })
   breaking (e, no_reply, makes) = inr (inl (e, no_reply, makes, ap (λ rs. record p { receipts = rs; phase = Breaking t done }) (got e makes)))

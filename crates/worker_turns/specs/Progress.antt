@@ -46,6 +46,17 @@ open_of (Going t done) = Some t
 open_of (Breaking t done) = Some t
 open_of (Refusing t done refusal) = Some t
 
+-- where it is in this phase after so many broken tries of its job: those in front of a try that is still to begin
+abbrev pub broken_in : Phase → ℕ → ℕ
+broken_in Idle broken = broken
+broken_in (Going t done) broken = 0
+broken_in (Breaking t done) broken = 0
+broken_in (Refusing t done refusal) broken = 0
+
+-- how many tries of its job were broken, where it is in front of another
+abbrev pub broken_before : Progress → ℕ
+broken_before p = broken_in p.phase p.broken
+
 -- ---- the try that is being made
 
 -- the transaction began, and so many calls had a reply each

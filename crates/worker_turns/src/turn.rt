@@ -12,7 +12,7 @@ ghost use Rattle.worker_turns.specs.declared.phase.Phase.TheVariants as phase;
 use crate::outcome::{Outcome, Receipt};
 use crate::phase::Phase;
 use crate::worker::Worker;
-use object_trait::Recovery;
+use object_trait::{Event, EventKind, Recovery};
 use serial_order::Refusal;
 use store::{Answer, Store};
 use type_table::Name;
@@ -50,9 +50,10 @@ impl Worker {
             self.end(Outcome::Refused(Refusal::NoMemory));
             return;
         }
+        let position = store.history().len();
         match store.begin(w) {
             Ok(t) => {
-                note(&mut self.receipts, store);
+                take(&mut self.receipts, position, w, EventKind::Begin { t });
                 self.phase = Phase::Going { t, done: 0 };
             }
             Err(refusal) => self.end(Outcome::Refused(refusal)),
@@ -103,12 +104,18 @@ impl Worker {
             self.refuse(store, w, t, Refusal::NoMemory);
             return;
         }
+        let position = store.history().len();
         match store.call_bytes(w, t, x, name.as_bytes()) {
             Ok(answer) => {
-                note(&mut self.receipts, store);
                 self.phase = match answer {
-                    Answer::Reply(_) => Phase::Going { t, done: done + 1 },
-                    Answer::Busy(_) | Answer::None => Phase::Breaking { t, done },
+                    Answer::Reply(k) => {
+                        take(&mut self.receipts, position, w, EventKind::Op { t, x, k });
+                        Phase::Going { t, done: done + 1 }
+                    }
+                    Answer::Busy(_) | Answer::None => {
+                        note(&mut self.receipts, store);
+                        Phase::Breaking { t, done }
+                    }
                 };
             }
             Err(refusal) => self.phase = Phase::Refusing { t, done, refusal },
@@ -123,9 +130,10 @@ impl Worker {
         ensures { Commits t store.old w self.old store.new self.new }
     {
         self.phase = Phase::Idle;
+        let position = store.history().len();
         // t is open, so it isn't refused
         let _ = store.commit(w, t);
-        note(&mut self.receipts, store);
+        take(&mut self.receipts, position, w, EventKind::Commit { t });
         self.end(Outcome::Committed(t));
     }
 
@@ -175,9 +183,23 @@ fn abort<R: Recovery>(receipts: &mut Vec<Receipt>, store: &mut Store<R>, w: u8, 
     ensures makes { Makes store.old w (Abort t) store.new }
     ensures gets { receipts.new.items ≡ receipts.old.items ++ receipt store.old.history w (Abort t) ∷ [] }
 {
+    let position = store.history().len();
     // t is open, so it isn't refused
     let _ = store.abort(w, t);
-    note(receipts, store);
+    take(receipts, position, w, EventKind::Abort { t });
+}
+
+/// Takes the receipt of an event that worker w made at this place. It is built anew: the history's copy
+/// has just been written in parts, and the processor would wait for these.
+fn take(receipts: &mut Vec<Receipt>, position: usize, w: u8, kind: EventKind)
+    requires { vec_len receipts.old < vec_capacity receipts.old }
+    ensures gets { receipts.new.items ≡ receipts.old.items ++ (record { position = position; event = record { worker = w; kind = kind } }) ∷ [] }
+    ensures room { vec_capacity receipts.new ≡ vec_capacity receipts.old }
+{
+    receipts.push_reserved(Receipt {
+        position,
+        event: Event { worker: w, kind },
+    });
 }
 
 /// Takes the receipt of the last event of a store.

@@ -2,7 +2,7 @@
 
 ghost use Rattle.std.specs.Prelude.{◌≡◌, ◌==◌, ◌<◌, [], length, map, IfOk};
 ghost use Rattle.jobs_text.specs.Jobs.{calls_in};
-ghost use Rattle.worker_turns.specs.Progress.{IsFresh};
+ghost use Rattle.worker_turns.specs.Progress.{IsFresh, broken_before};
 ghost use Rattle.worker_turns.specs.declared.outcome.Outcome.TheVariants.{NotRun};
 
 use crate::outcome::{Outcome, Receipt, Report};
@@ -18,10 +18,10 @@ use std::marker::Model;
 pub struct Worker {
     pub(crate) jobs: Vec<Job>,
     pub(crate) tries: u8,
-    pub(crate) receipts: Vec<Receipt>,
-    pub(crate) outcomes: Vec<Outcome>,
     // How many tries of the job that it does were broken.
     pub(crate) broken: u8,
+    pub(crate) receipts: Vec<Receipt>,
+    pub(crate) outcomes: Vec<Outcome>,
     pub(crate) phase: Phase,
 }
 
@@ -73,6 +73,17 @@ impl Worker {
         ensures { result ≡ (length self.now.outcomes == length self.now.jobs) }
     {
         self.outcomes.len() == self.jobs.len()
+    }
+
+    /// How many tries of its job were broken, where it is in front of another; in the midst of a try
+    /// none.
+    pub fn broken_before(&self) -> u8
+        ensures { result ≡ broken_before self.now }
+    {
+        match self.phase {
+            Phase::Idle => self.broken,
+            Phase::Going { .. } | Phase::Breaking { .. } | Phase::Refusing { .. } => 0,
+        }
     }
 
     /// What it was told.

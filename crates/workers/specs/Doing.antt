@@ -1,7 +1,7 @@
 -- What the calls at the floor do.
 use Rattle.std.specs.Prelude.{◌≡◌, ℕ, ◌+◌, ◌<◌, ◌≤◌, List, length, map, sum, Bool, true, false, Some, slice_get, slice_index_or, ◌⊎◌, vec_capacity, [], Contains}
 use Rattle.store_laws.specs.Stored.{Stored}
-use Rattle.worker_turns.specs.Progress.{Progress, IsFresh, IsAtEnd}
+use Rattle.worker_turns.specs.Progress.{Progress, IsFresh, IsAtEnd, broken_before}
 use Rattle.worker_turns.specs.Turns.{turns_left}
 use Rattle.jobs_text.specs.Jobs.{Call}
 use Rattle.workers.specs.declared.team.Team.{Team}
@@ -70,6 +70,10 @@ pub record LeavesOthers (s : Standing) (w : ℕ) (new : Standing) : Type 0 where
   pub let_in : new.let_in ≡ s.let_in
   pub as_many : length new.workers ≡ length s.workers
   pub others : (v : ℕ) → (v ≡ w → ⊥) → slice_get new.workers v ≡ slice_get s.workers v
+
+-- how many tries of worker w's job were broken, where it is in front of another
+abbrev pub broken_at : List Progress → ℕ → ℕ
+broken_at workers w = slice_index_or (map broken_before workers) w 0
 
 -- ---- how many turns are left
 

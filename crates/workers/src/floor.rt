@@ -3,7 +3,7 @@
 ghost use Rattle.std.specs.Prelude.{◌≡◌, ◌≤◌, [], length, true, false, map, vec_len, vec_capacity};
 ghost use Rattle.serial_order.specs.Machine.{IsRun};
 ghost use Rattle.store_laws.specs.Stored.{objects};
-ghost use Rattle.workers.specs.Doing.{IsOpened, LetsIn, Steps, IsGoing, HaveEnded, AreGoing, LeavesOthers};
+ghost use Rattle.workers.specs.Doing.{IsOpened, LetsIn, Steps, IsGoing, HaveEnded, AreGoing, LeavesOthers, broken_at};
 ghost use Rattle.workers.specs.Standing.{Opening, Standing, HasEnded};
 ghost use Rattle.workers.specs.Worked.{HasWorked};
 
@@ -90,6 +90,17 @@ impl<R: Recovery, S: Opened> Floor<R, S> {
         ensures going { result ≡ false → IsGoing self.now w }
     {
         w >= self.let_in || self.workers[usize::from(w)].is_at_end()
+    }
+
+    /// How many tries of worker w's job were broken, where it is in front of another; in the midst of a
+    /// try, and where there is no such worker, none.
+    pub fn broken_before(&self, w: u8) -> u8
+        ensures { result ≡ broken_at self.now.workers w }
+    {
+        match self.workers.get(usize::from(w)) {
+            Some(worker) => worker.broken_before(),
+            None => 0,
+        }
     }
 
     /// Puts the workers that aren't at their ends into a list, in ascending order.

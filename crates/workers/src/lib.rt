@@ -8,6 +8,7 @@ mod gate;
 mod laws;
 mod run;
 mod team;
+mod waiting;
 
 pub use drawn::{pick, stress};
 pub use fault::WorkFault;

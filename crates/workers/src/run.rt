@@ -9,6 +9,7 @@ use crate::fault::WorkFault;
 use crate::floor::{Floor, Opened};
 use crate::gate::Gate;
 use crate::team::{Team, team_of};
+use crate::waiting::{take, wait_for_a_try};
 use jobs_text::Job;
 use object_trait::Recovery;
 use std::marker::Brand;
@@ -87,7 +88,8 @@ fn start_all<R: Recovery + Send, G: Gate, H: Threads + Wait + Sync, S: Opened + 
     });
 }
 
-/// The turns of a worker until it is at its end. Before each it passes the gate.
+/// The turns of a worker until it is at its end. Before each it passes the gate, and behind a broken try
+/// it waits a little.
 fn work<R: Recovery, G: Gate, H: Wait, S: Opened>(
     rt: &H,
     floor: &Mutex<Floor<R, S>>,
@@ -95,13 +97,17 @@ fn work<R: Recovery, G: Gate, H: Wait, S: Opened>(
     w: u8,
 ) {
     let mut step = 0u32;
-    let mut at_end = floor.lock(rt).is_at_end(w);
+    let mut at_end = take(rt, floor).is_at_end(w);
     for _ in rt.forever() {
         if at_end {
             return;
         }
         gate.pass(w, step);
-        at_end = floor.lock(rt).step(w);
+        let mut held = take(rt, floor);
+        at_end = held.step(w);
+        let broken = held.broken_before(w);
+        drop(held);
+        wait_for_a_try(broken);
         step = step.saturating_add(1);
     }
 }

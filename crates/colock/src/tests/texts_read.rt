@@ -480,8 +480,10 @@ fn put_command(text: &mut String, command: Command) -> Result<(), AllocError> {
 fn script_again(alloc: Global, script: &Script) -> Result<String, AllocError> {
     let mut text = String::new(alloc);
     put_objects(&mut text, script.max, &script.objects)?;
-    for command in &script.commands {
-        put_command(&mut text, *command)?;
+    for place in 0..script.commands.len() {
+        if let Some(command) = script.commands.get(place) {
+            put_command(&mut text, command)?;
+        }
     }
     text.push_str("end\n")?;
     Ok(text)

@@ -9,23 +9,23 @@ use Rattle.script_run.proofs.running.write_run.Goals as goal
 pub returns-in_err-write_objects : goal.returns-in_err-write_objects
 returns-in_err-write_objects g c =
     let s = c.args.store.now in
-    let lines = rw c.as_slice-objects.ensures.value at (c.in_err-write_objects.ensures.writes s) in
+    let lines = rw c.as_slice.ensures.value at (c.in_err-write_objects.ensures.writes s) in
     let (d, returned, same) = err_from_is_err_and c.from_residual.result c.from_residual.ensures.1 in
     rw (returned, same) (script-objects s c.args.script.now lines)
 
 pub returns-in_err-run_commands : goal.returns-in_err-run_commands
 returns-in_err-run_commands g c =
     let s = c.args.store.now in
-    let lines = rw c.as_slice-objects.ensures.value at (c.in_ok-write_objects.ensures.writes s) in
-    let asked = rw c.as_slice-commands.ensures.value at c.in_err-run_commands.ensures in
+    let lines = rw c.as_slice.ensures.value at (c.in_ok-write_objects.ensures.writes s) in
+    let asked = c.in_err-run_commands.ensures in
     let (d, returned, same) = err_from_is_err_and c.from_residual-in_err-run_commands.result c.from_residual-in_err-run_commands.ensures.1 in
     rw (returned, same) (script-commands s c.run_commands.new.store c.args.script.now lines asked)
 
 pub returns-in_err-abort_all : goal.returns-in_err-abort_all
 returns-in_err-abort_all g c =
     let s = c.args.store.now in
-    let lines = rw c.as_slice-objects.ensures.value at (c.in_ok-write_objects.ensures.writes s) in
-    let asked = rw c.as_slice-commands.ensures.value at c.in_ok-run_commands.ensures in
+    let lines = rw c.as_slice.ensures.value at (c.in_ok-write_objects.ensures.writes s) in
+    let asked = c.in_ok-run_commands.ensures in
     let mid = c.run_commands.new.store in
     let new = c.abort_all.new.store in
     let (d, returned, same) = err_from_is_err_and c.from_residual-in_err-abort_all.result c.from_residual-in_err-abort_all.ensures.1 in
@@ -36,8 +36,8 @@ returns-in_err-abort_all g c =
 pub returns-in_err-put_line : goal.returns-in_err-put_line
 returns-in_err-put_line g c =
     let s = c.args.store.now in
-    let lines = rw c.as_slice-objects.ensures.value at (c.in_ok-write_objects.ensures.writes s) in
-    let asked = rw c.as_slice-commands.ensures.value at c.in_ok-run_commands.ensures in
+    let lines = rw c.as_slice.ensures.value at (c.in_ok-write_objects.ensures.writes s) in
+    let asked = c.in_ok-run_commands.ensures in
     let mid = c.run_commands.new.store in
     let closed = c.abort_all.new.store in
     let (d, returned, same) = err_from_is_err_and c.from_residual-in_err-put_line.result c.from_residual-in_err-put_line.ensures.1 in
@@ -49,8 +49,8 @@ returns-in_err-put_line g c =
 pub returns : goal.returns
 returns g c =
     let s = c.args.store.now in
-    let lines = rw c.as_slice-objects.ensures.value at (c.in_ok-write_objects.ensures.writes s) in
-    let asked = rw c.as_slice-commands.ensures.value at c.in_ok-run_commands.ensures in
+    let lines = rw c.as_slice.ensures.value at (c.in_ok-write_objects.ensures.writes s) in
+    let asked = c.in_ok-run_commands.ensures in
     let mid = c.run_commands.new.store in
     let closed = c.abort_all.new.store in
     let its = c.write_states.ensures in

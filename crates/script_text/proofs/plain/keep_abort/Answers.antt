@@ -3,10 +3,10 @@ use Rattle.serial_order.specs.declared.command.Command.TheVariants.{Abort}
 use Rattle.script_text.proofs.PlainCommands.{abort_plainly}
 use Rattle.script_text.proofs.plain.keep_abort.Goals as goal
 
-pub returns-clause-items : goal.returns-clause-items
-returns-clause-items c = record {
+pub returns : goal.returns
+returns c = record {
   entry = Abort c.in_ok-t.t;
   says = abort_plainly c.in_ok-t.t c.args.rest.now c.in_ok-t.behind.now c.in_ok-t.ensures;
   in_range = refl;
-  kept = c.push_reserved.ensures.items;
+  kept = c.in_ok-put.ensures;
 }

@@ -3,10 +3,10 @@ use Rattle.serial_order.specs.declared.command.Command.TheVariants.{Call}
 use Rattle.script_text.proofs.PlainCommands.{call_plainly}
 use Rattle.script_text.proofs.plain.keep_call.Goals as goal
 
-pub returns-clause-items : goal.returns-clause-items
-returns-clause-items c = record {
-  entry = Call c.in_ok-t.t c.in_ok-x.x c.in_ok-call.call;
-  says = call_plainly c.in_ok-t.t c.in_ok-x.x c.in_ok-call.call c.in_ok-word.word.now c.args.rest.now c.in_ok-t.rest.now c.in_ok-x.rest.now c.in_ok-word.behind.now c.in_ok-t.ensures c.in_ok-x.ensures c.in_ok-word.ensures c.in_ok-call.ensures (c.names_are_words.ensures c.in_ok-word.word.now);
+pub returns : goal.returns
+returns c = record {
+  entry = Call c.in_ok-t.t c.in_ok-x.x c.in_ok-word.word.now;
+  says = call_plainly c.in_ok-t.t c.in_ok-x.x c.in_ok-word.word.now c.args.rest.now c.in_ok-t.rest.now c.in_ok-x.rest.now c.in_ok-word.behind.now c.in_ok-t.ensures c.in_ok-x.ensures c.in_ok-word.ensures c.in_ok-put_call.ensures.0 (c.names_are_words.ensures c.in_ok-word.word.now);
   in_range = refl;
-  kept = c.push_reserved.ensures.items;
+  kept = c.in_ok-put_call.ensures.1;
 }

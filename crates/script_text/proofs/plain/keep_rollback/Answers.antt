@@ -3,10 +3,10 @@ use Rattle.serial_order.specs.declared.command.Command.TheVariants.{Rollback}
 use Rattle.script_text.proofs.PlainCommands.{rollback_plainly}
 use Rattle.script_text.proofs.plain.keep_rollback.Goals as goal
 
-pub returns-clause-items : goal.returns-clause-items
-returns-clause-items c = record {
+pub returns : goal.returns
+returns c = record {
   entry = Rollback c.in_ok-t.t c.in_ok-n.n;
   says = rollback_plainly c.in_ok-t.t c.in_ok-n.n c.args.rest.now c.in_ok-t.rest.now c.in_ok-n.behind.now c.in_ok-t.ensures c.in_ok-n.ensures;
   in_range = refl;
-  kept = c.push_reserved.ensures.items;
+  kept = c.in_ok-put.ensures;
 }

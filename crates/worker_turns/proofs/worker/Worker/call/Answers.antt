@@ -1,6 +1,9 @@
+use Rattle.std.proofs.Common.{◌≡◌, ◌++◌, ◌∷◌, [], refl, subst}
+use Rattle.object_trait.specs.declared.event.EventKind.TheVariants.{Op}
 use Rattle.jobs_text.specs.Jobs.{Call, calls_in}
 use Rattle.worker_turns.specs.Progress.{Progress}
-use Rattle.worker_turns.proofs.Asked.{is-answered, calls-reply, calls-busy}
+use Rattle.worker_turns.specs.Turns.{receipt}
+use Rattle.worker_turns.proofs.Asked.{IsAnswered, is-answered, calls-reply, calls-busy}
 use Rattle.worker_turns.proofs.worker.Worker.call.Goals as goal
 use Rattle.worker_turns.proofs.worker.Worker.call.Goals.{in-Reply, in-Busy}
 
@@ -19,12 +22,14 @@ returns-after-answer g c =
       phase = c.self.inside.phase;
     } in
     let held = c.reserve.new.self.items in
-    let receipts = c.note.new.receipts.items in
     elim c.match-answer.branch [
       | in-Reply v ↦
-          rw (← c.self.view_is, v.self-is)
-          (calls-reply old c.args.w c.args.t c.args.done call shown new c.in-Ok.answer its held receipts c.reserve.ensures.items c.note.ensures.gets v.in-Reply.field-0 v.in-Reply.is)
+          let k = v.in-Reply.k in
+          let gets : v.take.new.receipts.items ≡ shown.receipts ++ receipt old.history c.args.w (Op c.args.t c.args.x k) ∷ [] =
+          rw (v.take.ensures.gets, c.reserve.ensures.items, c.history-position.ensures.exact) refl in
+          rw (← c.self.view_is, v.self-inside-is, v.self-is)
+          (calls-reply old c.args.w c.args.t c.args.done call shown new k (subst (λ a. IsAnswered old c.args.w c.args.t call a new) v.in-Reply.is its) v.take.new.receipts.items gets)
       | in-Busy v ↦
-          rw (← c.self.view_is, v.self-is)
-          (calls-busy old c.args.w c.args.t c.args.done call shown new c.in-Ok.answer its held receipts c.reserve.ensures.items c.note.ensures.gets v.in-Busy.is)
+          rw (← c.self.view_is, v.self-inside-is, v.self-is)
+          (calls-busy old c.args.w c.args.t c.args.done call shown new c.in-Ok.answer its held v.note.new.receipts.items c.reserve.ensures.items v.note.ensures.gets v.in-Busy.is)
     ]

@@ -1,0 +1,119 @@
+//! The names that the calls of a script share.
+
+ghost use Rattle.std.specs.Prelude.{◌≡◌, ◌++◌, ◌∷◌, [], length, true, slice_get, IfSome, MatchResult, Some};
+ghost use Rattle.type_table.specs.Name.{is_name};
+ghost use Rattle.script_text.specs.Kept.{Keeps};
+
+use crate::kept_command::KeptCommand;
+use serial_order::Command;
+use std::alloc::{AllocError, Global};
+use std::marker::Model;
+use type_table::Name;
+
+/// How many sums the bytes of a name may have.
+const SUMS: usize = 256;
+
+/// Names, each at its place. One that comes again soon is found, and kept once.
+///
+/// Contracts see the names in order.
+#[derive(Drop)]
+pub(crate) struct Names {
+    names: Vec<Name>,
+    // The place of the last name of each sum. The name there is compared, so nothing relies on it.
+    places: [u32; SUMS],
+}
+
+impl Model for Names {
+    ghost use Rattle.std.specs.Prelude.{ℕ, List};
+
+    ghost Value = { List (List ℕ) };
+
+    ghost view = { λ n. n.names.items };
+}
+
+impl Names {
+    /// No name.
+    pub fn new(alloc: Global) -> Names
+        ensures { result ≡ [] }
+    {
+        Names {
+            names: Vec::new(alloc),
+            places: [0; SUMS],
+        }
+    }
+
+    /// The name at a place.
+    #[inline]
+    pub fn get(&self, place: u32) -> Option<Name>
+        ensures { result ≡ slice_get self.now place }
+    {
+        self.names.get(place as usize).copied()
+    }
+
+    /// The place of these bytes, where they are found to be a name.
+    #[inline]
+    pub fn place_of(&self, bytes: &[u8]) -> Option<u32>
+        ensures there { IfSome result (λ place. slice_get self.now place ≡ Some bytes.now) }
+        ensures name { IfSome result (λ place. is_name bytes.now ≡ true) }
+    {
+        let place = self.places[usize::from(sum_of(bytes))];
+        let name = self.names.get(place as usize)?.as_bytes();
+        if name == bytes { Some(place) } else { None }
+    }
+
+    /// What is kept of a command. A name that isn't found is put behind the others.
+    ///
+    /// # Errors
+    ///
+    /// There was no memory for the name, and the names are what they were.
+    #[inline]
+    pub fn kept_of(&mut self, command: Command) -> Result<KeptCommand, AllocError>
+        ensures { MatchResult result (λ kept. Keeps self.old self.new command kept) (λ _. self.new ≡ self.old) }
+    {
+        match command {
+            Command::Begin => Ok(KeptCommand::Begin),
+            Command::Call { t, x, call } => {
+                let name = match self.place_of(call.as_bytes()) {
+                    Some(place) => place,
+                    None => self.add(call)?,
+                };
+                Ok(KeptCommand::Call { t, x, name })
+            }
+            Command::Commit { t } => Ok(KeptCommand::Commit { t }),
+            Command::Abort { t } => Ok(KeptCommand::Abort { t }),
+            Command::Rollback { t, n } => Ok(KeptCommand::Rollback { t, n }),
+        }
+    }
+
+    /// Puts a name behind the others, and gives its place.
+    fn add(&mut self, name: Name) -> Result<u32, AllocError>
+        ensures { MatchResult result
+            (λ place. (place ≡ length self.old) × (self.new ≡ self.old ++ name ∷ []))
+            (λ _. self.new ≡ self.old) }
+    {
+        // more names have no number, and no memory has so many
+        let Ok(place) = u32::try_from(self.names.len()) else {
+            return Err(AllocError);
+        };
+        self.names.push(name)?;
+        self.places[usize::from(sum_of(name.as_bytes()))] = place;
+        Ok(place)
+    }
+
+    /// Gives back the room that no name takes.
+    pub fn shrink_to_fit(&mut self)
+        ensures { self.new ≡ self.old }
+    {
+        self.names.shrink_to_fit();
+    }
+}
+
+/// A sum of a name's bytes in which their order counts.
+#[inline]
+fn sum_of(bytes: &[u8]) -> u8 {
+    let mut sum = 0u8;
+    for byte in bytes {
+        sum = sum.rotate_left(3) ^ *byte;
+    }
+    sum
+}
