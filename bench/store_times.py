@@ -132,7 +132,7 @@ def words_of(folder, kind, workload, commands, rounds):
 
 
 def printed(program, words):
-    text = subprocess.run([program, *words], check=True, capture_output=True, text=True).stdout
+    text = subprocess.run([*program, *words], check=True, capture_output=True, text=True).stdout
     return dict(line.split(" ") for line in text.split("\n") if line)
 
 
@@ -178,7 +178,7 @@ def show_times(folder, programs, rounds):
 
 def heap_bytes(program, words):
     """All bytes that a run allocates, as valgrind counts them."""
-    run = subprocess.run(["valgrind", program, *words], check=True, capture_output=True, text=True)
+    run = subprocess.run(["valgrind", *program, *words], check=True, capture_output=True, text=True)
     line = next(line for line in run.stderr.split("\n") if "total heap usage" in line)
     return int(line.split("frees, ")[1].split(" bytes")[0].replace(",", ""))
 
@@ -205,12 +205,12 @@ def show_laws(folder, program, rounds):
 
 
 def main(what, rounds):
-    store = built("store_bench")
+    store = [built("benches"), "store"]
     with tempfile.TemporaryDirectory() as folder:
         write_types(folder)
         print(f"{os.cpu_count()} processors, least of {TURNS} turns of {rounds} rounds")
         if what == "store":
-            show_times(folder, [store, plain_program(folder)], rounds)
+            show_times(folder, [store, [plain_program(folder)]], rounds)
             show_bytes(folder, store)
         else:
             show_laws(folder, store, rounds)

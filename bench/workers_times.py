@@ -61,7 +61,7 @@ def plain(folder, name, *flags):
 def programs(folder):
     """The words by which each program begins."""
     at_once, pausing = plain(folder, "at_once"), plain(folder, "pausing", "--cfg", "pausing")
-    return {"colock": [store_times.built("workers_bench")], "operations": [at_once, "operations"],
+    return {"colock": [store_times.built("benches"), "workers"], "operations": [at_once, "operations"],
             "object": [at_once, "object"], "pausing": [pausing, "operations"]}
 
 

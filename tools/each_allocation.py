@@ -1,13 +1,13 @@
 #!/usr/bin/env python3
 """each_allocation.py PROGRAM WORD...: runs a program with each of its allocations refused in turn.
-each_allocation.py --tests PROGRAM: the same of the program of `colock`'s tests, for each test that is
+each_allocation.py --tests PROGRAM...: the same of these programs of tests, for each test that is
 written for it.
 
 The first run refuses none. Each further run refuses one allocation, the next one each time, until
 a run ends that has fewer. A run must end as the first one did, or with `colock: no memory` on
 standard error, nothing on standard output and status 3. The refusals are made by a small library
-that is put in front of the C library's allocator. Where there is no program of tests, or no `cc`,
-that is said and nothing is tried.
+that is put in front of the C library's allocator. Where a program of tests isn't there, or no `cc`,
+that is said and nothing is tried of it. A program without such a test is a failure.
 """
 import os
 import shutil
@@ -104,7 +104,10 @@ def tests_of(program):
 
 
 def sweep_tests(program, library):
-    for name in tests_of(program):
+    names = tests_of(program)
+    if not names:
+        sys.exit(f"{program}: no test of it is written for refused memory")
+    for name in names:
         allocations, _ = sweep([program, name], library)
         print(f"{name}: {allocations} allocations, each refused in turn: passed")
 
@@ -112,13 +115,19 @@ def sweep_tests(program, library):
 def main():
     words = sys.argv[1:]
     is_tests = words[0] == "--tests"
-    if is_tests and not (os.path.exists(words[1]) and shutil.which("cc")):
-        print(f"{words[1]} isn't there, or no cc: no allocation was refused")
-        return
+    programs = words[1:]
+    if is_tests:
+        programs = [program for program in programs if os.path.exists(program) and shutil.which("cc")]
+        for program in words[1:]:
+            if program not in programs:
+                print(f"{program} isn't there, or no cc: no allocation was refused")
+        if not programs:
+            return
     with tempfile.TemporaryDirectory() as folder:
         library = shim_in(folder)
         if is_tests:
-            sweep_tests(words[1], library)
+            for program in programs:
+                sweep_tests(program, library)
             return
         allocations, starved = sweep(words, library)
     print(f"{allocations} allocations, {starved} of them wanted: no other outcome")

@@ -1,6 +1,6 @@
 #!/usr/bin/env python3
-"""misused_store.py: whether the toolchain refuses a store that is let go without `close`, and one that is
-used behind it.
+"""misused_store.py: whether the toolchain refuses a store that is let go without `close`, one that is
+handed to `drop` or is a field of what is dropped, and one that is used behind `close`.
 
 Such a program isn't proved wrong, but refused before anything is proved, so it can't be among the
 wrong bodies of `must-fail/`. Each body is put into a copy of the sources, and a program over the crate
@@ -14,11 +14,22 @@ import tempfile
 
 ROOT = os.path.join(os.path.dirname(os.path.abspath(__file__)), "..")
 FILE = os.path.join("crates", "store", "src", "worked.rt")
-PROGRAM = os.path.join("crates", "store_bench")
+PROGRAM = os.path.join("crates", "benches")
+
+ONE_END = "/// A store has one end,"
+AROUND = """/// A store, and nothing else.
+#[derive(Drop)]
+pub struct Around<R: Recovery> {
+    store: Store<R>,
+}
+
+"""
 
 # (what is done, the text that stands in the file, what is put in its place, the refusal)
 MISUSES = [
     ("let go", "let (history, _) = store.close();", "let history = store.history();", "linear-value-let-go"),
+    ("handed to `drop`", "let (history, _) = store.close();\n    history.len()", "drop(store);\n    0", "unsatisfied-bound"),
+    ("dropped with what is around it", ONE_END, AROUND + ONE_END, "invalid-derive"),
     ("used behind its end", "history.len()", "history.len() + store.history().len()", "borrow-e0382"),
 ]
 

@@ -1,1 +1,2 @@
-pub mod GatheredLemmas
+pub mod Comes
+mod CounterText

@@ -1,10 +1,11 @@
--- An output that gathers, over the list of the bytes that the output under it took.
-use Rattle.std.specs.Prelude.{◌≡◌, ℕ, List}
-use Rattle.command_files.specs.declared.gathered.Gathered.{Gathered}
-use Rattle.command_files.specs.Gathered.{under}
+-- Texts of the counter of two, worked by hand.
+use Rattle.std.specs.Prelude.{ℕ, List, take}
+use Rattle.type_text.specs.Examples.{counter_text, ended}
 
--- the output under it took these bytes; these were gathered, and so many of them handed on
-pub record Has (took gathered : List ℕ) (passed : ℕ) (g : Gathered (List ℕ)) : Type 0 where
-  pub took_is : under g ≡ took
-  pub gathered_is : g.bytes.items ≡ gathered
-  pub passed_is : g.passed ≡ passed
+-- the whole of its text
+abbrev pub counter_bytes : List ℕ
+counter_bytes = ended counter_text
+
+-- the same without its `end`
+abbrev pub endless_bytes : List ℕ
+endless_bytes = ended (take 13 counter_text)

@@ -1,4 +1,6 @@
 pub mod Source
-pub mod Text
-pub mod Gathered
+pub mod Status
+pub mod Answers
+pub mod Files
+pub mod Refusals
 pub mod Examples

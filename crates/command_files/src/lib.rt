@@ -1,19 +1,21 @@
-//! The files that the program reads, its own texts, an output that gathers, the lines that it writes
-//! to standard error, and the statuses with which it ends.
+//! What the commands have in common: the files that they read, the types and the faults of these, what a
+//! command answers, and the statuses with which the program ends.
 #![tactic(auto)]
 
-mod fault_lines;
-mod files;
-mod gathered;
-mod own_text;
+mod answering;
+mod fault;
+mod format;
+mod refusal_line;
 mod source;
 mod status;
+mod type_format;
 
-pub use fault_lines::{cannot_read, out_of_memory, refuse};
-pub use files::bytes_at;
-pub use gathered::Gathered;
-pub use own_text::write_text;
+pub use answering::{put_answer, say_fault};
+pub use fault::Fault;
+pub use format::{Format, read_file};
+pub use refusal_line::no_line;
 pub use source::{FileSource, Source, SourceFault};
-pub use status::{BAD_INPUT, FAILED, NO, YES};
+pub use status::{Status, Verdict};
+pub use type_format::TypeFormat;
 
 pub mod worked;

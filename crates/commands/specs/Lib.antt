@@ -1,1 +1,3 @@
-pub mod Next
+pub mod Concluded
+pub mod Doing
+pub mod Words

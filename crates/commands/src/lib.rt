@@ -1,8 +1,11 @@
-//! The tasks of the program: each is handed to its command.
+//! What the program does: words, and the files that they name, to a text, a line of a fault, and a status.
 #![tactic(auto)]
 
-mod next;
-mod preparing;
+mod concluding;
+mod console;
+mod doing;
+mod words;
 
-pub use next::Next;
-pub use preparing::prepare;
+pub use console::Console;
+pub use doing::do_words;
+pub use words::given_words;

@@ -15,12 +15,12 @@ use Rattle.serial_order.specs.Serial.{standing_at, serial_at}
 use Rattle.serial_order.specs.After.{after, SeenAfter}
 use Rattle.serial_order.specs.Held.{OwnAfter}
 use Rattle.serial_order.specs.declared.entry.Entry.{Entry}
-use Rattle.history_judge.specs.Judges.{Judges}
-use Rattle.history_judge.specs.Rows.{plain, operations_of, committed_in, AreRows}
-use Rattle.history_judge.specs.declared.operation.Operation.{Operation}
-use Rattle.history_judge.specs.declared.event_fault.EventFault.{EventFault}
-use Rattle.history_judge.specs.declared.event_fault.EventFault.TheVariants as judge_fault
-use Rattle.history_judge.specs.declared.event_fault.EventFault.TheVariants.{Bad}
+use Rattle.history_audit.specs.Judges.{Judges}
+use Rattle.history_audit.specs.Rows.{plain, operations_of, committed_in, AreRows}
+use Rattle.history_audit.specs.declared.operation.Operation.{Operation}
+use Rattle.history_audit.specs.declared.event_fault.EventFault.{EventFault}
+use Rattle.history_audit.specs.declared.event_fault.EventFault.TheVariants as judge_fault
+use Rattle.history_audit.specs.declared.event_fault.EventFault.TheVariants.{Bad}
 use Rattle.history_audit.specs.Audit.{Audits, IsAudit, IsFirstBad}
 use Rattle.history_audit.specs.Replay.{AreOperations, AreStates}
 use Rattle.history_audit.specs.Auditor.{AuditsSoFar, IsAuditing, AreInitial, fault_at, ReplaysFrom, Commits}

@@ -13,8 +13,8 @@ use Rattle.serial_order.specs.Operations.{ops, of, serial}
 use Rattle.serial_order.specs.History.{commits, standing}
 use Rattle.serial_order.specs.Serial.{standing_at, serial_at}
 use Rattle.serial_order.specs.declared.entry.Entry.{Entry}
-use Rattle.history_judge.specs.Rows.{plain}
-use Rattle.history_judge.specs.declared.operation.Operation.{Operation}
+use Rattle.history_audit.specs.Rows.{plain}
+use Rattle.history_audit.specs.declared.operation.Operation.{Operation}
 use Rattle.history_audit.specs.Audit.{IsAudit, IsIllegalAt, IsFirstIllegal, serial_up_to}
 use Rattle.history_audit.specs.Replay.{ops_at, AreStates, is_stopped_at, IsStopped, AreReplayed}
 use Rattle.history_audit.specs.Auditor.{AuditsSoFar, illegal_at}

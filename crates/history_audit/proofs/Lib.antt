@@ -1,3 +1,8 @@
+mod SlotsLooked
+mod SlotsEnded
+mod SlotsRows
+pub mod Rows
+pub mod Judged
 pub mod Turns
 pub mod Lines
 pub mod Serials
@@ -8,3 +13,4 @@ pub mod Kept
 pub mod Committed
 pub mod Audited
 pub mod Examples
+pub mod Agree

@@ -9,7 +9,7 @@ use Rattle.type_table.specs.Table.{Table, next}
 use Rattle.type_table.specs.Run.{run, next_of}
 use Rattle.type_table.specs.Laws.{RunsAlong}
 use Rattle.serial_order.specs.History.{IsOperation}
-use Rattle.history_judge.specs.declared.operation.Operation.{Operation}
+use Rattle.history_audit.specs.declared.operation.Operation.{Operation}
 use Rattle.history_audit.specs.Replay.{ops_at, AreOperations, AreStates, next_by, next_at, is_stopped_at, with_state, stop_by, states_after, stop_after, IsStopped, AreReplayed}
 use Rattle.history_audit.specs.Auditor.{AreInitial}
 use Rattle.history_audit.specs.declared.replay.Stop.{Stop}

@@ -7,10 +7,10 @@ use Rattle.object_trait.specs.declared.event.EventKind.{EventKind}
 use Rattle.object_trait.specs.declared.event.EventKind.TheVariants.{Commit}
 use Rattle.serial_order.specs.History.{seen, standing, IsOperation, IsHistory}
 use Rattle.serial_order.specs.declared.entry.Entry.{Entry}
-use Rattle.history_judge.specs.Rows.{AreRows}
-use Rattle.history_judge.specs.declared.operation.Operation.{Operation}
-use Rattle.history_judge.specs.declared.event_fault.EventFault.{EventFault}
-use Rattle.history_judge.specs.declared.event_fault.EventFault.TheVariants.{Bad, NoMemory}
+use Rattle.history_audit.specs.Rows.{AreRows}
+use Rattle.history_audit.specs.declared.operation.Operation.{Operation}
+use Rattle.history_audit.specs.declared.event_fault.EventFault.{EventFault}
+use Rattle.history_audit.specs.declared.event_fault.EventFault.TheVariants.{Bad, NoMemory}
 use Rattle.history_audit.specs.Audit.{IsAudit, IsFirstIllegal}
 use Rattle.history_audit.specs.Replay.{ops_at, AreStates, AreReplayed}
 use Rattle.history_audit.specs.declared.replay.Stop.{Stop}

@@ -7,6 +7,7 @@ use Rattle.serial_order.specs.History.{IsHistory}
 use Rattle.serial_order.specs.Machine.{IsRun, AreCovered}
 use Rattle.serial_order.specs.Serial.{IsSerial}
 use Rattle.history_audit.specs.Audit.{Audits, AreSerial}
+use Rattle.history_audit.specs.Text.{audit_text}
 use Rattle.history_audit.specs.declared.outcome.Audit.{Audit}
 use Rattle.history_audit.specs.declared.outcome.AuditFault.{AuditFault}
 use Rattle.history_audit.specs.declared.outcome.AuditFault.TheVariants.{NoMemory}
@@ -42,3 +43,19 @@ abbrev pub AuditDecides : Type 0
 AuditDecides =
     (tables : List Table) (H : List Event) (outcome : Result Audit AuditFault) → Audits tables H outcome → (outcome ≡ Err NoMemory → ⊥)
     → IsOk outcome ↔ (IsHistory tables H × AreSerial tables H)
+
+-- two outcomes say the same: the same order and serial states, or the same fault
+abbrev pub SaysAlike : Result Audit AuditFault → Result Audit AuditFault → Type 0
+SaysAlike (Ok a) (Ok b) = (a.order.items ≡ b.order.items) × (a.finals.items ≡ b.finals.items)
+SaysAlike (Err f) (Err g) = f ≡ g
+SaysAlike one other = ⊥
+
+-- two audits of the same events over the same tables say the same, where memory was refused to neither
+abbrev pub AuditsAgree : Type 0
+AuditsAgree =
+    (tables : List Table) (H : List Event) (one other : Result Audit AuditFault) → Audits tables H one → Audits tables H other
+    → (one ≡ Err NoMemory → ⊥) → (other ≡ Err NoMemory → ⊥) → SaysAlike one other
+
+-- and their lines are the same
+abbrev pub AlikeIsWritten : Type 0
+AlikeIsWritten = (one other : Result Audit AuditFault) → SaysAlike one other → audit_text one ≡ audit_text other

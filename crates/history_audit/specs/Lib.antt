@@ -1,3 +1,7 @@
+pub mod Rows
+pub mod Moves
+pub mod Slots
+pub mod Judges
 pub mod Audit
 pub mod Replay
 pub mod Auditor

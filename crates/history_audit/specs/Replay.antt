@@ -5,7 +5,7 @@ use Rattle.std.specs.List.{AllByRecursion}
 use Rattle.type_table.specs.Table.{Table, next}
 use Rattle.type_table.specs.Run.{run, IsLegal}
 use Rattle.serial_order.specs.History.{IsOperation}
-use Rattle.history_judge.specs.declared.operation.Operation.{Operation}
+use Rattle.history_audit.specs.declared.operation.Operation.{Operation}
 use Rattle.history_audit.specs.declared.replay.Stop.{Stop}
 
 -- the operations at x

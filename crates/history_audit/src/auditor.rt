@@ -6,9 +6,12 @@ ghost use Rattle.history_audit.specs.Audit.{Audits};
 ghost use Rattle.history_audit.specs.Replay.{AreOperations, AreStates};
 ghost use Rattle.history_audit.specs.Auditor.{AreInitial, IsAuditing, fault_at, illegal_at, Replays, Commits};
 
+use crate::event_fault::EventFault;
+use crate::judge::Judge;
+use crate::laws::nothing_began;
+use crate::operation::Operation;
 use crate::outcome::{Audit, AuditFault};
 use crate::replay::{Stop, count_at, replay};
-use history_judge::{EventFault, Judge, Operation, nothing_began};
 use object_trait::{Event, EventKind};
 use serial_order::{own_after, seen_after};
 use std::alloc::{AllocError, Global};

@@ -1,8 +1,12 @@
 //! Laws of the audit: each is a function that does nothing, whose contract is the law.
 
-ghost use Rattle.history_audit.specs.Laws.{YesIsSerial, SerialHistoriesPass, RunsPass, AuditDecides};
+ghost use Rattle.std.specs.Prelude.{[]};
+ghost use Rattle.serial_order.specs.History.{seen};
+ghost use Rattle.history_audit.specs.Rows.{AreRows};
+ghost use Rattle.history_audit.specs.Moves.{MovedRowsAgree};
+ghost use Rattle.history_audit.specs.Laws.{YesIsSerial, SerialHistoriesPass, RunsPass, AuditDecides, AuditsAgree, AlikeIsWritten};
 
-use serial_order::{headline, run_is_history};
+use serial_order::{headline, history_opens_after, own_after, run_is_history, seen_after};
 use type_table::runs_along;
 
 /// What the audit says yes to is serially legal, for any objects of these tables.
@@ -33,6 +37,30 @@ pub fn runs_pass()
 #[tactic(auto, using(crate::proofs::Said::audit_decides))]
 pub fn audit_decides()
     ensures { AuditDecides }
+{
+    runs_along();
+}
+
+/// Before the first event there are no rows.
+pub fn nothing_began()
+    ensures { AreRows [] (seen []) }
+{}
+
+/// Where rows agree with some events, the rows to which one more leads agree with these and it.
+pub fn moved_rows_agree()
+    ensures { MovedRowsAgree }
+{
+    seen_after();
+    history_opens_after();
+    own_after();
+}
+
+/// Two audits of the same events over the same tables say the same, and have the same lines, where
+/// memory was refused to neither.
+#[tactic(auto, using(crate::proofs::Agree::audits_agree, crate::proofs::Agree::alike_written))]
+pub fn audits_agree()
+    ensures said { AuditsAgree }
+    ensures lines { AlikeIsWritten }
 {
     runs_along();
 }

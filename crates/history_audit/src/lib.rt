@@ -4,13 +4,18 @@
 
 mod auditing;
 mod auditor;
+mod event_fault;
+mod judge;
 mod laws;
+mod operation;
+mod operations;
 mod outcome;
 mod replay;
+mod slots;
 mod write;
 
 pub use auditing::audit;
-pub use laws::{audit_decides, runs_pass, serial_histories_pass, yes_is_serial};
+pub use laws::{audit_decides, audits_agree, runs_pass, serial_histories_pass, yes_is_serial};
 pub use outcome::{Audit, AuditFault};
 pub use outputs::{Out, OutFault};
 pub use write::write_audit;

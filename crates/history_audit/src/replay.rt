@@ -5,7 +5,7 @@ ghost use Rattle.type_table.specs.Table.{Table};
 ghost use Rattle.serial_order.specs.History.{IsOperation};
 ghost use Rattle.history_audit.specs.Replay.{ops_at, AreOperations, AreStates, next_at, is_stopped_at, states_after, stop_after, AreReplayed};
 
-use history_judge::Operation;
+use crate::operation::Operation;
 use type_table::{TypeTable, runs_along};
 
 /// Where a replay stopped: an operation that isn't legal, at the least object that has one.

@@ -1,17 +1,25 @@
 //! Worked audits: each function does nothing, and its contract is what comes out of a small history.
 #![tactic(auto, unfolding(type_table::specs::Table::next))]
 
-ghost use Rattle.std.specs.Prelude.{◌≡◌, [], ◌∷◌, Some, None, Err, codes};
+ghost use Rattle.std.specs.Prelude.{◌≡◌, [], ◌∷◌, ◌++◌, Some, None, Ok, Err, codes};
 ghost use Rattle.type_table.specs.Run.{run};
 ghost use Rattle.type_table.specs.Examples.{counter, one_way};
-ghost use Rattle.serial_order.specs.History.{IsHistory};
+ghost use Rattle.object_trait.specs.declared.event.EventKind.TheVariants as kind;
+ghost use Rattle.serial_order.specs.History.{seen, IsHistory};
 ghost use Rattle.serial_order.specs.Examples.{one_way_history, unlocked_history, two_objects_history};
+ghost use Rattle.history_audit.specs.declared.event_fault.EventFault.TheVariants as fault;
+ghost use Rattle.history_audit.specs.Rows.{operations_of, committed_in, IsRow, AreRows};
+ghost use Rattle.history_audit.specs.Moves.{RowsMove};
+ghost use Rattle.history_audit.specs.Judges.{Judges};
 ghost use Rattle.history_audit.specs.Audit.{IsAudit, IsFirstBad, IsIllegalAt, IsFirstIllegal, ComesBefore, serial_up_to};
 ghost use Rattle.history_audit.specs.Replay.{ops_at, states_after, stop_after};
 ghost use Rattle.history_audit.specs.Auditor.{illegal_at};
+ghost use Rattle.history_audit.specs.Laws.{SaysAlike};
 ghost use Rattle.history_audit.specs.Text.{comment, commit_line, serial_line, audit_text};
-ghost use Rattle.history_audit.specs.Examples.{two_counters, too_many_history, two_stops_history, two_stops, down_at, up_at, stop_at};
+ghost use Rattle.history_audit.specs.declared.outcome.Audit.{Audit as AuditValue};
+ghost use Rattle.history_audit.specs.Examples.{two_counters, too_many_history, two_stops_history, two_stops, down_at, up_at, stop_at, operation, two_ups, two_ups_rows, one_up_rows};
 
+use crate::laws::{moved_rows_agree, nothing_began};
 use crate::outcome::AuditFault;
 
 /// q is executed before p, whose transaction commits first: the audit has p before q, which leads to 4.
@@ -64,4 +72,55 @@ pub fn lines_of_audits()
     ensures bad { audit_text (Err (AuditFault.BadEvent 2)) ≡ codes "# audit no BadEvent 2\n" }
     ensures illegal { audit_text (Err (AuditFault.IllegalOp 10 1 2)) ≡ codes "# audit no IllegalOp 10 1 2\n" }
     ensures nothing { audit_text (Err AuditFault.NoMemory) ≡ [] }
+{}
+
+/// A row has the operations of its transaction that live, over all objects, as they were executed.
+pub fn operations_are_told()
+    ensures some { operations_of 0 (seen two_ups) ≡ operation 1 0 ∷ operation 0 0 ∷ [] }
+    ensures none { operations_of 1 (seen two_ups) ≡ [] }
+    ensures committed { committed_in (kind.Commit 0) (seen two_ups) ≡ Some (operation 1 0 ∷ operation 0 0 ∷ []) }
+    ensures aborted { committed_in (kind.Abort 0) (seen two_ups) ≡ None }
+{}
+
+/// A row is none where its transaction ended, and no other.
+pub fn a_row_says_what_its_transaction_did()
+    ensures open { IsRow (Some (operation 1 0 ∷ operation 0 0 ∷ [])) 0 (seen two_ups) }
+    ensures ended { IsRow None 1 (seen two_ups) }
+    ensures lost { IsRow None 0 (seen two_ups) → ⊥ }
+    ensures struck { IsRow (Some (operation 1 0 ∷ [])) 0 (seen two_ups) → ⊥ }
+    ensures kept { IsRow (Some []) 1 (seen two_ups) → ⊥ }
+{}
+
+/// What events do to the rows: here a transaction takes an operation back, and ends.
+pub fn rows_move()
+    ensures begins { RowsMove (kind.Begin 2) two_ups_rows (two_ups_rows ++ Some [] ∷ []) }
+    ensures rolled_back { RowsMove (kind.Rollback 0 1) two_ups_rows one_up_rows }
+    ensures ended { RowsMove (kind.Abort 0) one_up_rows (None ∷ None ∷ []) }
+    ensures closed { RowsMove (kind.Commit 1) two_ups_rows two_ups_rows → ⊥ }
+{}
+
+/// The first transaction may commit two operations or take them back, and the third may begin. It may not be
+/// the fourth, the second ended, and there are no three operations to take back.
+pub fn events_are_judged()
+    ensures agrees { AreRows two_ups_rows (seen two_ups) }
+    ensures commits { Judges two_counters two_ups_rows (kind.Commit 0) (Ok (Some (operation 1 0 ∷ operation 0 0 ∷ []))) (None ∷ None ∷ []) }
+    ensures takes_back { Judges two_counters two_ups_rows (kind.Rollback 0 1) (Ok None) one_up_rows }
+    ensures begins { Judges two_counters two_ups_rows (kind.Begin 2) (Ok None) (two_ups_rows ++ Some [] ∷ []) }
+    ensures misnumbered { Judges two_counters two_ups_rows (kind.Begin 3) (Err fault.Bad) two_ups_rows }
+    ensures ended { Judges two_counters two_ups_rows (kind.Op 1 0 0) (Err fault.Bad) two_ups_rows }
+    ensures overdone { Judges two_counters two_ups_rows (kind.Rollback 0 3) (Err fault.Bad) two_ups_rows }
+    ensures no_memory { Judges two_counters two_ups_rows (kind.Commit 0) (Err fault.NoMemory) two_ups_rows → ⊥ }
+    ensures not_handed_out { Judges two_counters two_ups_rows (kind.Commit 0) (Ok None) (None ∷ None ∷ []) → ⊥ }
+    ensures still_open { Judges two_counters two_ups_rows (kind.Abort 0) (Ok None) two_ups_rows → ⊥ }
+    ensures refused { Judges two_counters two_ups_rows (kind.Commit 0) (Err fault.Bad) two_ups_rows → ⊥ }
+{
+    nothing_began();
+    moved_rows_agree();
+}
+
+/// Outcomes say the same exactly where the fault and its numbers are the same.
+pub fn outcomes_say_alike()
+    ensures same { SaysAlike (Err (AuditFault.IllegalOp 0 1 2)) (Err (AuditFault.IllegalOp 0 1 2)) }
+    ensures another_number { SaysAlike (Err (AuditFault.BadEvent 2)) (Err (AuditFault.BadEvent 3)) → ⊥ }
+    ensures a_yes { (a : AuditValue) → SaysAlike (Ok a) (Err (AuditFault.BadEvent 2)) → ⊥ }
 {}

@@ -153,6 +153,21 @@ nothing-left laws {m} {views} {t} {from} {w} {log} {new} h done =
     let none : length (open_of t m.log) - w.count ≡ 0 = omega arith in
     done.cut ∙ cut-kept laws.none laws.parts (is_open_of t) m.log from w.count done.counted ∙ ap (λ n. keep_first (is_open_of t) n m.log) none
 
+-- who has no entry sees base
+seen-base : (t base : ℕ) (views : List View) → AllByRecursion (λ (v : View). 0 < v.count) views → (seen_by t base views).count ≡ 0 → (seen_by t base views).state ≡ base
+seen-base t base [] some none = refl
+seen-base t base (v ∷ views) some none =
+    elim (cases_Bool (eqb v.by t)) [
+      | inl is ↦ absurd (let nothing : v.count ≡ 0 = rw is at none in omega (arith, some.0, nothing))
+      | inr isnt ↦ rw isnt (seen-base t base views some.1 (rw isnt at none))
+    ]
+
+-- where t has none, its view is base
+base-still : {m : Meaning} {views : List View} {t from : ℕ} {w : View} {log : List LogEntry} {new : List View} → IsKept m views → IsCommitted m views t from w log new → open_of t m.log ≡ [] → w.state ≡ m.base
+base-still {m} {views} {t} {from} {w} {log} {new} h done none =
+    let count : w.count ≡ 0 = seen-count t w h done.seen ∙ ap length none in
+    ap (λ (v : View). v.state) done.seen ∙ seen-base t m.base views h.some (ap (λ (v : View). v.count) (sym done.seen) ∙ count)
+
 -- the meaning after it
 abbrev pub committed : Meaning → View → List LogEntry → Meaning
 committed m w log = record m { base = w.state; log = log }
@@ -165,7 +180,7 @@ committed-commits laws {m} {views} {t} {from} {w} {log} {new} h done =
       checked = refl;
       commit =
           subst (λ kind. IsCommitBy kind o m.base m.log t w.state log) (sym h.deferred)
-          (record { rest = nothing-left laws h done ∙ laws.none (is_open_of t) m.log; inside = shown.inside; reached = shown.equi });
+          (record { rest = nothing-left laws h done ∙ laws.none (is_open_of t) m.log; inside = shown.inside; reached = shown.equi; still = base-still h done });
     }
 
 -- views that are carried on have their owners

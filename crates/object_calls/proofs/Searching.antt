@@ -5,7 +5,7 @@ use Rattle.std.specs.Option.{option_or}
 use Rattle.std.proofs.lemmas.Bool.{cases_lt, cases_eq, and_parts, and_cases, and_left, lt-ltb, ltb-true, eq-eqb, true≢false}
 use Rattle.std.proofs.lemmas.Nat.Bits.{bit_at-zero}
 use Rattle.type_table.specs.Table.{Table, is_same_call}
-use Rattle.call_table.specs.Calls.{HasOperations}
+use Rattle.object_calls.specs.Calls.{HasOperations}
 use Rattle.object_trait.specs.Meaning.{Meaning}
 use Rattle.object_trait.specs.Steps.{IsLegalFor}
 use Rattle.op_locks.specs.declared.held.Held.{Held}

@@ -1,3 +1,6 @@
+pub mod Calls
+pub mod Collected
+pub mod Examples
 pub mod Answers
 pub mod Ends
 pub mod Lowest

@@ -1,12 +1,12 @@
 //! The answer of a call at one object.
 
 ghost use Rattle.std.specs.Prelude.{◌≡◌, ◌<◌, All, length};
-ghost use Rattle.call_table.specs.Calls.{HasOperations};
+ghost use Rattle.object_calls.specs.Calls.{HasOperations};
 ghost use Rattle.object_calls.specs.Answers.{busy_with, answer_of};
 
 use crate::answer::Answer;
+use crate::call::Call;
 use crate::lowest::take_lowest;
-use call_table::Call;
 use object_trait::Recovery;
 use op_locks::OpLocks;
 

@@ -1,14 +1,18 @@
-//! What a store does at its objects: it answers a call at one of them, and ends or strikes
+//! The calls of a type, and what a store does at its objects: it answers a call at one of them, and ends or strikes
 //! operations of a transaction at all objects where it has some.
 #![tactic(auto)]
 
 mod answer;
+mod call;
+mod call_table;
 mod choosing;
 mod end;
 mod lowest;
 mod strike;
 
 pub use answer::Answer;
+pub use call::{Call, NamedCall};
+pub use call_table::CallTable;
 pub use choosing::choose;
 pub use end::{abort_at, commit_at};
 pub use strike::strike_at;

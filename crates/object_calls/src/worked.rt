@@ -1,11 +1,13 @@
 //! Worked examples of the definitions: each function does nothing, and its contract is the example.
 #![tactic(auto, unfolding(type_table::specs::Table::next))]
 
-ghost use Rattle.std.specs.Prelude.{◌≡◌, [], ◌∷◌};
+ghost use Rattle.std.specs.Prelude.{◌≡◌, [], ◌∷◌, Some, None, codes};
 ghost use Rattle.object_trait.specs.Examples.{held, counter_at};
 ghost use Rattle.op_locks.specs.Examples.{hold};
 ghost use Rattle.object_calls.specs.Answers.{answer_of};
 ghost use Rattle.object_calls.specs.Ends.{count_at};
+ghost use Rattle.object_calls.specs.Calls.{HasOperations, IsCall, by_name, by_number, IsCallTable};
+ghost use Rattle.object_calls.specs.Examples.{bit, read, flip, bit_calls};
 
 use crate::answer::Answer;
 use type_table::Kind;
@@ -25,4 +27,34 @@ pub fn places_are_counted()
     ensures twice { count_at 3 (3 ∷ 1 ∷ 3 ∷ []) ≡ 2 }
     ensures once { count_at 1 (3 ∷ 1 ∷ 3 ∷ []) ≡ 1 }
     ensures never { count_at 2 (3 ∷ 1 ∷ 3 ∷ []) ≡ 0 }
+{}
+
+pub fn calls_are_found_by_name()
+    ensures first { by_name bit_calls (codes "read") ≡ Some read }
+    ensures second { by_name bit_calls (codes "flip") ≡ Some flip }
+    ensures absent { by_name bit_calls (codes "rea") ≡ None }
+{}
+
+pub fn calls_are_found_by_number()
+    ensures first { by_number bit_calls 0 ≡ Some read }
+    ensures second { by_number bit_calls 1 ≡ Some flip }
+    ensures not_its_least { by_number bit_calls 2 ≡ None }
+{}
+
+pub fn words_have_the_operations_of_a_call()
+    ensures first { HasOperations bit 0 5 }
+    ensures second { HasOperations bit 1 10 }
+    ensures missing { HasOperations bit 0 1 → ⊥ }
+    ensures foreign { HasOperations bit 0 7 → ⊥ }
+    ensures past_all { HasOperations bit 0 21 → ⊥ }
+{}
+
+pub fn calls_are_numbered_by_their_least()
+    ensures least { IsCall bit read }
+    ensures not_its_least { IsCall bit (record { first = 2; operations = 5 }) → ⊥ }
+{}
+
+pub fn calls_of_a_bit()
+    ensures all { IsCallTable bit bit_calls }
+    ensures none { IsCallTable bit [] → ⊥ }
 {}

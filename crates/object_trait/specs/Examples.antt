@@ -1,10 +1,12 @@
 -- Small meanings of the counter of two, whose operation 0 counts up and whose operation 1 counts down.
-use Rattle.std.specs.Prelude.{ℕ, true, false, List, [], ◌∷◌, Option}
+use Rattle.std.specs.Prelude.{ℕ, true, false, nat_lt, List, [], ◌∷◌, Option, Some, codes}
 use Rattle.std.specs.Option.{option_to_list}
+use Rattle.type_table.specs.Examples.{ok_op}
 use Rattle.type_table.specs.declared.kind.Kind.{Kind}
 use Rattle.type_table.specs.declared.kind.Kind.TheVariants.{Undo, Intentions}
 use Rattle.table_checker.specs.Checked.{Checked}
 use Rattle.table_checker.specs.Examples.{counter_file}
+use Rattle.object_trait.specs.Object.{Object}
 use Rattle.object_trait.specs.Meaning.{Meaning}
 use Rattle.object_trait.specs.declared.log_entry.LogEntry.{LogEntry}
 
@@ -35,3 +37,12 @@ down_on_up = counter_at Undo 0 (held 1 0 ∷ held 2 1 ∷ [])
 -- what an object means whose log has at most one entry, and whose base is the initial state
 abbrev pub of_one_entry : Checked → Option LogEntry → Meaning
 of_one_entry checked entry = record { checked = checked; base = checked.file.table.initial; log = option_to_list entry }
+
+-- an object of two states, in each of which the one operation idles: nothing tells the states apart
+abbrev pub two_alike : Object
+two_alike = record {
+  kind = Intentions;
+  table = record { name = codes "alike"; states = 2; initial = 0; ops = ok_op (codes "p") ∷ []; steps = Some 0 ∷ Some 1 ∷ [] };
+  set = λ s. nat_lt s 2;
+  conflicts = λ p q. false;
+}

@@ -12,7 +12,7 @@ use Rattle.object_trait.specs.Orders.{Pairs, Sorts, Parts}
 use Rattle.object_trait.specs.Strike.{keep_first}
 use Rattle.object_trait.specs.Meaning.{Meaning, object, ops_of, is_open_of, open_of}
 use Rattle.object_trait.specs.Sound.{IsSound}
-use Rattle.object_trait.specs.Steps.{IsFresh, open_transactions, MayApply, applied, IsCommit, Keeps}
+use Rattle.object_trait.specs.Steps.{IsFresh, open_transactions, MayApply, applied, IsCommit, Keeps, ShowsTheSame}
 use Rattle.object_trait.specs.declared.log_entry.LogEntry.{LogEntry}
 
 -- ---- exchanges of neighbours
@@ -107,6 +107,12 @@ SoundAfterStrike = (old new : Meaning) (t n : ℕ) → IsCovered (object old) �
 -- a commit, a strike and an abort of a transaction without open entries may leave a meaning as it is
 abbrev pub UntouchedStays : Type 0
 UntouchedStays = (m : Meaning) (t : ℕ) → IsSound m → open_of t m.log ≡ [] → IsCommit m t m × ((n : ℕ) → Keeps m t n m)
+
+-- whatever they leave, it shows the same: with update in place done entries may have moved into base
+abbrev pub UntouchedShowsTheSame : Type 0
+UntouchedShowsTheSame =
+    (old new : Meaning) (t : ℕ) → open_of t old.log ≡ []
+    → (IsCommit old t new → ShowsTheSame old new) × ((n : ℕ) → Keeps old t n new → ShowsTheSame old new)
 
 -- numbers of which none is listed twice, and that are those of the transactions with an open entry, are as many as the open transactions, and no more than the log has entries
 abbrev pub OpensAreCounted : Type 0

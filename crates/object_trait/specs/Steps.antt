@@ -6,7 +6,7 @@ use Rattle.type_table.specs.declared.kind.Kind.{Kind}
 use Rattle.type_table.specs.declared.kind.Kind.TheVariants.{Undo, Intentions}
 use Rattle.object_trait.specs.Object.{Object}
 use Rattle.object_trait.specs.Strike.{keep_first}
-use Rattle.object_trait.specs.Meaning.{Meaning, object, is_open_of, open_of, run_log, view_of}
+use Rattle.object_trait.specs.Meaning.{Meaning, object, is_open_of, open_of, run_log, state_of, view_of}
 use Rattle.object_trait.specs.declared.log_entry.LogEntry.{LogEntry}
 
 -- ---- what is read
@@ -61,11 +61,12 @@ marked t e = record e { done = e.done || e.by == t }
 abbrev pub IsUndoCommit : Object → ℕ → List LogEntry → ℕ → ℕ → List LogEntry → Type 0
 IsUndoCommit o base log t = IsSettled o base (map (marked t) log)
 
--- deferred update: t's entries leave the log, and base is equieffective to the state after them
+-- deferred update: t's entries leave the log, and base is equieffective to the state after them. Where t has none, base stays
 pub record IsIntentionsCommit (o : Object) (base : ℕ) (log : List LogEntry) (t new_base : ℕ) (new_log : List LogEntry) : Type 0 where
   pub rest : new_log ≡ filter (λ e. not (is_open_of t e)) log
   pub inside : o.set new_base ≡ true
   pub reached : AreEqui o.table (Some new_base) (run_log o base (open_of t log))
+  pub still : open_of t log ≡ [] → new_base ≡ base
 
 abbrev pub IsCommitBy : Kind → Object → ℕ → List LogEntry → ℕ → ℕ → List LogEntry → Type 0
 IsCommitBy Undo = IsUndoCommit
@@ -100,3 +101,11 @@ IsStrike old t m new = Keeps old t (length (open_of t old.log) - m) new
 -- all of them are
 abbrev pub IsAbort : Meaning → ℕ → Meaning → Type 0
 IsAbort old t new = Keeps old t 0 new
+
+-- ---- what nobody notices
+
+-- the state, the state that each transaction sees, and the open entries of each are as they were
+pub record ShowsTheSame (old new : Meaning) : Type 0 where
+  pub state : state_of new ≡ state_of old
+  pub views : (t : ℕ) → view_of new t ≡ view_of old t
+  pub opens : (t : ℕ) → open_of t new.log ≡ open_of t old.log

@@ -1,7 +1,7 @@
 //! Laws of exchanges of neighbours and of meanings: each is a function that does nothing, whose
 //! contract is the law. It calls the laws on which it depends.
 
-ghost use Rattle.object_trait.specs.Laws.{PartsSort, KeepsFirst, KeepsNone, KeepsParts, KeepsOthers, StruckPart, SortsLook, SortsEqui, CheckedIsCovered, StruckLogIsLegal, OpensCommute, FreshIsSound, SoundAfterApply, SoundAfterCommit, SoundAfterStrike, UntouchedStays, OpensAreCounted};
+ghost use Rattle.object_trait.specs.Laws.{PartsSort, KeepsFirst, KeepsNone, KeepsParts, KeepsOthers, StruckPart, SortsLook, SortsEqui, CheckedIsCovered, StruckLogIsLegal, OpensCommute, FreshIsSound, SoundAfterApply, SoundAfterCommit, SoundAfterStrike, UntouchedStays, UntouchedShowsTheSame, OpensAreCounted};
 
 use crate::log_entry::LogEntry;
 use table_checker::{strong_yes_covers, yes_covers};
@@ -118,6 +118,14 @@ pub fn sound_after_strike()
 pub fn untouched_stays()
     ensures { UntouchedStays }
 {}
+
+/// Whatever a commit, a strike or an abort of a transaction without open entries leaves, it has the
+/// same state, shows each transaction the same, and has the same open entries.
+pub fn untouched_shows_the_same()
+    ensures { UntouchedShowsTheSame }
+{
+    runs_along();
+}
 
 /// A list that names each transaction with an open entry once, and no other, is as long as that of the
 /// open transactions, and no longer than the log.

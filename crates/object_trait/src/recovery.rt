@@ -20,7 +20,9 @@ pub trait Recovery: Send + Drop {
         ensures { result.now ≡ (meaning self.now).checked };
 
     /// The object's state: with update in place that after the whole log, with deferred update that
-    /// of the committed transactions alone.
+    /// of the committed transactions alone. The latter is one of those that are equieffective to the
+    /// state after their operations in commit order, and needn't be that state: of a type whose states
+    /// 3 and 4 nothing tells apart, it may be 4 where that is 3.
     fn state(&self) -> u16
         ensures { state_of (meaning self.now) ≡ Some result };
 
@@ -41,11 +43,13 @@ pub trait Recovery: Send + Drop {
         ensures unchanged { OnErr result (meaning self.new ≡ meaning self.old) };
 
     /// Commits transaction t. With update in place its entries become done; with deferred update
-    /// they leave the log, and the state becomes one that is equieffective to that after them.
+    /// they leave the log, and the state becomes one that is equieffective to that after them, or stays
+    /// where there are none.
     fn commit(&mut self, t: u32)
         ensures { IsCommit (meaning self.old) t (meaning self.new) };
 
-    /// Aborts transaction t: its open entries leave the log.
+    /// Aborts transaction t: its open entries leave the log. With deferred update the state stays, as
+    /// the same number.
     fn abort(&mut self, t: u32)
         ensures { IsAbort (meaning self.old) t (meaning self.new) };
 

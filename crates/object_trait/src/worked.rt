@@ -2,12 +2,14 @@
 #![tactic(auto, unfolding(type_table::specs::Table::next))]
 
 ghost use Rattle.std.specs.Prelude.{◌≡◌, nat_lt, [], ◌∷◌, Some};
+ghost use Rattle.type_table.specs.Run.{AreEqui};
 ghost use Rattle.object_trait.specs.Strike.{keep_first};
 ghost use Rattle.object_trait.specs.Meaning.{state_of, view_of};
 ghost use Rattle.object_trait.specs.Sound.{IsSound};
-ghost use Rattle.object_trait.specs.Steps.{IsLegalFor, open_transactions, MayApply, IsCommit, IsStrike, IsAbort};
-ghost use Rattle.object_trait.specs.Examples.{held, past, counter_at, two_ups, up_and_down, down_on_up};
+ghost use Rattle.object_trait.specs.Steps.{IsLegalFor, open_transactions, MayApply, IsCommit, IsStrike, IsAbort, IsIntentionsCommit, ShowsTheSame};
+ghost use Rattle.object_trait.specs.Examples.{held, past, counter_at, two_ups, up_and_down, down_on_up, two_alike};
 
+use crate::laws::untouched_shows_the_same;
 use type_table::Kind;
 
 /// A list without all but the first m of its small numbers.
@@ -68,6 +70,18 @@ pub fn a_deferred_commit_runs_its_entries()
     ensures down { IsCommit up_and_down 2 (counter_at Kind.Intentions 0 (held 1 0 ∷ [])) }
     ensures none { IsCommit up_and_down 3 up_and_down }
 {}
+
+/// The commit of a transaction without entries may move a done entry into the base, in place, which
+/// shows the same. Deferred it leaves the base, also for another state that nothing tells from it.
+pub fn a_commit_without_entries_shows_the_same()
+    ensures in_place { IsCommit (counter_at Kind.Undo 0 (past 1 0 ∷ held 2 0 ∷ [])) 3 (counter_at Kind.Undo 1 (held 2 0 ∷ [])) }
+    ensures the_same { ShowsTheSame (counter_at Kind.Undo 0 (past 1 0 ∷ held 2 0 ∷ [])) (counter_at Kind.Undo 1 (held 2 0 ∷ [])) }
+    ensures alike { AreEqui two_alike.table (Some 0) (Some 1) }
+    ensures stays { IsIntentionsCommit two_alike 0 [] 1 0 [] }
+    ensures moves { IsIntentionsCommit two_alike 0 [] 1 1 [] → ⊥ }
+{
+    untouched_shows_the_same();
+}
 
 /// A strike takes the last entries of a transaction, and an abort all of them.
 pub fn a_strike_takes_the_last()

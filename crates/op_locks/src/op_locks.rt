@@ -74,7 +74,8 @@ impl OpLocks {
         self.held.reserve(1)
     }
 
-    /// Adds that the transaction t holds the operation k, for which there is room.
+    /// Adds that the transaction t holds the operation k, for which there is room. An operation is
+    /// below 64, as those of every table are: it has a bit of the word.
     pub fn hold(&mut self, t: u32, k: u8)
         requires room { 1 ≤ self.old.room }
         requires operation { k < 64 }

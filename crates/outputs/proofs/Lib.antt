@@ -1,3 +1,4 @@
 pub mod Puts
 pub mod Takes
 pub mod Numbers
+pub mod GatheredLemmas

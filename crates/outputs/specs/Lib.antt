@@ -1,2 +1,4 @@
 pub mod Out
 pub mod Numbers
+pub mod Gathered
+pub mod Examples

@@ -31,3 +31,4 @@ pub mod After
 pub mod Opens
 pub mod StandCounts
 pub mod Held
+pub mod Numbers

@@ -67,7 +67,7 @@ each-keep_first P mine n [] p = tt
 each-keep_first P mine n (x ∷ V) p = keep_first-next (AllByRecursion P) mine n x V (λ m. each-keep_first P mine m V p.1) (λ m. (p.0, each-keep_first P mine m V p.1))
 
 -- and of any one element
-each-at : {E : Type 0} (P : E → Type 0) (V : List E) (a : E) → AllByRecursion P V → Contains V a → P a
+pub each-at : {E : Type 0} (P : E → Type 0) (V : List E) (a : E) → AllByRecursion P V → Contains V a → P a
 each-at P [] a p (i, below, is) = absurd (omega (arith, below))
 each-at P (x ∷ V) a p (zero, below, is) = rw is at p.0
 each-at P (x ∷ V) a p (suc i, below, is) = each-at P V a p.1 (i, omega (arith, below), is)

@@ -40,11 +40,11 @@ keep_first-length mine n (x ∷ V) =
     (λ m. let rest = keep_first-length mine m V in omega (arith, rest))
 
 -- nor does a filter
-filter-length : {E : Type 0} (test : E → Bool) (V : List E) → length (filter test V) ≤ length V
+pub filter-length : {E : Type 0} (test : E → Bool) (V : List E) → length (filter test V) ≤ length V
 filter-length test V = let counted = count_by-le-length test V in omega (arith, length-filter test V, counted)
 
 -- an event adds one operation at most
-after-length : (V : List Entry) (happened : EventKind) → length (stand_after V happened) ≤ length V + 1
+pub after-length : (V : List Entry) (happened : EventKind) → length (stand_after V happened) ≤ length V + 1
 after-length V (Begin t) = omega arith
 after-length V (Op t x k) = omega (arith, length-append V ((record { by = t; at = x; op = k }) ∷ []))
 after-length V (Busy c t x u) = omega arith

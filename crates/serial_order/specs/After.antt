@@ -1,5 +1,5 @@
 -- What a history says after one more event, told by what it said before; and what is known of every run. Statements of their laws.
-use Rattle.std.specs.Prelude.{◌≡◌, ℕ, suc, ◌-◌, ◌<◌, ◌≤◌, List, [], ◌∷◌, ◌++◌, length, map, Bool, true, false, not, ◌&&◌, ◌||◌, ◌==◌, slice_get}
+use Rattle.std.specs.Prelude.{◌≡◌, ℕ, suc, ◌-◌, ◌<◌, ◌≤◌, List, [], ◌∷◌, ◌++◌, length, map, Bool, true, false, not, ◌&&◌, ◌||◌, ◌==◌, Some, slice_get}
 use Rattle.std.specs.List.{flat_map, AllByRecursion}
 use Rattle.type_table.specs.Table.{Table}
 use Rattle.object_trait.specs.Object.{Object}
@@ -8,7 +8,8 @@ use Rattle.object_trait.specs.Meaning.{Meaning, ops_of, open_of}
 use Rattle.object_trait.specs.Steps.{open_transactions}
 use Rattle.object_trait.specs.declared.event.Event.{Event}
 use Rattle.object_trait.specs.declared.event.EventKind.{EventKind}
-use Rattle.object_trait.specs.declared.event.EventKind.TheVariants.{Begin, Op, Commit, Abort, Rollback}
+use Rattle.object_trait.specs.declared.event.EventKind.TheVariants as kind
+use Rattle.object_trait.specs.declared.event.EventKind.TheVariants.{Begin, Op, Busy, Commit, Abort, Rollback}
 use Rattle.serial_order.specs.Operations.{is_among, ops, is_by, of}
 use Rattle.serial_order.specs.History.{Seen, seen, is_open, standing, IsOperation, MayStand}
 use Rattle.serial_order.specs.Machine.{May, IsRun}
@@ -84,6 +85,27 @@ beginners H = flat_map (λ e. beginner e.worker e.kind) H
 abbrev pub BeginnersAfter : Type 0
 BeginnersAfter =
     (H : List Event) → (length (beginners H) ≡ (seen H).begun) × ((e : Event) → beginners (H ++ e ∷ []) ≡ beginners H ++ beginner e.worker e.kind)
+
+-- ---- numbers of a run
+
+-- the numbers of an event are below these: those of objects, of operations and of transactions. A rollback strikes some operation,
+-- and fewer than the last number
+abbrev pub AreBelow : ℕ → ℕ → ℕ → EventKind → Type 0
+AreBelow objects ops n (Begin t) = t < n
+AreBelow objects ops n (Op t x k) = (t < n) × (x < objects) × (k < ops)
+AreBelow objects ops n (Busy c t x u) = (t < n) × (x < objects) × (c < ops) × (u < n)
+AreBelow objects ops n (kind.None t x c) = (t < n) × (x < objects) × (c < ops)
+AreBelow objects ops n (Commit t) = t < n
+AreBelow objects ops n (Abort t) = t < n
+AreBelow objects ops n (Rollback t k) = (t < n) × (0 < k) × (k < n)
+
+-- in a run over objects of no more operations than so many, each event names what is there: an object, an operation, and transactions
+-- by numbers below the number of events, of which a rollback strikes fewer
+abbrev pub NumbersInRun : Type 0
+NumbersInRun =
+    (objects : List Object) (ops : ℕ) (H : List Event) → IsRun objects H
+    → ((x : ℕ) (o : Object) → slice_get objects x ≡ Some o → length o.table.ops ≤ ops)
+    → AllByRecursion (λ e. AreBelow (length objects) ops (length H) e.kind) H
 
 -- ---- operations of a run, and objects that represent it
 

@@ -2,7 +2,7 @@
 //! each is a function that does nothing, whose contract is the law. It calls the laws on which it
 //! depends.
 
-ghost use Rattle.serial_order.specs.After.{SeenAfter, TransactionsInRun, OpensAfter, HistoryOpensAfter, BeginnersAfter, OperationsInRun, LogsAreCounted, IdleIsClosed};
+ghost use Rattle.serial_order.specs.After.{SeenAfter, TransactionsInRun, OpensAfter, HistoryOpensAfter, BeginnersAfter, NumbersInRun, OperationsInRun, LogsAreCounted, IdleIsClosed};
 ghost use Rattle.serial_order.specs.Held.{HeldAfter, BlockerIsHeld, OwnAfter};
 ghost use Rattle.serial_order.specs.Laws.{RunIsHistory, RunGoesOn, StandsAsRead, FirstOpIsLeast, AnswerMayFollow, ReplayRuns, CommandAppends, RefusedAppendsNothing, ReplaysJoin, SortsIntoCommitOrder, StruckViewIsLegal, ViewsAreLegal, CommitKeepsViews, FreshStands, StandsOn, AllowsAlike, MachineMayApply, Headline, CheckedHeadline};
 
@@ -76,6 +76,13 @@ pub fn own_after()
 #[tactic(auto, using(crate::proofs::Opens::operations_in_run))]
 pub fn operations_in_run()
     ensures { OperationsInRun }
+{}
+
+/// The numbers in a run's events are below those of its objects, of their operations and of its
+/// events.
+#[tactic(auto, using(crate::proofs::Numbers::numbers_in_run))]
+pub fn numbers_in_run()
+    ensures { NumbersInRun }
 {}
 
 /// Of an object that represents a history: its log is no longer than the history, and the open

@@ -12,10 +12,10 @@ pub use entry::Entry;
 pub use laws::{
     allows_alike, answer_may_follow, beginners_after, blocker_is_held, checked_headline,
     command_appends, commit_keeps_views, first_op_is_least, fresh_stands, headline, held_after,
-    history_opens_after, idle_is_closed, logs_are_counted, machine_may_apply, opens_after,
-    operations_in_run, own_after, replay_runs, replays_join, run_goes_on, run_is_history,
-    seen_after, sorts_into_commit_order, stands_as_read, stands_on, struck_view_is_legal,
-    transactions_in_run, views_are_legal,
+    history_opens_after, idle_is_closed, logs_are_counted, machine_may_apply, numbers_in_run,
+    opens_after, operations_in_run, own_after, replay_runs, replays_join, run_goes_on,
+    run_is_history, seen_after, sorts_into_commit_order, stands_as_read, stands_on,
+    struck_view_is_legal, transactions_in_run, views_are_legal,
 };
 pub use refusal::Refusal;
 

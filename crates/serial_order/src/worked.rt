@@ -15,7 +15,7 @@ ghost use Rattle.serial_order.specs.Stand.{struck_at, StandsFor, KeptAgrees};
 ghost use Rattle.serial_order.specs.Readings.{staying};
 ghost use Rattle.serial_order.specs.Answer.{event_of_call};
 ghost use Rattle.serial_order.specs.Replay.{open_count, refusal, replay};
-ghost use Rattle.serial_order.specs.After.{after, is_open_after, CountsTo, beginners};
+ghost use Rattle.serial_order.specs.After.{after, is_open_after, AreBelow, CountsTo, beginners};
 ghost use Rattle.serial_order.specs.Held.{held_at, held_after, own_after};
 ghost use Rattle.serial_order.specs.Laws.{IsSerialAndKept};
 ghost use Rattle.serial_order.specs.Examples.{events, entry, seen_first, undo_one_way, undo_counter, deferred_counter, undo_semiqueue, undo_account, one_way_history, semiqueue_history, deferred_history, lock_history, two_objects_history, unlocked_history, refused_history, reader_history, half_history, half_deferred_history, up_and_back};
@@ -225,4 +225,11 @@ pub fn commands_are_replayed()
     ensures all { replay (undo_counter ∷ []) 4 (λ _. false) [] up_and_back ≡ events (EventKind.Begin 0 ∷ EventKind.Op 0 0 0 ∷ EventKind.Rollback 0 1 ∷ EventKind.Commit 0 ∷ []) }
     ensures full { replay (undo_counter ∷ []) 3 (λ _. false) [] up_and_back ≡ events (EventKind.Begin 0 ∷ EventKind.Op 0 0 0 ∷ EventKind.Commit 0 ∷ []) }
     ensures wanting { replay (undo_counter ∷ []) 4 (λ place. place == 1) [] up_and_back ≡ events (EventKind.Begin 0 ∷ EventKind.Commit 0 ∷ []) }
+{}
+
+/// Events with numbers below so many objects, operations and events, and some that have others.
+pub fn numbers_are_below()
+    ensures at_most { AreBelow 2 3 9 (EventKind.Op 8 1 2) }
+    ensures another_object { AreBelow 2 3 9 (EventKind.Op 8 2 2) → ⊥ }
+    ensures nothing_struck { AreBelow 2 3 9 (EventKind.Rollback 8 0) → ⊥ }
 {}

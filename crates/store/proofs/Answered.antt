@@ -17,9 +17,9 @@ use Rattle.serial_order.specs.Replay.{open_count, is_full, call_event}
 use Rattle.serial_order.specs.After.{LogsAreCounted}
 use Rattle.serial_order.specs.Laws.{FirstOpIsLeast, AnswerMayFollow, MachineMayApply}
 use Rattle.serial_order.specs.declared.refusal.Refusal.TheVariants.{HistoryFull, NoMemory}
-use Rattle.call_table.specs.Calls.{IsCall}
-use Rattle.call_table.specs.declared.call.Call.{Call}
-use Rattle.call_table.specs.declared.call.NamedCall.{NamedCall}
+use Rattle.object_calls.specs.Calls.{IsCall}
+use Rattle.object_calls.specs.declared.call.Call.{Call}
+use Rattle.object_calls.specs.declared.call.NamedCall.{NamedCall}
 use Rattle.op_locks.specs.Locks.{Locks}
 use Rattle.op_locks.specs.declared.held.Held.{Held}
 use Rattle.object_calls.specs.Answers.{answer_of}

@@ -8,8 +8,8 @@ use Rattle.table_checker.specs.Checked.{Checked, IsChecked}
 use Rattle.object_trait.specs.Meaning.{Meaning}
 use Rattle.object_trait.specs.declared.event.Event.{Event}
 use Rattle.serial_order.specs.Laws.{AreChecked}
-use Rattle.call_table.specs.Calls.{IsCallTable}
-use Rattle.call_table.specs.declared.call.NamedCall.{NamedCall}
+use Rattle.object_calls.specs.Calls.{IsCallTable}
+use Rattle.object_calls.specs.declared.call.NamedCall.{NamedCall}
 use Rattle.op_locks.specs.Locks.{Locks}
 use Rattle.open_transactions.specs.Transactions.{Row}
 use Rattle.store_laws.specs.Stored.{types_of}

@@ -11,7 +11,7 @@ use Rattle.serial_order.specs.declared.command.Command.TheVariants as command
 use Rattle.serial_order.specs.declared.refusal.Refusal.TheVariants.{TooManyOpen, HistoryFull}
 use Rattle.op_locks.specs.Locks.{Locks}
 use Rattle.open_transactions.specs.Transactions.{Row, count_open, begun_by}
-use Rattle.call_table.specs.declared.call.NamedCall.{NamedCall}
+use Rattle.object_calls.specs.declared.call.NamedCall.{NamedCall}
 use Rattle.store_laws.specs.Stored.{Stored, Steps}
 use Rattle.store_laws.specs.Kept.{keeping, objects_of, IsKept}
 use Rattle.store_laws.specs.Moves.{Moves, StaysKept}

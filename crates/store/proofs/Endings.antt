@@ -15,7 +15,7 @@ use Rattle.op_locks.specs.Locks.{Locks, without}
 use Rattle.object_calls.specs.Ends.{ChangesAt}
 use Rattle.open_transactions.specs.Transactions as table
 use Rattle.open_transactions.specs.Transactions.{Row, row, places_of, count_open}
-use Rattle.call_table.specs.declared.call.NamedCall.{NamedCall}
+use Rattle.object_calls.specs.declared.call.NamedCall.{NamedCall}
 use Rattle.store_laws.specs.Stored.{Stored, Steps}
 use Rattle.store_laws.specs.Kept.{keeping, objects_of, IsKept, IsStore}
 use Rattle.store_laws.specs.Moves.{Moves, StaysKept}

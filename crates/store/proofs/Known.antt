@@ -5,9 +5,9 @@ use Rattle.std.proofs.lemmas.Bool.{true≢false, ltb-true, ltb-false}
 use Rattle.std.proofs.lemmas.List.{length-map}
 use Rattle.std.proofs.lemmas.Option.{slice_get-map, slice_get_cases, slice_get_past, slice_get_read, slice_get_within}
 use Rattle.type_table.specs.Table.{call_of, first_op}
-use Rattle.call_table.specs.Calls.{by_name, by_number, IsCallTable}
-use Rattle.call_table.specs.declared.call.Call.{Call}
-use Rattle.call_table.specs.declared.call.NamedCall.{NamedCall}
+use Rattle.object_calls.specs.Calls.{by_name, by_number, IsCallTable}
+use Rattle.object_calls.specs.declared.call.Call.{Call}
+use Rattle.object_calls.specs.declared.call.NamedCall.{NamedCall}
 use Rattle.table_checker.specs.Checked.{Checked}
 use Rattle.object_trait.specs.Object.{Object, object_of}
 use Rattle.serial_order.specs.Replay.{call_at}

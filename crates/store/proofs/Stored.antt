@@ -17,7 +17,7 @@ use Rattle.store_laws.specs.Events.{takes, TypesStay, RoomAfter}
 use Rattle.open_transactions.specs.Transactions.{Row}
 use Rattle.op_locks.specs.Locks.{Locks}
 use Rattle.object_trait.specs.Meaning.{Meaning}
-use Rattle.call_table.specs.declared.call.NamedCall.{NamedCall}
+use Rattle.object_calls.specs.declared.call.NamedCall.{NamedCall}
 use Rattle.store.specs.Whole.{HasCalls, IsWhole}
 use Rattle.store.proofs.Steps.{refused-steps, accepted-steps, wanting-steps}
 

@@ -1,7 +1,7 @@
 -- What is true of the parts of a store at any time between two calls.
 use Rattle.std.specs.Prelude.{◌≡◌, ℕ, ◌≤◌, List, length, Option, Some, slice_get}
-use Rattle.call_table.specs.Calls.{IsCallTable}
-use Rattle.call_table.specs.declared.call.NamedCall.{NamedCall}
+use Rattle.object_calls.specs.Calls.{IsCallTable}
+use Rattle.object_calls.specs.declared.call.NamedCall.{NamedCall}
 use Rattle.table_checker.specs.Checked.{Checked}
 use Rattle.object_trait.specs.Meaning.{Meaning}
 use Rattle.object_trait.specs.declared.event.Event.{Event}

@@ -5,7 +5,7 @@ ghost use Rattle.object_trait.specs.Object.{Object};
 ghost use Rattle.serial_order.specs.History.{seen, is_open};
 ghost use Rattle.serial_order.specs.Laws.{FirstOpIsLeast, AnswerMayFollow, MachineMayApply};
 ghost use Rattle.serial_order.specs.After.{LogsAreCounted};
-ghost use Rattle.call_table.specs.Calls.{IsCall};
+ghost use Rattle.object_calls.specs.Calls.{IsCall};
 ghost use Rattle.store_laws.specs.Stored.{objects};
 ghost use Rattle.store_laws.specs.Words.{as_event, AnswersAsDefined};
 ghost use Rattle.store.specs.Calls.{Comes};
@@ -13,8 +13,7 @@ ghost use Rattle.store.specs.Calls.{Comes};
 use crate::executing::execute;
 use crate::room::has_room;
 use crate::store::Store;
-use call_table::Call;
-use object_calls::{Answer, choose};
+use object_calls::{Answer, Call, choose};
 use object_trait::{Event, EventKind, Recovery};
 use serial_order::{
     Refusal, answer_may_follow, first_op_is_least, logs_are_counted, machine_may_apply,

@@ -1,7 +1,7 @@
 //! Calls of a transaction.
 
 ghost use Rattle.std.specs.Prelude.{◌≡◌, ℕ, ◌<◌, List, true, Some, Err, IfOk, IfErr, OnOk, slice_get};
-ghost use Rattle.call_table.specs.Calls.{IsCallTable};
+ghost use Rattle.object_calls.specs.Calls.{IsCallTable};
 ghost use Rattle.object_trait.specs.Object.{Object};
 ghost use Rattle.serial_order.specs.History.{seen, is_open};
 ghost use Rattle.serial_order.specs.Replay.{call_at};
@@ -10,8 +10,7 @@ ghost use Rattle.store_laws.specs.Stored.{objects, refusal_of, MayStep};
 ghost use Rattle.store.specs.Calls.{Answers, unnumbered};
 
 use crate::store::Store;
-use call_table::CallTable;
-use object_calls::Answer;
+use object_calls::{Answer, CallTable};
 use object_trait::Recovery;
 use serial_order::Refusal;
 use store_laws::rows_say_who_is_open;

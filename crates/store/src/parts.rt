@@ -7,7 +7,7 @@ ghost use Rattle.store.specs.Ends.{AreFresh, MayBegin, Refuses, is_limit};
 ghost use Rattle.store.specs.Whole.{HasCalls};
 
 use crate::refusals::NewRefusal;
-use call_table::CallTable;
+use object_calls::CallTable;
 use object_trait::Recovery;
 use op_locks::OpLocks;
 use std::alloc::{AllocError, Global};

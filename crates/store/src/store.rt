@@ -10,7 +10,7 @@ ghost use Rattle.store.specs.KeptState.{IsKeptState};
 
 use crate::parts::{Parts, parts_of};
 use crate::refusals::NewRefusal;
-use call_table::CallTable;
+use object_calls::CallTable;
 use object_trait::{Event, Recovery};
 use op_locks::OpLocks;
 use open_transactions::OpenTransactions;
@@ -110,6 +110,10 @@ impl<R: Recovery> Store<R> {
     }
 
     /// The state of the object at x, None where there is none. It agrees with the serial state.
+    ///
+    /// With update in place the history determines it. With deferred update it does so up to
+    /// equieffectiveness: of a type whose states 3 and 4 nothing tells apart, 4 may be kept where the
+    /// serial state is 3.
     pub fn kept(&self, x: u32) -> Option<u16>
         ensures there { is_some result ≡ nat_lt x (length (objects self.now)) }
         ensures kept { IfSome result (λ state. IsKeptState self.now x state) }

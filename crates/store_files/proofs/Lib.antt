@@ -1,5 +1,4 @@
 pub mod Pairs
 pub mod Objects
-pub mod PlanLemmas
 pub mod TwoFiles
-pub mod Planned
+pub mod JobLists

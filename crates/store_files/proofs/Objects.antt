@@ -13,8 +13,8 @@ use Rattle.type_table.specs.declared.kind.Kind.{Kind}
 use Rattle.type_text.specs.declared.type_file.TypeFile.{TypeFile}
 use Rattle.table_checker.specs.Checked.{Checked}
 use Rattle.store_text.specs.declared.line.ObjectLine.{ObjectLine}
-use Rattle.command_types.specs.Files.{Describes, IsFaulty}
-use Rattle.store_files.specs.Types.{Held, AreFilesAt, AreTablesOf, AreTypesOf, HasPlace, IsAccepted, IsFaultAt, IsFirstFault, IsFirstWith, IsRefusedFor, IsTableOf, IsTypeFault, IsTypeOf, value_of}
+use Rattle.command_files.specs.Files.{IsFaulty, IsFileAt}
+use Rattle.store_files.specs.Types.{Held, AreFilesAt, AreTablesOf, AreTypesOf, HasPlace, IsAccepted, IsFaultAt, IsFirstFault, IsFirstWith, IsRefusedFor, IsTableOf, IsFirstFaulty, IsTypeOf, value_of}
 use Rattle.store_files.specs.declared.object_fault.ObjectFault.{ObjectFault}
 use Rattle.store_files.specs.declared.object_fault.ObjectFault.TheVariants.{NoType, Refused, NoMemory}
 use Rattle.store_files.proofs.Pairs.{each_has, each_push, take_to}
@@ -45,20 +45,18 @@ one_more xs x ys y same = omega (arith, length-append ys (y ∷ []), length-appe
 
 -- one more path has its file
 pub files_push : (holds : Held) (paths : List (List ℕ)) (files new : List TypeFile) (i : ℕ) (path : List ℕ) (file : TypeFile) → slice_get paths i ≡ Some path
-    → AreFilesAt holds (take i paths) files → IfSome (holds path) (λ text. Describes text file) → new ≡ files ++ file ∷ [] → AreFilesAt holds (take (i + 1) paths) new
+    → AreFilesAt holds (take i paths) files → IsFileAt (holds path) file → new ≡ files ++ file ∷ [] → AreFilesAt holds (take (i + 1) paths) new
 files_push holds paths files new i path file there known here is =
     let grown : AreFilesAt holds (take i paths ++ path ∷ []) (files ++ file ∷ []) = record {
       as_many = one_more (take i paths) path files file known.as_many;
-      each = each_push (λ (p : List ℕ) (f : TypeFile). IfSome (holds p) (λ text. Describes text f)) (take i paths) files path file known.as_many known.each here;
+      each = each_push (λ (p : List ℕ) (f : TypeFile). IsFileAt (holds p) f) (take i paths) files path file known.as_many known.each here;
     } in
     subst (λ (ps : List (List ℕ)). AreFilesAt holds ps new) (sym (take_to paths i path there)) (subst (AreFilesAt holds (take i paths ++ path ∷ [])) (sym is) grown)
 
 -- the first path without one
-pub first_faulty : (holds : Held) (paths : List (List ℕ)) (files : List TypeFile) (i : ℕ) (path : List ℕ) (status : ℕ) → slice_get paths i ≡ Some path
-    → AreFilesAt holds (take i paths) files → ((status ≡ 2) × IfSome (holds path) IsFaulty) ⊎ (status ≡ 3) → IsTypeFault holds paths status
-first_faulty holds paths files i path status there known fault = ⊎_elim
-    (λ two. inl (two.0, record { k = i; path = path; there = there; files = files; before = known; faulty = two.1 }))
-    (λ three. inr three) fault
+pub first_faulty : (holds : Held) (paths : List (List ℕ)) (files : List TypeFile) (i : ℕ) (path : List ℕ) → slice_get paths i ≡ Some path
+    → AreFilesAt holds (take i paths) files → IfSome (holds path) IsFaulty → IsFirstFaulty holds paths
+first_faulty holds paths files i path there known fault = record { k = i; path = path; there = there; files = files; before = known; faulty = fault }
 
 -- ---- types
 

@@ -11,7 +11,7 @@ use Rattle.serial_order.specs.declared.command.Command.TheVariants.{Begin, Call,
 use Rattle.script_text.specs.declared.script.Script.{Script}
 use Rattle.store_text.specs.declared.line.ObjectLine.{ObjectLine}
 use Rattle.script_text.specs.Examples.{ended, script_text}
-use Rattle.command_types.specs.Examples.{counter_bytes}
+use Rattle.command_files.specs.Examples.{counter_bytes}
 use Rattle.store_files.specs.Types.{Held}
 
 -- the counter of two and the one-way type, in this order

@@ -2,5 +2,8 @@ pub mod Types
 pub mod Lines
 pub mod ObjectTypes
 pub mod Scripts
-pub mod Plans
+pub mod Jobs
+pub mod Histories
 pub mod Examples
+pub mod JobExamples
+pub mod HistoryExamples

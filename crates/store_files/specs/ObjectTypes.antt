@@ -1,13 +1,16 @@
 -- The types of the objects that a text names, by the TYPE words beside it, and why there are none.
-use Rattle.std.specs.Prelude.{◌≡◌, ◌<◌, ◌≤◌, ℕ, List, Option}
-use Rattle.std.specs.Io.KnownBytes.{Appends}
+use Rattle.std.specs.Prelude.{◌≡◌, ◌⊎◌, ℕ, List, map, IfSome, Result, Ok, Err}
 use Rattle.type_text.specs.declared.type_file.TypeFile.{TypeFile}
 use Rattle.table_checker.specs.Checked.{Checked}
 use Rattle.table_checker.specs.declared.refusal.CheckRefusal.{CheckRefusal}
 use Rattle.store_text.specs.declared.line.ObjectLine.{ObjectLine}
-use Rattle.store_files.specs.Types.{Held, AreFilesAt, AreTypesOf, IsAccepted, IsFirstFaulty, IsFirstWith}
+use Rattle.command_files.specs.Answers.{Refuses}
+use Rattle.command_files.specs.declared.fault.Fault.{Fault}
+use Rattle.store_files.specs.Types.{Held, AreFilesAt, AreTypesOf, IsAccepted, IsFirstFaulty, IsFirstWith, value_of}
 use Rattle.store_files.specs.Lines.{object_line}
-use Rattle.store_files.specs.declared.object_fault.ObjectFault.TheVariants.{NoType, Refused}
+use Rattle.store_files.specs.declared.object_fault.ObjectFault.TheVariants.{NoType, Refused as RefusedType}
+use Rattle.store_files.specs.declared.object_types.ObjectTypes.{ObjectTypes}
+use Rattle.store_files.specs.declared.object_types.ObjectTypes.TheVariants.{Accepted, Refused}
 
 -- each TYPE word has its file, and each object has for its type the file at the place that it names
 pub record AreTypesAt (holds : Held) (words : List (List ℕ)) (objects : List ObjectLine) (types : List Checked) : Type 0 where
@@ -15,14 +18,15 @@ pub record AreTypesAt (holds : Held) (words : List (List ℕ)) (objects : List O
   pub held : AreFilesAt holds words files
   pub are : AreTypesOf files objects types
 
--- the type of an object isn't accepted for its kind, those of the objects before it are, and the output took its line
-pub record SaysRefused (holds : Held) (words : List (List ℕ)) (objects : List ObjectLine) (old new : Option (List ℕ)) : Type 0 where
+-- the type of object x isn't accepted for its kind, for this reason, and those of the objects before it are
+pub record IsRefusedAt (holds : Held) (words : List (List ℕ)) (objects : List ObjectLine) (x : ℕ) (refusal : CheckRefusal) : Type 0 where
   pub files : List TypeFile
   pub held : AreFilesAt holds words files
-  pub x : ℕ
-  pub refusal : CheckRefusal
-  pub first : IsFirstWith IsAccepted files objects (Refused x refusal)
-  pub written : Appends old new (object_line x refusal)
+  pub first : IsFirstWith IsAccepted files objects (RefusedType x refusal)
+
+-- the text is the line of such an object
+abbrev pub SaysRefused : Held → List (List ℕ) → List ObjectLine → List ℕ → Type 0
+SaysRefused holds words objects text = (x : ℕ) × (refusal : CheckRefusal) × IsRefusedAt holds words objects x refusal × (text ≡ object_line x refusal)
 
 -- no TYPE word is at the place that an object names, and the types of the objects before it are accepted
 pub record HasNoType (holds : Held) (words : List (List ℕ)) (objects : List ObjectLine) : Type 0 where
@@ -37,9 +41,13 @@ pub data HasTypeFault (holds : Held) (words : List (List ℕ)) (objects : List O
   in_type : IsFirstFaulty holds words → HasTypeFault holds words objects
   no_type : HasNoType holds words objects → HasTypeFault holds words objects
 
--- what the status without types, and the bytes that the output took, say of the files
-pub record TellsNoTypes (holds : Held) (words : List (List ℕ)) (objects : List ObjectLine) (status : ℕ) (old new : Option (List ℕ)) : Type 0 where
-  pub some : 0 < status
-  pub fit : status ≤ 3
-  pub refused : status ≡ 1 → SaysRefused holds words objects old new
-  pub fault : status ≡ 2 → HasTypeFault holds words objects × (new ≡ old)
+-- the types of the objects, or the first that isn't accepted; or why there are none
+abbrev pub FindsTypes : Held → List (List ℕ) → List ObjectLine → Result ObjectTypes Fault → Type 0
+FindsTypes holds words objects (Ok (Accepted types)) = AreTypesAt holds words objects (map value_of types.items)
+FindsTypes holds words objects (Ok (Refused x refusal)) = IsRefusedAt holds words objects x refusal
+FindsTypes holds words objects (Err fault) = Refuses (HasTypeFault holds words objects) fault
+
+-- a text that names objects has a fault; or it has none, and a type's text has one, or an object names no type
+abbrev pub HasFault : {T : Type 0} → (List ℕ → T → Type 0) → (List ℕ → Type 0) → (T → List ObjectLine) → Held → List ℕ → List (List ℕ) → Type 0
+HasFault {T} describes is_faulty objects holds path words =
+    IfSome (holds path) is_faulty ⊎ ((value : T) × IfSome (holds path) (λ text. describes text value) × HasTypeFault holds words (objects value))

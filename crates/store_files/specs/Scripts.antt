@@ -1,12 +1,12 @@
 -- Scripts and their texts.
-use Rattle.std.specs.Prelude.{◌≡◌, ◌⊎◌, ℕ, List, Option, IfSome, Result, Ok, Err}
+use Rattle.std.specs.Prelude.{◌≡◌, ℕ, List, Ok, Err}
 use Rattle.line_text.specs.Outcome.{outcome_of}
 use Rattle.line_text.specs.declared.fault.TextFault.{TextFault}
 use Rattle.serial_order.specs.declared.command.Command.{Command}
 use Rattle.store_text.specs.Body.{store_rules}
 use Rattle.store_text.specs.declared.line.Line.{Line}
 use Rattle.script_text.specs.Commands.{commands}
-use Rattle.script_text.specs.Script.{IsScriptOf, IsFit}
+use Rattle.script_text.specs.Script.{IsScriptOf}
 use Rattle.script_text.specs.declared.script.Script.{Script}
 
 -- the script that a text describes, whose numbers and counts are in their ranges
@@ -18,13 +18,3 @@ pub record DescribesScript (text : List ℕ) (script : Script) : Type 0 where
 -- the text has a fault
 abbrev pub IsFaultyScript : List ℕ → Type 0
 IsFaultyScript text = (f : TextFault) × (outcome_of (store_rules commands) text ≡ Err f)
-
--- a text was read: its script, or status 2 where it has a fault, or status 3
-abbrev pub ReadsScriptText : List ℕ → Result Script ℕ → Type 0
-ReadsScriptText text (Ok script) = DescribesScript text script × IsFit script
-ReadsScriptText text (Err status) = ((status ≡ 2) × IsFaultyScript text) ⊎ (status ≡ 3)
-
--- the same, where the source tells the text
-abbrev pub ReadsScriptFile : Option (List ℕ) → Result Script ℕ → Type 0
-ReadsScriptFile held (Ok script) = IfSome held (λ text. DescribesScript text script) × IsFit script
-ReadsScriptFile held (Err status) = ((status ≡ 2) × IfSome held IsFaultyScript) ⊎ (status ≡ 3)

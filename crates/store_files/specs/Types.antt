@@ -1,5 +1,5 @@
 -- The files of TYPE words, and the types of the objects that name their places.
-use Rattle.std.specs.Prelude.{◌≡◌, ◌⊎◌, ℕ, List, Option, Some, None, IfSome, length, take, slice_get}
+use Rattle.std.specs.Prelude.{◌≡◌, ℕ, List, Option, Some, None, IfSome, length, take, slice_get}
 use Rattle.type_table.specs.Table.{Table}
 use Rattle.type_table.specs.declared.kind.Kind.{Kind}
 use Rattle.type_text.specs.declared.type_file.TypeFile.{TypeFile}
@@ -8,7 +8,7 @@ use Rattle.table_checker.specs.Refusal.{IsFirstReason}
 use Rattle.std.specs.Arc.{arc_value}
 use Rattle.std.specs.declared.sync.Arc.{Arc}
 use Rattle.store_text.specs.declared.line.ObjectLine.{ObjectLine}
-use Rattle.command_types.specs.Files.{Describes, IsFaulty}
+use Rattle.command_files.specs.Files.{IsFaulty, IsFileAt}
 use Rattle.store_files.specs.declared.object_fault.ObjectFault.{ObjectFault}
 use Rattle.store_files.specs.declared.object_fault.ObjectFault.TheVariants.{NoType, Refused, NoMemory}
 
@@ -22,7 +22,7 @@ Held = List ℕ → Option (List ℕ)
 pub record AreFilesAt (holds : Held) (paths : List (List ℕ)) (files : List TypeFile) : Type 0 where
   pub as_many : length files ≡ length paths
   pub each : (k : ℕ) (path : List ℕ) (file : TypeFile) → slice_get paths k ≡ Some path → slice_get files k ≡ Some file
-      → IfSome (holds path) (λ text. Describes text file)
+      → IsFileAt (holds path) file
 
 -- the text at this path is the first that has a fault
 pub record IsFirstFaulty (holds : Held) (paths : List (List ℕ)) : Type 0 where
@@ -32,10 +32,6 @@ pub record IsFirstFaulty (holds : Held) (paths : List (List ℕ)) : Type 0 where
   pub files : List TypeFile
   pub before : AreFilesAt holds (take k paths) files
   pub faulty : IfSome (holds path) IsFaulty
-
--- why the files of some paths aren't there: status 2 where a text has a fault, else 3
-abbrev pub IsTypeFault : Held → List (List ℕ) → ℕ → Type 0
-IsTypeFault holds paths status = ((status ≡ 2) × IsFirstFaulty holds paths) ⊎ (status ≡ 3)
 
 -- ---- the types of objects
 
@@ -104,8 +100,10 @@ abbrev pub IsFirstFault : (List TypeFile → ObjectLine → Type 0) → List Typ
 IsFirstFault IsGood files objects NoMemory = Unit {0}
 IsFirstFault IsGood files objects fault = IsFirstWith IsGood files objects fault
 
--- the first object whose place isn't that of a file, or memory was refused
-abbrev pub IsFirstUnplaced : List TypeFile → List ObjectLine → ObjectFault → Type 0
-IsFirstUnplaced files objects (NoType x place) = IsFirstWith HasPlace files objects (NoType x place)
-IsFirstUnplaced files objects (Refused x refusal) = ⊥
-IsFirstUnplaced files objects NoMemory = Unit {0}
+-- object x names this place, which isn't that of a file, and the places of the objects before it are
+abbrev pub IsUnplacedAt : List TypeFile → List ObjectLine → ℕ → ℕ → Type 0
+IsUnplacedAt files objects x place = IsFirstWith HasPlace files objects (NoType x place)
+
+-- an object names no file
+abbrev pub IsUnplaced : List TypeFile → List ObjectLine → Type 0
+IsUnplaced files objects = (x : ℕ) × (place : ℕ) × IsUnplacedAt files objects x place

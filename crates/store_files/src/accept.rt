@@ -4,10 +4,10 @@ ghost use Rattle.std.specs.Prelude.{◌≡◌, Some, map, IfOk, IfErr, IfSome, s
 ghost use Rattle.store_files.specs.Types.{AreTypesOf, IsTypeOf, IsFirstFault, IsAccepted, IsFaultAt, IsCheckedFor, IsRefusedFor, value_of};
 
 use crate::object_fault::ObjectFault;
+use std::alloc::Global;
 use std::sync::Arc;
-use std::thread::Threads;
 use store_text::ObjectLine;
-use table_checker::{CheckedType, check_parallel};
+use table_checker::{CheckedType, check};
 use type_table::Kind;
 use type_text::TypeFile;
 
@@ -17,17 +17,17 @@ use type_text::TypeFile;
 ///
 /// The first object whose place isn't that of a file, or whose type isn't accepted for its kind; or
 /// memory was refused.
-pub(crate) fn accept_types<R: AllocGlobal + Threads + Sync>(
-    rt: &R,
+pub(crate) fn accept_types(
+    alloc: Global,
     files: &[TypeFile],
     objects: &[ObjectLine],
 ) -> Result<Vec<Arc<CheckedType>>, ObjectFault>
     ensures accepted { IfOk result (λ types. AreTypesOf files.now objects.now (map value_of types.items)) }
     ensures refused { IfErr result (IsFirstFault IsAccepted files.now objects.now) }
 {
-    let mut types = Vec::new(rt.alloc());
+    let mut types = Vec::new(alloc);
     for (x, object) in objects.iter().enumerate() {
-        let accepted = accept(rt, files, &objects[..x], &types, x, *object)?;
+        let accepted = accept(alloc, files, &objects[..x], &types, x, *object)?;
         types.push(accepted)?;
     }
     Ok(types)
@@ -35,8 +35,8 @@ pub(crate) fn accept_types<R: AllocGlobal + Threads + Sync>(
 
 /// The checked type of object x: that of an object before it with the same kind and place, else one of
 /// its own.
-fn accept<R: AllocGlobal + Threads + Sync>(
-    rt: &R,
+fn accept(
+    alloc: Global,
     files: &[TypeFile],
     before: &[ObjectLine],
     types: &Vec<Arc<CheckedType>>,
@@ -51,7 +51,7 @@ fn accept<R: AllocGlobal + Threads + Sync>(
         return Ok(Arc::clone(&types[other])?);
     }
     match files.get(object.file as usize) {
-        Some(file) => check_copy(rt, x, object.kind, file),
+        Some(file) => check_copy(alloc, x, object.kind, file),
         None => Err(ObjectFault::NoType {
             x,
             place: object.file,
@@ -72,8 +72,8 @@ fn place_of(lines: &[ObjectLine], line: ObjectLine) -> Option<usize>
 }
 
 /// The checked type of an equal file.
-fn check_copy<R: AllocGlobal + Threads + Sync>(
-    rt: &R,
+fn check_copy(
+    alloc: Global,
     x: usize,
     kind: Kind,
     file: &TypeFile,
@@ -81,9 +81,9 @@ fn check_copy<R: AllocGlobal + Threads + Sync>(
     ensures accepted { IfOk result (λ a. IsCheckedFor kind file.now (value_of a)) }
     ensures refused { IfErr result (IsRefusedFor kind file.now x) }
 {
-    let copy = file.copy(rt.alloc())?;
-    match check_parallel(rt, copy, kind) {
-        Ok(checked) => Ok(Arc::new(rt.alloc(), checked)?),
+    let copy = file.copy(alloc)?;
+    match check(copy, kind) {
+        Ok(checked) => Ok(Arc::new(alloc, checked)?),
         Err((_, refusal)) => Err(ObjectFault::Refused { x, refusal }),
     }
 }

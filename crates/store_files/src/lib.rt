@@ -1,23 +1,22 @@
-//! The files of a store's objects: a script, the type files that are named with it, and the types of
-//! its objects, each accepted for its kind.
+//! The files of a store's objects: scripts, jobs and histories, the type files that are named with them,
+//! and the types or the tables of the objects.
 #![tactic(auto)]
 
 mod accept;
-mod faults;
+mod formats;
 mod object_fault;
 mod object_types;
-mod plan;
-mod planning;
-mod script;
+mod refused_line;
 mod tables;
 mod types;
 
-pub use faults::say_fault;
+pub use formats::{HistoryFormat, JobsFormat, ScriptFormat};
 pub use object_fault::ObjectFault;
-pub use object_types::types_for;
-pub use plan::Plan;
-pub use planning::plan_run;
+pub use object_types::{ObjectTypes, types_for};
+pub use refused_line::object_line;
 pub use tables::tables_of;
 pub use types::read_types;
 
 pub mod worked;
+pub mod worked_histories;
+pub mod worked_jobs;

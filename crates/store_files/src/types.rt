@@ -1,38 +1,30 @@
 //! The files of the TYPE words.
 
-ghost use Rattle.std.specs.Prelude.{◌≡◌, ℕ, List, None, map, IfOk, IfErr, OnOk};
-ghost use Rattle.store_files.specs.Types.{AreFilesAt, IsTypeFault};
+ghost use Rattle.std.specs.Prelude.{◌≡◌, ℕ, List, map, IfOk, IfErr};
+ghost use Rattle.command_files.specs.Answers.{Refuses};
+ghost use Rattle.store_files.specs.Types.{AreFilesAt, IsFirstFaulty};
 
-use command_files::{Source, out_of_memory};
-use command_types::read_file;
-use outputs::Out;
+use command_files::{Fault, Source, TypeFormat, read_file};
 use std::alloc::Global;
 use type_text::TypeFile;
 
-/// The type files at these paths, in their order, each read before the next is opened. Otherwise says
-/// why one isn't there.
+/// The type files at these paths, in their order, each read before the next is opened.
 ///
 /// # Errors
 ///
-/// The status: 2 where a text has a fault, and 3 where it can't be read or memory was refused.
-pub fn read_types<S: Source, E: Out>(
+/// The fault of the first text that has one or can't be read, or that memory was refused.
+pub fn read_types<'a, S: Source>(
     alloc: Global,
-    paths: &[&str],
+    paths: &[&'a str],
     source: &mut S,
-    err: &mut E,
-) -> Result<Vec<TypeFile>, u8>
-    requires { E.fault err.old ≡ None }
+) -> Result<Vec<TypeFile>, Fault<'a>>
     ensures read { IfOk result (λ files. AreFilesAt (S.holds source.old) (map (λ p. p.now) paths.now) files.items) }
-    ensures refused { IfErr result (IsTypeFault (S.holds source.old) (map (λ p. p.now) paths.now)) }
-    ensures quiet { OnOk result (E.fault err.new ≡ None) }
+    ensures refused { IfErr result (Refuses (IsFirstFaulty (S.holds source.old) (map (λ p. p.now) paths.now))) }
     ensures kept { (other : List ℕ) → S.holds source.new other ≡ S.holds source.old other }
 {
-    let mut files = match Vec::with_capacity(alloc, paths.len()) {
-        Ok(files) => files,
-        Err(_) => return Err(out_of_memory(err)),
-    };
+    let mut files = Vec::with_capacity(alloc, paths.len())?;
     for path in paths {
-        let file = read_file(alloc, path, source, err)?;
+        let file = read_file(alloc, &TypeFormat, path, source)?;
         files.push_reserved(file);
     }
     Ok(files)

@@ -59,6 +59,10 @@ counts = record {
   rows = record { row = by_seven []; was = refl; becomes = refl };
 }
 
+-- it has an entry
+has_entry : object.held 0 0 ∷ [] ≡ [] → ⊥
+has_entry none = cc
+
 -- and commits
 commits : Moves counted committed (take 2 one_up) (record { worker = 7; kind = Commit 0 })
 unfolding next
@@ -67,7 +71,7 @@ commits = record {
   objects =
       both-change (seen (take 2 one_up)) (Commit 0) _ _ _ _
       (record { checked = refl; commit = record { moved = []; front = refl; done = tt; reached = refl } })
-      (record { checked = refl; commit = record { rest = refl; inside = refl; reached = (λ ks legal. legal, λ ks legal. legal) } });
+      (record { checked = refl; commit = record { rest = refl; inside = refl; reached = (λ ks legal. legal, λ ks legal. legal); still = λ none. absurd (has_entry none) } });
   lists = refl;
   held = both-held (λ x. map as_held (held_after x (seen (take 2 one_up)) (Commit 0)));
   rows = record { row = by_seven (1 ∷ []); was = refl; becomes = refl };
@@ -115,7 +119,7 @@ unfolding next two_lists
 commits-by_law moves kept =
     moves counted committed (take 2 one_up) 7 0 (by_seven (1 ∷ [])) (two_lists [] (hold 0 0 ∷ [])) (two_lists [] []) kept refl refl refl
     (changes-second _ _ _ _
-    (record { checked = refl; commit = record { rest = refl; inside = refl; reached = (λ ks legal. legal, λ ks legal. legal) } }))
+    (record { checked = refl; commit = record { rest = refl; inside = refl; reached = (λ ks legal. legal, λ ks legal. legal); still = λ none. absurd (has_entry none) } }))
     (changes-second _ _ _ _ refl)
     refl
 

@@ -9,3 +9,4 @@ pub mod Places
 pub mod Opens
 pub mod Events
 pub mod Examples
+pub mod Asked

@@ -1,13 +1,18 @@
 -- Small stores, worked by hand.
-use Rattle.std.specs.Prelude.{ℕ, List, [], ◌∷◌, Some, None}
+use Rattle.std.specs.Prelude.{ℕ, List, [], ◌∷◌, take, Option, Some, None, codes}
 use Rattle.type_table.specs.declared.kind.Kind.TheVariants.{Undo, Intentions}
 use Rattle.table_checker.specs.Checked.{Checked, IsChecked}
 use Rattle.table_checker.specs.Examples.{counter_file}
 use Rattle.object_trait.specs.Examples as object
 use Rattle.object_trait.specs.declared.event.Event.{Event}
 use Rattle.object_trait.specs.declared.event.EventKind.TheVariants.{Begin, Op, Commit, Rollback}
+use Rattle.serial_order.specs.declared.command.Command.{Command}
+use Rattle.serial_order.specs.declared.command.Command.TheVariants as command
+use Rattle.serial_order.specs.declared.refusal.Refusal.{Refusal}
+use Rattle.serial_order.specs.declared.refusal.Refusal.TheVariants.{NotOpen, NoMemory}
 use Rattle.op_locks.specs.declared.held.Held.{Held}
 use Rattle.store_laws.specs.Stored.{Stored}
+use Rattle.store_laws.specs.Asked.{Asked}
 use Rattle.open_transactions.specs.Transactions.{Row}
 use Rattle.store_laws.specs.Kept.{Keeping}
 
@@ -76,3 +81,13 @@ one_back =
 -- the two counters with this history, and room for four events
 abbrev pub stored : List Event → Stored
 stored H = record { types = undo_counter ∷ deferred_counter ∷ []; history = H; max = 4 }
+
+-- worker 7 asked a command, which left this history
+abbrev pub by_worker : Command → Option Refusal → List Event → Asked
+by_worker command reason H = record { worker = 7; command = command; reason = reason; left = stored H }
+
+-- a begin for which memory is refused, and then the transaction, whose commit is asked twice
+abbrev pub up_and_again : List Asked
+up_and_again =
+    by_worker command.Begin (Some NoMemory) [] ∷ by_worker command.Begin None (take 1 one_up) ∷ by_worker (command.Call 0 1 (codes "inc:1")) None (take 2 one_up)
+    ∷ by_worker (command.Commit 0) None one_up ∷ by_worker (command.Commit 0) (Some NotOpen) one_up ∷ []

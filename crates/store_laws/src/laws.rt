@@ -4,6 +4,7 @@
 ghost use Rattle.store_laws.specs.Moves.{StaysKept};
 ghost use Rattle.store_laws.specs.Words.{EndsAsHeld, StrikesAsHeld, BlocksAsHeld, AnswersAsDefined};
 ghost use Rattle.store_laws.specs.Before.{NewIsKept, RowsSayWhoIsOpen, RowsAreCounted, PlacesAreCounted, RowsAreFew, PlacesAreFew, PlacesAreInside, HeldAreOperations, HasWhatIsStruck};
+ghost use Rattle.store_laws.specs.Asked.{AskedIsReplayed, StepIsAsked, AnswerIsDefined};
 ghost use Rattle.store_laws.specs.Events.{QuietMoves, BeginMoves, OpMoves, CommitMoves, AbortMoves, RollbackMoves, TypesStay, RoomAfter};
 
 use object_trait::{
@@ -11,9 +12,9 @@ use object_trait::{
     untouched_stays,
 };
 use serial_order::{
-    allows_alike, beginners_after, blocker_is_held, fresh_stands, held_after, logs_are_counted,
-    machine_may_apply, opens_after, operations_in_run, own_after, run_goes_on, seen_after,
-    stands_as_read, stands_on, transactions_in_run,
+    allows_alike, beginners_after, blocker_is_held, command_appends, fresh_stands, held_after,
+    logs_are_counted, machine_may_apply, opens_after, operations_in_run, own_after, run_goes_on,
+    seen_after, stands_as_read, stands_on, transactions_in_run,
 };
 
 /// By an event that may follow, what a store keeps goes on agreeing with its history: that it is a
@@ -195,4 +196,22 @@ pub fn room_after()
     seen_after();
     transactions_in_run();
     opens_after();
+}
+
+/// Whatever commands a store was asked one after another, it has the history of their replay, and each
+/// was answered as the replay of those before it defines.
+pub fn asked_is_replayed()
+    ensures { AskedIsReplayed }
+{}
+
+/// What the clause of a call says is that its command was asked.
+pub fn step_is_asked<T>()
+    ensures { StepIsAsked T }
+{}
+
+/// An answer that is told by the event appended is the one that the history before it defines.
+pub fn answer_is_defined()
+    ensures { AnswerIsDefined }
+{
+    command_appends();
 }

@@ -2,12 +2,14 @@
 #![tactic(auto, unfolding(type_table::specs::Table::next))]
 
 ghost use Rattle.std.specs.Prelude.{◌≡◌, ℕ, [], ◌∷◌, Some, None, Ok, Err, take, codes};
-ghost use Rattle.store_laws.specs.Stored.{refusal_of, after, Steps, MayStep};
+ghost use Rattle.serial_order.specs.Replay.{replay};
+ghost use Rattle.store_laws.specs.Stored.{objects, refusal_of, after, Steps, MayStep};
 ghost use Rattle.store_laws.specs.Kept.{IsRow, IsKept, IsStore};
 ghost use Rattle.store_laws.specs.Moves.{RowsMove, Moves};
 ghost use Rattle.store_laws.specs.Words.{as_event};
 ghost use Rattle.store_laws.specs.Before.{last_places};
-ghost use Rattle.store_laws.specs.Examples.{AreAccepted, by_seven, one_up, new_counters, begun, counted, committed, one_back, stored};
+ghost use Rattle.store_laws.specs.Asked.{AreAsked, left_by, commands_of, wanting_in, replayed};
+ghost use Rattle.store_laws.specs.Examples.{AreAccepted, by_seven, one_up, new_counters, begun, counted, committed, one_back, stored, by_worker, up_and_again};
 
 use crate::laws::{commit_moves, op_moves, rollback_moves, stays_kept};
 use object_calls::Answer;
@@ -110,4 +112,14 @@ pub fn the_last_places()
     ensures one { last_places 1 (0 ∷ 2 ∷ 1 ∷ []) ≡ 1 ∷ [] }
     ensures two { last_places 2 (0 ∷ 2 ∷ 1 ∷ []) ≡ 2 ∷ 1 ∷ [] }
     ensures none { last_places 0 (0 ∷ 2 ∷ 1 ∷ []) ≡ [] }
+{}
+
+/// Worker 7 asks a begin, for which memory is refused, and then a begin, a call, a commit, and the
+/// commit again: the history is that of the three that were done, which is the replay of all five.
+pub fn asked_commands_are_replayed()
+    ensures asked { AreAsked (stored []) up_and_again }
+    ensures left { left_by (stored []) up_and_again ≡ stored one_up }
+    ensures history { replay (objects (stored [])) 4 (wanting_in up_and_again) [] (commands_of up_and_again) ≡ one_up }
+    ensures first { replayed (stored []) up_and_again 2 ≡ stored (take 1 one_up) }
+    ensures other_reason { AreAsked (stored []) (by_worker Command.Begin (Some Refusal.TooManyOpen) [] ∷ []) → ⊥ }
 {}

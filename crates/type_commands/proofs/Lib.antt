@@ -1,3 +1,2 @@
 pub mod RequestLemmas
-pub mod VerdictLemmas
-pub mod MadeLemmas
+pub mod Verdicts

@@ -1,6 +1,8 @@
 -- What `make FAMILY SIZE ITEM...` and `tables FILE` answer.
-use Rattle.std.specs.Prelude.{◌≡◌, ◌≢◌, ℕ, List, Option, Some, None, Result, Ok, Err}
-use Rattle.std.specs.Io.KnownBytes.{Appends}
+use Rattle.std.specs.Prelude.{◌≡◌, ℕ, List, Option, Some, None, Result, Ok, Err}
+use Rattle.command_files.specs.Answers.{Answers}
+use Rattle.command_files.specs.Files.{IsFileAt}
+use Rattle.command_files.specs.declared.status.Verdict.TheVariants.{Yes, No}
 use Rattle.table_checker.specs.declared.condition.Condition.TheVariants.{Forward, Backward}
 use Rattle.table_maker.specs.Made.{IsFileOfFamily}
 use Rattle.table_maker.specs.MadeConflicts.{AreMadeConflicts}
@@ -9,14 +11,6 @@ use Rattle.table_maker.specs.declared.make_error.MakeError.TheVariants.{BadParam
 use Rattle.type_text.specs.Canonical.{canonical_text}
 use Rattle.type_text.specs.declared.type_file.TypeFile.{TypeFile}
 use Rattle.type_commands.specs.Request.{Fits, IsGood, Wanted, family_of}
-use Rattle.command_types.specs.Files.{IsFaulty}
-use Rattle.type_commands.specs.Verdict.{SaysOf}
-
--- the output took the canonical text of a file of which this holds
-pub record WritesFile (holds : TypeFile → Type 0) (old new : Option (List ℕ)) : Type 0 where
-  pub file : TypeFile
-  pub is : holds file
-  pub written : Appends old new (canonical_text file)
 
 -- ---- `make`
 
@@ -35,21 +29,15 @@ MakesFor (Some wanted) (Err BadParameter) = IsGood wanted → ⊥
 MakesFor (Some wanted) (Err TooLarge) = IsGood wanted × (Fits wanted → ⊥)
 MakesFor (Some wanted) (Err NoMemory) = Unit {0}
 
--- something is wanted, and the output took the text of its file
-abbrev pub WritesMade : Option Wanted → Option (List ℕ) → Option (List ℕ) → Type 0
-WritesMade None old new = ⊥
-WritesMade (Some wanted) old new = WritesFile (IsMadeFor wanted) old new
+-- what is wanted is made, and the text is that of its file
+abbrev pub MakesFamily : Option Wanted → Answers
+MakesFamily (Some wanted) Yes text = (file : TypeFile) × IsMadeFor wanted file × (text ≡ canonical_text file)
+MakesFamily wanted verdict text = ⊥
 
 -- the words want nothing, or what can't be made
 abbrev pub CannotBeMade : Option Wanted → Type 0
 CannotBeMade None = Unit {0}
 CannotBeMade (Some wanted) = IsGood wanted → Fits wanted → ⊥
-
--- what the status of `make`, and the bytes that the output took in it, say of what is wanted
-pub record TellsMade (wanted : Option Wanted) (status : ℕ) (old new : Option (List ℕ)) : Type 0 where
-  pub made : status ≡ 0 → WritesMade wanted old new
-  pub never : status ≢ 1
-  pub refused : status ≡ 2 → CannotBeMade wanted × (new ≡ old)
 
 -- ---- `tables`
 
@@ -64,13 +52,11 @@ pub record IsMadeOf (given file : TypeFile) : Type 0 where
   pub reach : file.reach ≡ given.reach
   pub tables : HasMadeTables file
 
--- what the status of `tables`, and the bytes that the output took in it, say of the text
-pub record TellsTables (status : ℕ) (old new : Option (List ℕ)) (text : List ℕ) : Type 0 where
-  pub made : status ≡ 0 → SaysOf (λ given. WritesFile (IsMadeOf given) old new) text
-  pub fault : status ≡ 2 → IsFaulty text
+-- the text is that of a file with made tables in place of the given file's
+abbrev pub MakesTables : TypeFile → Answers
+MakesTables given Yes text = (file : TypeFile) × IsMadeOf given file × (text ≡ canonical_text file)
+MakesTables given No text = ⊥
 
--- what an output took of `tables`, by the status, whatever the text was
-pub record WritesTables (status : ℕ) (old new : Option (List ℕ)) : Type 0 where
-  pub made : status ≡ 0 → WritesFile HasMadeTables old new
-  pub never : status ≢ 1
-  pub fault : status ≡ 2 → new ≡ old
+-- the same of the file of a path, by what is held there
+abbrev pub MakesTablesOf : Option (List ℕ) → Answers
+MakesTablesOf held verdict text = (given : TypeFile) × IsFileAt held given × MakesTables given verdict text

@@ -1,8 +1,9 @@
 -- What `check KIND FILE` answers.
 use Rattle.std.specs.Prelude.{◌≡◌, ◌↔◌, ℕ, Bool, true, false, List, [], ◌∷◌, ◌++◌, Option, codes}
-use Rattle.std.specs.Io.KnownBytes.{Appends}
-use Rattle.command_types.specs.Files.{Describes, IsFaulty}
-use Rattle.command_types.specs.Refusals.{no_line}
+use Rattle.command_files.specs.Answers.{Answers}
+use Rattle.command_files.specs.Files.{IsFileAt}
+use Rattle.command_files.specs.Refusals.{no_line}
+use Rattle.command_files.specs.declared.status.Verdict.TheVariants.{Yes, No}
 use Rattle.table_checker.specs.Checked.{IsStrong}
 use Rattle.table_checker.specs.Laws.{CoversType}
 use Rattle.table_checker.specs.Refusal.{IsFirstReason}
@@ -10,43 +11,30 @@ use Rattle.table_checker.specs.declared.refusal.CheckRefusal.{CheckRefusal}
 use Rattle.type_table.specs.declared.kind.Kind.{Kind}
 use Rattle.type_text.specs.declared.type_file.TypeFile.{TypeFile}
 
--- ---- the lines of a yes
-
 -- the line of a yes, which is strong or not
 abbrev pub yes_line : Bool → List ℕ
 yes_line true = codes "yes strong" ++ 10 ∷ []
 yes_line false = codes "yes one-way" ++ 10 ∷ []
 
--- ---- what they say
-
--- the file's conflict table for the kind covers its type, over all lists of operations, and the output took the line that
--- says whether the yes is strong
-pub record SaysYes (kind : Kind) (file : TypeFile) (old new : Option (List ℕ)) : Type 0 where
+-- the file's conflict table for the kind covers its type, over all lists of operations, and the text is the line that says whether the yes
+-- is strong
+pub record SaysYes (kind : Kind) (file : TypeFile) (text : List ℕ) : Type 0 where
   pub strong : Bool
   pub is_strong : (strong ≡ true) ↔ IsStrong (record { kind = kind; file = file })
   pub covers : CoversType kind file
-  pub written : Appends old new (yes_line strong)
+  pub line : text ≡ yes_line strong
 
--- the output took the line of the first reason why the file is refused
-pub record SaysNo (kind : Kind) (file : TypeFile) (old new : Option (List ℕ)) : Type 0 where
+-- the text is the line of the first reason why the file is refused
+pub record SaysNo (kind : Kind) (file : TypeFile) (text : List ℕ) : Type 0 where
   pub refusal : CheckRefusal
   pub first : IsFirstReason kind file refusal
-  pub written : Appends old new (no_line refusal)
+  pub line : text ≡ no_line refusal
 
--- the text describes a file of which this is said
-pub record SaysOf (says : TypeFile → Type 0) (text : List ℕ) : Type 0 where
-  pub file : TypeFile
-  pub described : Describes text file
-  pub said : says file
+-- the answer to a file
+abbrev pub SaysOf : Kind → TypeFile → Answers
+SaysOf kind file Yes text = SaysYes kind file text
+SaysOf kind file No text = SaysNo kind file text
 
--- what the status of a check for a kind, and the bytes that the output took in it, say of the text
-pub record Tells (kind : Kind) (status : ℕ) (old new : Option (List ℕ)) (text : List ℕ) : Type 0 where
-  pub yes : status ≡ 0 → SaysOf (λ file. SaysYes kind file old new) text
-  pub no : status ≡ 1 → SaysOf (λ file. SaysNo kind file old new) text
-  pub fault : status ≡ 2 → IsFaulty text
-
--- what an output took, by the status, whatever the text was: the line of a yes at 0, that of a no at 1, nothing where it has a fault
-pub record Writes (status : ℕ) (old new : Option (List ℕ)) : Type 0 where
-  pub yes : status ≡ 0 → (strong : Bool) × Appends old new (yes_line strong)
-  pub no : status ≡ 1 → (refusal : CheckRefusal) × Appends old new (no_line refusal)
-  pub fault : status ≡ 2 → new ≡ old
+-- the answer to the file of a path, by what is held there
+abbrev pub ChecksFile : Option (List ℕ) → Kind → Answers
+ChecksFile held kind verdict text = (file : TypeFile) × IsFileAt held file × SaysOf kind file verdict text

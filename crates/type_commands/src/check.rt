@@ -1,71 +1,55 @@
 //! `check`: whether a type file is good for a kind of recovery.
 
-ghost use Rattle.std.specs.Prelude.{◌≡◌, ◌≢◌, ◌≤◌, ◌⊎◌, ◌↔◌, Bool, true, None, IfSome};
-ghost use Rattle.std.specs.Io.KnownBytes.{Appends};
-ghost use Rattle.table_checker.specs.Checked.{IsStrong};
-ghost use Rattle.command_types.specs.Refusals.{no_line};
-ghost use Rattle.type_commands.specs.Verdict.{Tells, SaysYes, SaysNo, Writes, yes_line};
+ghost use Rattle.std.specs.Prelude.{◌≡◌, None, IfSome};
+ghost use Rattle.command_files.specs.Answers.{Comes};
+ghost use Rattle.command_files.specs.Files.{IsFaulty};
+ghost use Rattle.type_commands.specs.Verdict.{ChecksFile, SaysOf, yes_line};
 
-use command_files::{FAILED, NO, Source, YES, out_of_memory};
-use command_types::{no_line, read_file};
-use std::alloc::Global;
+use command_files::{Fault, Source, TypeFormat, Verdict, no_line, put_answer, read_file};
 use std::thread::Threads;
-use table_checker::{CheckRefusal, CheckedType, check_parallel};
+use table_checker::check_parallel;
 use type_table::Kind;
-use type_text::{Out, TypeFile, put};
+use type_text::{Out, TypeFile};
 
-/// `check KIND FILE`.
-pub fn check_file<R: AllocGlobal + Threads + Sync, S: Source, W: Out, E: Out>(
+/// `check KIND FILE`: yes with its line, strong or not, or no with the line of the first reason.
+///
+/// # Errors
+///
+/// The file can't be read or its text has a fault, memory was refused, or the output failed.
+pub fn check_file<'a, R: AllocGlobal + Threads + Sync, S: Source, W: Out>(
     rt: &R,
     kind: Kind,
-    path: &str,
+    path: &'a str,
     source: &mut S,
     out: &mut W,
-    err: &mut E,
-) -> u8
-    requires out_takes { W.fault out.old ≡ None }
-    requires err_takes { E.fault err.old ≡ None }
-    ensures fit { result ≤ 3 }
-    ensures tells { IfSome (S.holds source.old path.now)
-        (Tells kind result (W.taken out.old) (W.taken out.new)) }
-    ensures writes { Writes result (W.taken out.old) (W.taken out.new) }
+) -> Result<Verdict, Fault<'a>>
+    requires { W.fault out.old ≡ None }
+    ensures { let held = S.holds source.old path.now in
+        Comes (ChecksFile held kind) (IfSome held IsFaulty) result (W.taken out.old) (W.taken out.new) }
 {
-    match read_file(rt.alloc(), path, source, err) {
-        Ok(file) => check_read(rt, kind, file, out, err),
-        Err(status) => status,
-    }
+    let file = read_file(rt.alloc(), &TypeFormat, path, source)?;
+    check_read(rt, kind, file, out)
 }
 
 /// The answer to a file that was read.
-fn check_read<R: AllocGlobal + Threads + Sync, W: Out, E: Out>(
+fn check_read<'a, R: AllocGlobal + Threads + Sync, W: Out>(
     rt: &R,
     kind: Kind,
     file: TypeFile,
     out: &mut W,
-    err: &mut E,
-) -> u8
-    requires out_takes { W.fault out.old ≡ None }
-    requires err_takes { E.fault err.old ≡ None }
-    ensures fit { result ≤ 3 }
-    ensures yes { result ≡ 0 → SaysYes kind file (W.taken out.old) (W.taken out.new) }
-    ensures no { result ≡ 1 → SaysNo kind file (W.taken out.old) (W.taken out.new) }
-    ensures decides { result ≢ 2 }
+) -> Result<Verdict, Fault<'a>>
+    requires { W.fault out.old ≡ None }
+    ensures { Comes (SaysOf kind file) ⊥ result (W.taken out.old) (W.taken out.new) }
 {
     match check_parallel(rt, file, kind) {
-        Ok(checked) => say_yes(&checked, out),
-        Err((_, refusal)) => say_no(rt.alloc(), refusal, out, err),
-    }
-}
-
-fn say_yes<W: Out>(checked: &CheckedType, out: &mut W) -> u8
-    requires { W.fault out.old ≡ None }
-    ensures decides { (result ≡ 0) ⊎ (result ≡ 3) }
-    ensures writes { result ≡ 0 → (strong : Bool) × ((strong ≡ true) ↔ IsStrong checked.now)
-        × Appends (W.taken out.old) (W.taken out.new) (yes_line strong) }
-{
-    match put(out, yes_line(checked.is_strong()).as_bytes()) {
-        Ok(()) => YES,
-        Err(_) => FAILED,
+        Ok(checked) => {
+            let line = yes_line(checked.is_strong());
+            put_answer(Verdict::Yes, line.as_bytes(), out)
+        }
+        Err((_, refusal)) => {
+            let line = no_line(rt.alloc(), refusal)?;
+            put_answer(Verdict::No, line.as_bytes(), out)
+        }
     }
 }
 
@@ -76,20 +60,5 @@ fn yes_line(strong: bool) -> &'static str
         "yes strong\n"
     } else {
         "yes one-way\n"
-    }
-}
-
-fn say_no<W: Out, E: Out>(alloc: Global, refusal: CheckRefusal, out: &mut W, err: &mut E) -> u8
-    requires out_takes { W.fault out.old ≡ None }
-    requires err_takes { E.fault err.old ≡ None }
-    ensures decides { (result ≡ 1) ⊎ (result ≡ 3) }
-    ensures writes { result ≡ 1 → Appends (W.taken out.old) (W.taken out.new) (no_line refusal) }
-{
-    match no_line(alloc, refusal) {
-        Ok(line) => match put(out, line.as_bytes()) {
-            Ok(()) => NO,
-            Err(_) => FAILED,
-        },
-        Err(_) => out_of_memory(err),
     }
 }

@@ -1,7 +1,6 @@
 //! The commands over types: `check`, `make` and `tables`.
 #![tactic(auto)]
 
-mod cannot_make;
 mod check;
 mod make;
 mod request;

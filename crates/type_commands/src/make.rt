@@ -1,34 +1,38 @@
 //! `make`: type files of families.
 
-ghost use Rattle.std.specs.Prelude.{◌≡◌, ◌≤◌, None};
-ghost use Rattle.type_commands.specs.Request.{texts};
-ghost use Rattle.type_commands.specs.Made.{MakesFor, TellsMade};
-ghost use Rattle.type_commands.specs.Request.{wanted_of};
+ghost use Rattle.std.specs.Prelude.{◌≡◌, None};
+ghost use Rattle.command_files.specs.Answers.{Comes};
+ghost use Rattle.type_commands.specs.Made.{CannotBeMade, MakesFor, MakesFamily};
+ghost use Rattle.type_commands.specs.Request.{texts, wanted_of};
 
-use crate::cannot_make::cannot_make;
 use crate::request::{make, request_of};
-use crate::write::write_file;
+use crate::write::answer_file;
+use command_files::{Fault, Verdict};
 use std::alloc::Global;
 use table_maker::MakeError;
 use type_text::{Out, TypeFile};
 
-/// `make FAMILY SIZE ITEM...`.
-pub fn make_family<W: Out, E: Out>(
+/// `make FAMILY SIZE ITEM...`: the type file of the family.
+///
+/// # Errors
+///
+/// The words want nothing that can be made, memory was refused, or the output failed.
+pub fn make_family<'a, W: Out>(
     alloc: Global,
     family: &str,
     size: &str,
     items: &[&str],
     out: &mut W,
-    err: &mut E,
-) -> u8
-    requires out_takes { W.fault out.old ≡ None }
-    requires err_takes { E.fault err.old ≡ None }
-    ensures fit { result ≤ 3 }
-    ensures tells { TellsMade (wanted_of family.now size.now (texts items.now)) result (W.taken out.old) (W.taken out.new) }
+) -> Result<Verdict, Fault<'a>>
+    requires { W.fault out.old ≡ None }
+    ensures { let wanted = wanted_of family.now size.now (texts items.now) in
+        Comes (MakesFamily wanted) (CannotBeMade wanted) result (W.taken out.old) (W.taken out.new) }
 {
     match file_of(alloc, family, size, items) {
-        Ok(file) => write_file(alloc, &file, out, err),
-        Err(error) => cannot_make(error, err),
+        Ok(file) => answer_file(alloc, &file, out),
+        Err(MakeError::BadParameter) => Err(Fault::BadParameter),
+        Err(MakeError::TooLarge) => Err(Fault::TooLarge),
+        Err(MakeError::NoMemory) => Err(Fault::NoMemory),
     }
 }
 

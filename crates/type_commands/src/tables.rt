@@ -1,45 +1,47 @@
 //! `tables`: the type file of a text, with made tables in place of its own.
 
-ghost use Rattle.std.specs.Prelude.{◌≡◌, ◌⊎◌, ◌≤◌, None, IfSome};
-ghost use Rattle.type_commands.specs.Made.{IsMadeOf, TellsTables, WritesFile, WritesTables};
+ghost use Rattle.std.specs.Prelude.{◌≡◌, None, IfSome};
+ghost use Rattle.command_files.specs.Answers.{Comes};
+ghost use Rattle.command_files.specs.Files.{IsFaulty};
+ghost use Rattle.type_commands.specs.Made.{MakesTables, MakesTablesOf};
 
-use crate::cannot_make::cannot_make;
-use crate::write::write_file;
-use command_files::Source;
-use command_types::read_file;
+use crate::write::answer_file;
+use command_files::{Fault, Source, TypeFormat, Verdict, read_file};
 use std::alloc::Global;
 use table_maker::make_tables;
 use type_text::{Out, TypeFile};
 
-/// `tables FILE`.
-pub fn make_tables_of<S: Source, W: Out, E: Out>(
+/// `tables FILE`: the file with made tables.
+///
+/// # Errors
+///
+/// The file can't be read or its text has a fault, memory was refused, or the output failed.
+pub fn make_tables_of<'a, S: Source, W: Out>(
     alloc: Global,
-    path: &str,
+    path: &'a str,
     source: &mut S,
     out: &mut W,
-    err: &mut E,
-) -> u8
-    requires out_takes { W.fault out.old ≡ None }
-    requires err_takes { E.fault err.old ≡ None }
-    ensures fit { result ≤ 3 }
-    ensures tells { IfSome (S.holds source.old path.now) (TellsTables result (W.taken out.old) (W.taken out.new)) }
-    ensures writes { WritesTables result (W.taken out.old) (W.taken out.new) }
+) -> Result<Verdict, Fault<'a>>
+    requires { W.fault out.old ≡ None }
+    ensures { let held = S.holds source.old path.now in
+        Comes (MakesTablesOf held) (IfSome held IsFaulty) result (W.taken out.old) (W.taken out.new) }
 {
-    match read_file(alloc, path, source, err) {
-        Ok(file) => write_made(alloc, &file, out, err),
-        Err(status) => status,
-    }
+    let file = read_file(alloc, &TypeFormat, path, source)?;
+    answer_made(alloc, &file, out)
 }
 
-/// Writes a file with made tables in place of its own.
-fn write_made<W: Out, E: Out>(alloc: Global, file: &TypeFile, out: &mut W, err: &mut E) -> u8
-    requires out_takes { W.fault out.old ≡ None }
-    requires err_takes { E.fault err.old ≡ None }
-    ensures decides { (result ≡ 0) ⊎ (result ≡ 3) }
-    ensures writes { result ≡ 0 → WritesFile (IsMadeOf file.now) (W.taken out.old) (W.taken out.new) }
+/// A file with made tables in place of its own.
+fn answer_made<'a, W: Out>(
+    alloc: Global,
+    file: &TypeFile,
+    out: &mut W,
+) -> Result<Verdict, Fault<'a>>
+    requires { W.fault out.old ≡ None }
+    ensures { Comes (MakesTables file.now) ⊥ result (W.taken out.old) (W.taken out.new) }
 {
     match make_tables(alloc, &file.table, file.reach) {
-        Ok(made) => write_file(alloc, &made, out, err),
-        Err(error) => cannot_make(error, err),
+        Ok(made) => answer_file(alloc, &made, out),
+        // memory was refused: it has no other error
+        Err(_) => Err(Fault::NoMemory),
     }
 }

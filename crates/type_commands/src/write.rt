@@ -1,27 +1,27 @@
-//! The canonical text of a type file on an output.
+//! The canonical text of a type file as an answer.
 
-ghost use Rattle.std.specs.Prelude.{◌≡◌, ◌⊎◌, None, IfOk};
-ghost use Rattle.std.specs.Io.KnownBytes.{Appends};
+ghost use Rattle.std.specs.Prelude.{◌≡◌, None, IfOk};
+ghost use Rattle.command_files.specs.Answers.{Comes, IsThis};
+ghost use Rattle.command_files.specs.declared.status.Verdict.TheVariants.{Yes};
 ghost use Rattle.type_text.specs.Canonical.{canonical_text};
 
-use command_files::{FAILED, YES, out_of_memory};
+use command_files::{Fault, Verdict, put_answer};
 use std::alloc::Global;
-use type_text::{Out, OutFault, Sink, TypeFile, put, write_type};
+use type_text::{Out, OutFault, Sink, TypeFile, write_type};
 
-/// Writes the canonical text of a file. It is put together in memory first, since an output may take
-/// a call of the system for each piece, and a text has up to a million lines.
-pub fn write_file<W: Out, E: Out>(alloc: Global, file: &TypeFile, out: &mut W, err: &mut E) -> u8
-    requires out_takes { W.fault out.old ≡ None }
-    requires err_takes { E.fault err.old ≡ None }
-    ensures decides { (result ≡ 0) ⊎ (result ≡ 3) }
-    ensures writes { result ≡ 0 → Appends (W.taken out.old) (W.taken out.new) (canonical_text file.now) }
+/// Answers with the canonical text of a file. It is put together in memory first, so that a growth that
+/// is refused leaves nothing written.
+pub fn answer_file<'a, W: Out>(
+    alloc: Global,
+    file: &TypeFile,
+    out: &mut W,
+) -> Result<Verdict, Fault<'a>>
+    requires { W.fault out.old ≡ None }
+    ensures { Comes (IsThis Yes (canonical_text file.now)) ⊥ result (W.taken out.old) (W.taken out.new) }
 {
     match text_of(alloc, file) {
-        Ok(text) => match put(out, &text) {
-            Ok(()) => YES,
-            Err(_) => FAILED,
-        },
-        Err(_) => out_of_memory(err),
+        Ok(text) => put_answer(Verdict::Yes, &text, out),
+        Err(_) => Err(Fault::NoMemory),
     }
 }
 

@@ -2,7 +2,7 @@ use Rattle.std.proofs.Common.{◌≡◌, ◌+◌, map, length, vec_capacity, sym
 use Rattle.std.proofs.lemmas.List.{length-map}
 use Rattle.table_checker.specs.Checked.{Checked, IsChecked}
 use Rattle.type_text.specs.declared.type_file.TypeFile.{TypeFile}
-use Rattle.call_table.specs.Calls.{IsCallTable}
+use Rattle.object_calls.specs.Calls.{IsCallTable}
 use Rattle.store.proofs.Beginnings.{HasFirstCalls, image-in, calls-more, calls-all, calls-checked}
 use Rattle.store.proofs.parts.calls_of.Goals as goal
 

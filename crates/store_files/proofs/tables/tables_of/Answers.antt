@@ -7,7 +7,7 @@ use Rattle.store_files.proofs.tables.tables_of.Goals as goal
 pub returns-in-None-clause-refused : goal.returns-in-None-clause-refused
 returns-in-None-clause-refused c =
     let there = slice_get-get_or c.args.objects.now c.loop-x.x _ c.loop-x-test.true in
-    first_without c.args.files.now c.args.objects.now c.loop-x.x _ _ there c.loop-x.invariant (not_found c.args.files.now _ c.in-None.ensures.lookup.0)
+    (c.loop-x.x, _, first_without c.args.files.now c.args.objects.now c.loop-x.x _ _ there c.loop-x.invariant (not_found c.args.files.now _ c.in-None.ensures.lookup.0))
 
 pub loop-x-preserved : goal.loop-x-preserved
 loop-x-preserved c =

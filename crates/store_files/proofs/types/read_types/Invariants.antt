@@ -1,5 +1,5 @@
 -- The paths so far have their files.
-use Rattle.std.proofs.Common.{◌≡◌, ◌≤◌, ℕ, List, None, map, take, length, vec_len, vec_capacity}
+use Rattle.std.proofs.Common.{◌≡◌, ◌≤◌, ℕ, List, map, take, length, vec_len, vec_capacity}
 use Rattle.store_files.specs.Types.{AreFilesAt}
 use Rattle.store_files.proofs.types.read_types.Given as goal
 
@@ -7,7 +7,6 @@ abbrev pub invariant-loop-path : goal.invariant-loop-path
 invariant-loop-path g l = record {
   room : length l.paths ≤ vec_capacity l.files;
   count : vec_len l.files ≡ l.path-index;
-  quiet : g.E.Out.fault l.err ≡ None;
   kept : (other : List ℕ) → g.S.Source.holds l.source other ≡ g.S.Source.holds l.fn.source other;
   read : AreFilesAt (g.S.Source.holds l.fn.source) (take l.path-index (map (λ p. p.now) l.paths)) l.files.items;
 }

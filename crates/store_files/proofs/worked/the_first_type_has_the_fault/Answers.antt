@@ -1,8 +1,7 @@
-use Rattle.std.proofs.Common.{[], ◌∷◌, codes, refl, inl, arith}
+use Rattle.std.proofs.Common.{[], codes, refl}
 use Rattle.std.proofs.lemmas.Option.{none-some}
-use Rattle.command_types.specs.Examples.{endless_bytes}
-use Rattle.store_files.specs.ObjectTypes.{in_type}
-use Rattle.store_files.specs.Types.{AreFilesAt, IsFirstFaulty}
+use Rattle.command_files.specs.Examples.{endless_bytes}
+use Rattle.store_files.specs.Types.{AreFilesAt}
 use Rattle.store_files.specs.Examples.{everywhere}
 use Rattle.store_files.proofs.worked.the_first_type_has_the_fault.Goals as goal
 
@@ -13,13 +12,3 @@ none-before = record { as_many = refl; each = λ k path file at is. absurd (none
 pub returns-clause-first : goal.returns-clause-first
 returns-clause-first c =
     record { k = 0; path = codes "a"; there = refl; files = []; before = none-before; faulty = c.a_text_with_a_fault.ensures.faulty }
-
-pub returns-clause-told : goal.returns-clause-told
-returns-clause-told c =
-    inl (refl, record { k = 0; path = codes "a"; there = refl; files = []; before = none-before; faulty = c.a_text_with_a_fault.ensures.faulty })
-
-pub returns-clause-no_types : goal.returns-clause-no_types
-returns-clause-no_types c =
-    let first : IsFirstFaulty (everywhere endless_bytes) (codes "a" ∷ []) =
-    record { k = 0; path = codes "a"; there = refl; files = []; before = none-before; faulty = c.a_text_with_a_fault.ensures.faulty } in
-    record { some = omega arith; fit = omega arith; refused = λ one. absurd (omega (arith, one)); fault = λ two. (in_type first, refl) }

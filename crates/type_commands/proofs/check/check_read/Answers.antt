@@ -1,9 +1,13 @@
-use Rattle.std.proofs.Common.{◌≡◌, ◌↔◌, true, subst}
+use Rattle.std.proofs.Common.{◌≡◌, ◌↔◌, ◌∙◌, true, subst}
 use Rattle.table_checker.specs.Checked.{Checked, IsStrong}
+use Rattle.command_files.proofs.Comes.{comes}
+use Rattle.type_commands.proofs.Verdicts.{line_says}
 use Rattle.type_commands.proofs.check.check_read.Goals as goal
 
-pub returns-in-Ok-clause-yes : goal.returns-in-Ok-clause-yes
-returns-in-Ok-clause-yes g c = λ e.
-    let said = c.say_yes.ensures.writes e in
-    let P : Checked → Type 0 = λ checked. (said.0 ≡ true) ↔ IsStrong checked in
-    record { strong = said.0; is_strong = subst P c.in-Ok.ensures.exact.0 said.1; covers = c.in-Ok.ensures.covers; written = said.2 }
+pub returns-in-Ok : goal.returns-in-Ok
+returns-in-Ok g c =
+    let P : Checked → Type 0 = λ checked. (c.is_strong.result ≡ true) ↔ IsStrong checked in
+    let line = c.as_bytes.ensures.value ∙ c.yes_line-line.ensures in
+    comes _ _ _ _ c.put_answer.result _ _
+    (line_says c.args.kind c.args.file c.is_strong.result c.as_bytes.result.now (subst P c.in-Ok.ensures.exact.0 c.is_strong.ensures) c.in-Ok.ensures.covers line)
+    (λ bad. absurd bad) c.put_answer.ensures.comes

@@ -1,8 +1,9 @@
-use Rattle.type_commands.specs.Request.{wanted_of}
-use Rattle.type_commands.specs.Request.{texts}
-use Rattle.type_commands.proofs.MadeLemmas.{tells_made}
+use Rattle.command_files.proofs.Comes.{comes}
+use Rattle.type_commands.specs.Request.{texts, wanted_of}
+use Rattle.type_commands.proofs.Verdicts.{family_says}
 use Rattle.type_commands.proofs.make.make_family.Goals as goal
 
-pub returns-in-Ok-clause-tells : goal.returns-in-Ok-clause-tells
-returns-in-Ok-clause-tells g c =
-    tells_made _ _ (wanted_of c.args.family.now c.args.size.now (texts c.args.items.now)) c.write_file.result c.in-Ok.file c.in-Ok.ensures c.write_file.ensures.decides c.write_file.ensures.writes
+pub returns-in-Ok : goal.returns-in-Ok
+returns-in-Ok g c =
+    let wanted = wanted_of c.args.family.now c.args.size.now (texts c.args.items.now) in
+    comes _ _ _ _ c.answer_file.result _ _ (family_says wanted c.in-Ok.file c.in-Ok.ensures) (λ bad. absurd bad) c.answer_file.ensures

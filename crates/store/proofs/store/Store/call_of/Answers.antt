@@ -1,6 +1,6 @@
 use Rattle.std.proofs.Common.{map, sym, ap, ◌∙◌}
 use Rattle.std.specs.Option.{option_map}
-use Rattle.call_table.specs.declared.call.Call.{Call}
+use Rattle.object_calls.specs.declared.call.Call.{Call}
 use Rattle.store_laws.specs.Stored.{objects}
 use Rattle.store.proofs.Known.{its-object, named-there}
 use Rattle.store.proofs.Calls.{calls-shown}

@@ -1,0 +1,43 @@
+//! Programs that measure: the first word says what is measured, and the others are those of its module.
+#![tactic(auto)]
+
+mod bench_error;
+mod check_bench;
+mod lines_bench;
+mod parts;
+mod store_bench;
+mod workers_bench;
+
+use bench_error::BenchError;
+use std::env;
+use std::process::ExitCode;
+use std::rt::{Clock, Env, Files};
+use std::sync::Wait;
+use std::thread::Threads;
+
+fn main(rt: HostRuntime) -> ExitCode {
+    match measure(&rt) {
+        Ok(()) => ExitCode::SUCCESS,
+        Err(error) => {
+            let _ = eprintln!(rt; "benches: {error}");
+            ExitCode::from(2)
+        }
+    }
+}
+
+/// Measures what the first word asks for, by the others, and prints it.
+fn measure<R: Env + Files + Clock + Print + AllocGlobal + Threads + Wait + Sync>(
+    rt: &R,
+) -> Result<(), BenchError> {
+    let words: Vec<String> = env::args(rt)?.skip(1).collect(rt.alloc())?;
+    match words.as_slice() {
+        [what, words @ ..] => match what.as_str() {
+            "check" => check_bench::measure(rt, words),
+            "store" => store_bench::measure(rt, words),
+            "lines" => lines_bench::measure(rt, words),
+            "workers" => workers_bench::measure(rt, words),
+            _ => Err(BenchError::NoSuchBench),
+        },
+        _ => Err(BenchError::NoSuchBench),
+    }
+}

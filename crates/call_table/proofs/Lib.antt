@@ -1,4 +1,0 @@
-pub mod Places
-pub mod Collecting
-pub mod Tabled
-pub mod Examples

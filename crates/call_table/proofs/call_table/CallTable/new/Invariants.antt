@@ -1,7 +1,0 @@
-use Rattle.std.proofs.Common.{take}
-use Rattle.call_table.proofs.Tabled.{names_of}
-use Rattle.call_table.specs.Collected.{AreCallsOf}
-use Rattle.call_table.proofs.call_table.CallTable.new.Given as goal
-
-abbrev pub invariant-loop-k : goal.invariant-loop-k
-invariant-loop-k l = AreCallsOf (take l.k (names_of l.table.ops)) l.calls.items

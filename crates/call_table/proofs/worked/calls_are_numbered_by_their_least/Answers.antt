@@ -1,5 +1,0 @@
-use Rattle.call_table.proofs.Examples.{read_call}
-use Rattle.call_table.proofs.worked.calls_are_numbered_by_their_least.Goals as goal
-
-pub returns-clause-least : goal.returns-clause-least
-returns-clause-least c = read_call

@@ -1,8 +1,0 @@
-use Rattle.call_table.proofs.Examples.{bit_call_table, calls_missing}
-use Rattle.call_table.proofs.worked.calls_of_a_bit.Goals as goal
-
-pub returns-clause-all : goal.returns-clause-all
-returns-clause-all c = bit_call_table
-
-pub returns-clause-none : goal.returns-clause-none
-returns-clause-none c = calls_missing

@@ -1,0 +1,22 @@
+-- Type files and their texts.
+use Rattle.std.specs.Prelude.{◌≡◌, ℕ, List, Option, IfSome, Ok, Err}
+use Rattle.line_text.specs.Outcome.{outcome_of}
+use Rattle.line_text.specs.declared.fault.TextFault.{TextFault}
+use Rattle.type_text.specs.TypeLines.{type_rules}
+use Rattle.type_text.specs.TypeFile.{IsFileOf}
+use Rattle.type_text.specs.declared.type_line.TypeLine.{TypeLine}
+use Rattle.type_text.specs.declared.type_file.TypeFile.{TypeFile}
+
+-- the file that a text describes
+pub record Describes (text : List ℕ) (file : TypeFile) : Type 0 where
+  pub lines : List TypeLine
+  pub accepted : outcome_of type_rules text ≡ Ok lines
+  pub described : IsFileOf lines file
+
+-- the text has a fault
+abbrev pub IsFaulty : List ℕ → Type 0
+IsFaulty text = (f : TextFault) × (outcome_of type_rules text ≡ Err f)
+
+-- the file is the one that the text at a path describes, where the source tells the text
+abbrev pub IsFileAt : Option (List ℕ) → TypeFile → Type 0
+IsFileAt held file = IfSome held (λ text. Describes text file)

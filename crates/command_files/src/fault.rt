@@ -1,0 +1,99 @@
+//! Why a command comes to no answer.
+
+ghost use Rattle.std.specs.Prelude.{◌≡◌};
+ghost use Rattle.command_files.specs.Status.{status_of};
+ghost use Rattle.command_files.specs.declared.fault.Fault.TheVariants.{NoMemory, Output};
+
+use crate::status::Status;
+use line_text::TextFault;
+use outputs::OutFault;
+use std::alloc::{AllocError, AllocFailed, Global};
+
+/// Why a command comes to no answer. Paths are those of the command line.
+#[derive(Debug, Drop)]
+pub enum Fault<'a> {
+    /// The words name no task.
+    Usage {
+        /// What the user is told, with its line ends.
+        text: String,
+    },
+    /// The text at a path has a fault, which isn't that memory was refused.
+    Text {
+        path: &'a str,
+        fault: TextFault,
+    },
+    /// No TYPE word is at the place that object x of the text at a path names.
+    NoType {
+        path: &'a str,
+        x: usize,
+        place: u8,
+    },
+    /// The parameters of a family are none.
+    BadParameter,
+    /// A family is too large at its parameters.
+    TooLarge,
+    /// The file at a path can't be read.
+    CannotRead {
+        path: &'a str,
+    },
+    /// Memory was refused.
+    NoMemory,
+    /// The output failed.
+    Output,
+}
+
+impl Fault<'_> {
+    /// The status with which the program ends.
+    pub fn status(&self) -> Status
+        ensures { result ≡ status_of self.now }
+    {
+        match self {
+            Fault::Usage { .. }
+            | Fault::Text { .. }
+            | Fault::NoType { .. }
+            | Fault::BadParameter
+            | Fault::TooLarge => Status::BadInput,
+            Fault::CannotRead { .. } | Fault::NoMemory | Fault::Output => Status::Failed,
+        }
+    }
+
+    /// The line on standard error, which is empty where the output failed.
+    pub fn line(&self, alloc: Global) -> Result<String, AllocError> {
+        match self {
+            Fault::Usage { text } => text.clone(),
+            Fault::Text { path, fault } => format!(in alloc; "colock: {path}: {fault}\n"),
+            Fault::NoType { path, x, place } => {
+                format!(in alloc; "colock: {path}: object {x}: no type {place}\n")
+            }
+            Fault::BadParameter => String::from_str(alloc, "colock: BadParameter\n"),
+            Fault::TooLarge => String::from_str(alloc, "colock: TooLarge\n"),
+            Fault::CannotRead { path } => format!(in alloc; "colock: {path}: cannot read\n"),
+            Fault::NoMemory => String::from_str(alloc, "colock: no memory\n"),
+            Fault::Output => String::from_str(alloc, ""),
+        }
+    }
+}
+
+impl From<AllocError> for Fault<'_> {
+    ghost from_gives = { λ _ fault. fault ≡ NoMemory };
+
+    fn from(_error: AllocError) -> Self {
+        Fault::NoMemory
+    }
+}
+
+impl<T: Drop> From<AllocFailed<T>> for Fault<'_> {
+    ghost from_gives = { λ _ fault. fault ≡ NoMemory };
+
+    fn from(_error: AllocFailed<T>) -> Self {
+        Fault::NoMemory
+    }
+}
+
+impl From<OutFault> for Fault<'_> {
+    ghost from_gives = { λ _ fault. fault ≡ Output };
+
+    fn from(_fault: OutFault) -> Self {
+        Fault::Output
+    }
+}

@@ -1,0 +1,182 @@
+-- How a task ends, from what came of it and what was handed on.
+use Rattle.std.proofs.Common.{◌≡◌, ◌∙◌, ◌⊎◌, ℕ, zero, suc, List, [], ◌∷◌, ◌++◌, length, take, Option, Some, None, IfSome, Result, Ok, Err, refl, sym, ap, subst, inl, inr, ⊎_elim, append-nil, take_at}
+use Rattle.std.proofs.Math.Seq.{take-length}
+use Rattle.std.specs.Io.KnownBytes.{Appends, Keeps, append_known}
+use Rattle.command_files.specs.Answers.{ComesOr, Refuses}
+use Rattle.command_files.specs.Status.{status_of}
+use Rattle.command_files.specs.declared.fault.Fault.{Fault}
+use Rattle.command_files.specs.declared.fault.Fault.TheVariants.{Usage, Text, NoType, BadParameter, TooLarge, CannotRead, NoMemory, Output}
+use Rattle.command_files.specs.declared.status.Status.{Status}
+use Rattle.command_files.specs.declared.status.Status.TheVariants.{Yes, No, BadInput, Failed}
+use Rattle.command_files.specs.declared.status.Verdict.{Verdict}
+use Rattle.command_files.specs.declared.status.Verdict.TheVariants as verdict
+use Rattle.command_words.specs.Words.{AreNoTask}
+use Rattle.command_words.specs.declared.task.Task.{Task}
+use Rattle.commands.specs.Concluded.{Concludes, IsBegun, IsHandedOn}
+use Rattle.commands.specs.Doing.{Answer, AnswersWords, Begun, Does, DoesNothing, DoesWords, IsAmiss, Started, Written}
+use Rattle.store_files.specs.Types.{Held}
+
+-- ---- bytes
+
+-- a beginning of a beginning is one
+take_again : (xs : List ℕ) (m n : ℕ) → (k : ℕ) × (take m (take n xs) ≡ take k xs)
+take_again xs zero n = (zero, refl)
+take_again [] (suc m) zero = (zero, refl)
+take_again [] (suc m) (suc n) = (zero, refl)
+take_again (x ∷ xs) (suc m) zero = (zero, refl)
+take_again (x ∷ xs) (suc m) (suc n) = let rest = take_again xs m n in (suc rest.0, ap (λ ys. x ∷ ys) rest.1)
+
+-- nothing has no beginning but nothing
+take_none : (n : ℕ) → take {A = ℕ} n [] ≡ []
+take_none zero = refl
+take_none (suc n) = refl
+
+-- what was gathered where nothing was waiting was handed on
+pub handed_on : (old gathered new : Option (List ℕ)) (text : List ℕ) → Appends (append_known old []) gathered text → IsHandedOn gathered new → Appends old new text
+handed_on None gathered new text more kept = tt
+handed_on (Some xs) None new text more kept = absurd more
+handed_on (Some xs) (Some ys) None text more kept = absurd kept
+handed_on (Some xs) (Some ys) (Some zs) text more kept = kept ∙ more ∙ ap (λ (front : List ℕ). front ++ text) (append-nil xs)
+
+-- or a beginning of it was, where the output had nothing
+pub begun : (old gathered new : Option (List ℕ)) (text : List ℕ) → IfSome old (λ xs. xs ≡ []) → Appends (append_known old []) gathered text → IsBegun gathered new
+    → (n : ℕ) × Appends old new (take n text)
+begun None gathered new text nothing more part = (zero, tt)
+begun (Some xs) None new text nothing more part = absurd more
+begun (Some xs) (Some ys) None text nothing more part = absurd part.1
+begun (Some xs) (Some ys) (Some zs) text nothing more part =
+    let whole : ys ≡ text = more ∙ ap (λ (front : List ℕ). (front ++ []) ++ text) nothing in
+    let front : take (length zs) text ≡ zs = ap (take (length zs)) (sym whole ∙ sym part.1) ∙ take_at zs part.0 (length zs) refl in
+    (length zs, sym front ∙ sym (ap (λ (b : List ℕ). b ++ take (length zs) text) nothing))
+
+-- a text that stayed as it was took nothing
+pub stayed : (old : Option (List ℕ)) (gathered : Option (List ℕ)) → gathered ≡ append_known old [] → Appends (append_known old []) gathered []
+stayed None gathered same = tt
+stayed (Some xs) gathered same = subst (λ (g : Option (List ℕ)). Appends (append_known (Some xs) []) g []) (sym same) (sym (append-nil (xs ++ [])))
+
+-- a beginning of nothing is nothing
+begun_nothing : (old gathered new : Option (List ℕ)) → IfSome old (λ xs. xs ≡ []) → Appends (append_known old []) gathered [] → IsBegun gathered new → Appends old new []
+begun_nothing old gathered new nothing more part =
+    let b = begun old gathered new [] nothing more part in
+    subst (λ (bytes : List ℕ). Appends old new bytes) (take_none b.0) b.1
+
+-- ---- statuses
+
+module _ (old gathered new err new_err : Option (List ℕ)) (status : Status) (nothing : IfSome old (λ xs. xs ≡ [])) where
+  -- of a fault before anything was written the output takes nothing
+  silent : (fault : Fault) → Appends (append_known old []) gathered [] → Concludes (Err fault) gathered status new err new_err → Appends old new []
+  silent fault more ended = ⊎_elim (λ all. handed_on old gathered new [] more all.1) (λ part. begun_nothing old gathered new nothing more part.1) ended
+
+  pub does_nothing : (fault : Fault) → gathered ≡ append_known old [] → Concludes (Err fault) gathered status new err new_err → DoesNothing fault status old new
+  does_nothing fault same ended = (
+    ⊎_elim (λ all. inl all.0) (λ part. inr part.0) ended,
+    silent fault (stayed old gathered same) ended,
+  )
+
+  -- and the status says that what was given is amiss, or that the program failed
+  amiss_or_failed : (bad : Type 0) (fault : Fault) → Refuses bad fault → (status ≡ status_of fault) ⊎ (status ≡ Failed) → ((status ≡ BadInput) × bad) ⊎ (status ≡ Failed)
+  amiss_or_failed bad (Usage text) refused which = ⊎_elim (λ is. inl (is, refused)) (λ is. inr is) which
+  amiss_or_failed bad (Text path fault) refused which = ⊎_elim (λ is. inl (is, refused)) (λ is. inr is) which
+  amiss_or_failed bad (NoType path x place) refused which = ⊎_elim (λ is. inl (is, refused)) (λ is. inr is) which
+  amiss_or_failed bad BadParameter refused which = ⊎_elim (λ is. inl (is, refused)) (λ is. inr is) which
+  amiss_or_failed bad TooLarge refused which = ⊎_elim (λ is. inl (is, refused)) (λ is. inr is) which
+  amiss_or_failed bad (CannotRead path) refused which = ⊎_elim (λ is. inr is) (λ is. inr is) which
+  amiss_or_failed bad NoMemory refused which = ⊎_elim (λ is. inr is) (λ is. inr is) which
+  amiss_or_failed bad Output refused which = absurd refused
+
+  pub refuses_words : (bad : Type 0) (fault : Fault) → Refuses bad fault → gathered ≡ append_known old [] → Concludes (Err fault) gathered status new err new_err
+      → (((status ≡ BadInput) × bad) ⊎ (status ≡ Failed)) × Appends old new []
+  refuses_words bad fault refused same ended =
+      let none = does_nothing fault same ended in
+      (amiss_or_failed bad fault refused none.0, none.1)
+
+  module _ (holds : Held) (task : Task) where
+    abbrev Ends : Status → Type 0
+    Ends s = Does holds task s old new err new_err
+
+    abbrev Comes : Result Verdict Fault → Type 0
+    Comes answer = ComesOr (Written holds task) (Begun holds task) (Answer holds task) (IsAmiss holds task) answer (append_known old []) gathered
+
+    -- the program failed behind a text, of which the output took a beginning or the whole
+    failed_behind : (text : List ℕ) → Started holds task text → Appends (append_known old []) gathered text → IsBegun gathered new → Ends Failed
+    failed_behind text started more part = let b = begun old gathered new text nothing more part in inr (text, b.0, started, b.1)
+
+    failed_whole : (text : List ℕ) → Started holds task text → Appends (append_known old []) gathered text → IsHandedOn gathered new → Ends Failed
+    failed_whole text started more all =
+        inr (text, length text, started, subst (λ (bytes : List ℕ). Appends old new bytes) (sym (take-length text)) (handed_on old gathered new text more all))
+
+    -- of an answer
+    answered : (v : Verdict) → Comes (Ok v) → Concludes (Ok v) gathered status new err new_err → Ends status
+    answered verdict.Yes c ended =
+        ⊎_elim (λ all. subst Ends (sym all.0) (c.0, c.1, handed_on old gathered new c.0 c.2 all.1, all.2))
+        (λ part. subst Ends (sym part.0) (failed_behind c.0 (inl (verdict.Yes, c.1)) c.2 part.1)) ended
+    answered verdict.No c ended =
+        ⊎_elim (λ all. subst Ends (sym all.0) (c.0, c.1, handed_on old gathered new c.0 c.2 all.1, all.2))
+        (λ part. subst Ends (sym part.0) (failed_behind c.0 (inl (verdict.No, c.1)) c.2 part.1)) ended
+
+    -- of a fault of what the user gave
+    amiss : (fault : Fault) → (status_of fault ≡ BadInput) → IsAmiss holds task × (gathered ≡ append_known old []) → Concludes (Err fault) gathered status new err new_err → Ends status
+    amiss fault input c ended =
+        let none = does_nothing fault c.1 ended in
+        ⊎_elim (λ is. subst Ends (sym (is ∙ input)) (c.0, none.1)) (λ is. subst Ends (sym is) (inl none.1)) none.0
+
+    -- of one that left nothing written
+    failed : (fault : Fault) → (status_of fault ≡ Failed) → gathered ≡ append_known old [] → Concludes (Err fault) gathered status new err new_err → Ends status
+    failed fault is_failed same ended =
+        let none = does_nothing fault same ended in
+        ⊎_elim (λ is. subst Ends (sym (is ∙ is_failed)) (inl none.1)) (λ is. subst Ends (sym is) (inl none.1)) none.0
+
+    -- of one behind a text
+    failed_text : (fault : Fault) → (status_of fault ≡ Failed) → (text : List ℕ) → Started holds task text → Appends (append_known old []) gathered text
+        → Concludes (Err fault) gathered status new err new_err → Ends status
+    failed_text fault is_failed text started more ended =
+        ⊎_elim (λ all. subst Ends (sym (all.0 ∙ is_failed)) (failed_whole text started more all.1))
+        (λ part. subst Ends (sym part.0) (failed_behind text started more part.1)) ended
+
+    -- a beginning of a beginning of a text
+    shorter : (text : List ℕ) (n : ℕ) → Started holds task text → (b : (k : ℕ) × Appends old new (take k (take n text))) → Ends Failed
+    shorter text n started b =
+        let k = take_again text b.0 n in
+        inr (text, k.0, started, subst (λ (bytes : List ℕ). Appends old new bytes) k.1 b.1)
+
+    failed_output : (text : List ℕ) (n : ℕ) → Started holds task text → Appends (append_known old []) gathered (take n text)
+        → Concludes (Err Output) gathered status new err new_err → Ends status
+    failed_output text n started more ended =
+        ⊎_elim (λ all. subst Ends (sym all.0) (inr (text, n, started, handed_on old gathered new (take n text) more all.1)))
+        (λ part. subst Ends (sym part.0) (shorter text n started (begun old gathered new (take n text) nothing more part.1))) ended
+
+    pub does : (answer : Result Verdict Fault) → Comes answer → Concludes answer gathered status new err new_err → Ends status
+    does (Ok v) c ended = answered v c ended
+    does (Err (Usage text)) c ended = amiss (Usage text) refl c ended
+    does (Err (Text path fault)) c ended = amiss (Text path fault) refl c ended
+    does (Err (NoType path x place)) c ended = amiss (NoType path x place) refl c ended
+    does (Err BadParameter) c ended = amiss BadParameter refl c ended
+    does (Err TooLarge) c ended = amiss TooLarge refl c ended
+    does (Err (CannotRead path)) c ended = failed (CannotRead path) refl c ended
+    does (Err NoMemory) c ended =
+        ⊎_elim (λ same. failed NoMemory refl same ended) (λ b. failed_text NoMemory refl b.0 (inr (inr b.1)) b.2 ended) c
+    does (Err Output) c ended = failed_output c.0 c.1 (inr (inl c.2)) c.3 ended
+
+  -- what the words ask for is done, or the words are no task's
+  pub does_words : (holds : Held) (words given : List (List ℕ)) (waits : List ℕ) (answer : Result Verdict Fault) → given ≡ words → waits ≡ []
+      → AnswersWords holds given answer (append_known old waits) gathered → Concludes answer gathered status new err new_err → DoesWords holds words status old new err new_err
+  does_words holds words given waits answer same none answers ended =
+      let here = subst (λ (ws : List (List ℕ)). AnswersWords holds ws answer (append_known old []) gathered) same
+      (subst (λ (b : List ℕ). AnswersWords holds given answer (append_known old b) gathered) none answers) in
+      ⊎_elim (λ done. inl (done.0, done.1, does holds done.0 answer done.2 ended))
+      (λ refused. inr (refuses_words (AreNoTask words) refused.0 refused.2 refused.3
+      (subst (λ (a : Result Verdict Fault). Concludes a gathered status new err new_err) refused.1 ended))) here
+
+-- memory was refused for the words
+pub no_memory : (old new err new_err : Option (List ℕ)) (status : Status) (waits : List ℕ) (holds : Held) (words : List (List ℕ)) → IfSome old (λ xs. xs ≡ []) → waits ≡ []
+    → Concludes (Err NoMemory) (append_known old waits) status new err new_err → DoesWords holds words status old new err new_err
+no_memory old new err new_err status waits holds words nothing none ended =
+    inr (refuses_words old (append_known old []) new err new_err status nothing (AreNoTask words) NoMemory tt refl
+    (subst (λ (b : List ℕ). Concludes (Err NoMemory) (append_known old b) status new err new_err) none ended))
+
+-- there are no words
+pub no_words : (old new err new_err : Option (List ℕ)) (status : Status) (waits : List ℕ) (fault : Fault) → IfSome old (λ xs. xs ≡ []) → waits ≡ []
+    → Concludes (Err fault) (append_known old waits) status new err new_err → DoesNothing fault status old new
+no_words old new err new_err status waits fault nothing none ended =
+    does_nothing old (append_known old []) new err new_err status nothing fault refl
+    (subst (λ (b : List ℕ). Concludes (Err fault) (append_known old b) status new err new_err) none ended)

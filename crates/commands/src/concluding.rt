@@ -1,0 +1,42 @@
+//! How the program ends.
+
+ghost use Rattle.std.specs.Prelude.{◌≡◌, None, OnOk, OnErr};
+ghost use Rattle.commands.specs.Concluded.{Concludes, IsBegun, IsHandedOn};
+ghost use Rattle.outputs.specs.Gathered.{taken_by, under};
+
+use crate::console::Console;
+use command_files::{Fault, Status, Verdict, say_fault};
+use outputs::{Gathered, Out, OutFault};
+use std::alloc::Global;
+
+/// Hands on what is gathered, says the fault where there is one, and answers the status. Where the output
+/// failed nothing is said.
+pub(crate) fn conclude<W: Out, E: Out>(
+    alloc: Global,
+    answer: Result<Verdict, Fault<'_>>,
+    console: &mut Console<W, E>,
+) -> Status
+    requires err_takes { E.fault console.old.err ≡ None }
+    ensures { Concludes answer.entry (taken_by W.taken console.old.out) result (W.taken (under console.new.out)) (E.taken console.old.err) (E.taken console.new.err) }
+{
+    match (hand_on(&mut console.out), answer) {
+        (Err(_), _) => Status::Failed,
+        (Ok(()), Ok(verdict)) => verdict.status(),
+        (Ok(()), Err(fault)) => say_fault(alloc, &fault, &mut console.err),
+    }
+}
+
+/// Hands on what is gathered.
+///
+/// # Errors
+///
+/// The output failed, now or before, and took a beginning of it.
+fn hand_on<W: Out>(out: &mut Gathered<W>) -> Result<(), OutFault>
+    ensures all { OnOk result (IsHandedOn (taken_by W.taken out.old) (W.taken (under out.new))) }
+    ensures part { OnErr result (IsBegun (taken_by W.taken out.old) (W.taken (under out.new))) }
+{
+    match out.fault() {
+        Some(fault) => Err(fault),
+        None => out.flush(),
+    }
+}

@@ -1,0 +1,17 @@
+use Rattle.std.proofs.Common.{rules, Some, [], ◌∷◌, ◌++◌, set, refl, ap, ◌∙◌, sym}
+use Rattle.history_audit.specs.Slots.{row, its_of}
+use Rattle.history_audit.proofs.Judged.{there, op_taken}
+use Rattle.history_audit.proofs.judge.Judge.op.Goals as goal
+use Rattle.history_audit.proofs.judge.Judge.op.Goals.{in-Ok, in-Err}
+
+pub returns-clause-judged : goal.returns-clause-judged
+returns-clause-judged c =
+    elim c.match-add.branch [
+      | in-Ok w ↦
+          rw (w.result-is)
+          (op_taken c.moved_rows_agree.ensures _ c.args.self.now c.add.new.self c.args.t _
+          (there c.self.inside.rows c.args.self.now c.args.t c.self.view_is (sym c.if-not-is_open.ensures))
+          c.args.operation.x c.args.operation.k (search rules)
+          (w.in-Ok.ensures.ok ∙ ap (λ rows. set rows c.args.t (Some (its_of (row c.self.inside.rows c.args.t) ++ c.args.operation ∷ []))) c.self.view_is))
+      | in-Err w ↦ rw (w.result-is) refl
+    ]

@@ -1,0 +1,37 @@
+-- When an event is judged rightly.
+use Rattle.std.specs.Prelude.{◌≡◌, ℕ, List, [], ◌∷◌, ◌++◌, Bool, true, false, Option, Some, Result, Ok, Err}
+use Rattle.type_table.specs.Table.{Table}
+use Rattle.object_trait.specs.declared.event.Event.{Event}
+use Rattle.object_trait.specs.declared.event.EventKind.{EventKind}
+use Rattle.object_trait.specs.declared.event.EventKind.TheVariants.{Begin, Op}
+use Rattle.serial_order.specs.History.{seen, MayStand}
+use Rattle.history_audit.specs.declared.operation.Operation.{Operation}
+use Rattle.history_audit.specs.declared.event_fault.EventFault.{EventFault}
+use Rattle.history_audit.specs.declared.event_fault.EventFault.TheVariants.{Bad, NoMemory}
+use Rattle.history_audit.specs.Rows.{AreRows, committed_in}
+
+-- the rows have to grow for the event
+abbrev pub takes_memory : EventKind → Bool
+takes_memory (Begin t) = true
+takes_memory (Op t x k) = true
+takes_memory _ = false
+
+-- The event is judged behind every list of events with which the old rows agree. Where it is taken it may stand there, the new rows
+-- agree with the events and this one, whichever worker's it is, and what is handed out is what it commits. Where it is bad it may
+-- not stand there. Memory is refused to a begin or an operation alone
+abbrev pub Judges : List Table → List (Option (List Operation)) → EventKind → Result (Option (List Operation)) EventFault → List (Option (List Operation)) → Type 0
+Judges tables old event (Ok its) new =
+    (H : List Event) (w : ℕ) → AreRows old (seen H)
+    → MayStand tables (seen H) event × AreRows new (seen (H ++ (record { worker = w; kind = event }) ∷ [])) × (its ≡ committed_in event (seen H))
+Judges tables old event (Err Bad) new = (H : List Event) → AreRows old (seen H) → MayStand tables (seen H) event → ⊥
+Judges tables old event (Err NoMemory) new = takes_memory event ≡ true
+
+-- the event is judged, whatever it commits
+abbrev pub Takes : List Table → List (Option (List Operation)) → EventKind → Result (Unit {0}) EventFault → List (Option (List Operation)) → Type 0
+Takes tables old event (Ok done) new = (its : Option (List Operation)) × Judges tables old event (Ok its) new
+Takes tables old event (Err fault) new = Judges tables old event (Err fault) new
+
+-- what a commit hands out is what it commits
+abbrev pub handed : Result (List Operation) EventFault → Result (Option (List Operation)) EventFault
+handed (Ok its) = Ok (Some its)
+handed (Err fault) = Err fault

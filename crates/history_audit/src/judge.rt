@@ -1,0 +1,167 @@
+ghost use Rattle.std.specs.Prelude.{◌≡◌, ◌↔◌, ℕ, [], List, map, slice_get, IsTrue, OnErr};
+ghost use Rattle.type_table.specs.Table.{Table};
+ghost use Rattle.serial_order.specs.History.{IsOperation};
+ghost use Rattle.object_trait.specs.declared.event.EventKind.TheVariants as kind;
+ghost use Rattle.history_audit.specs.Judges.{Judges, Takes, handed};
+
+use crate::event_fault::EventFault;
+use crate::laws::moved_rows_agree;
+use crate::operation::Operation;
+use crate::operations::Operations;
+use crate::slots::Slots;
+use object_trait::EventKind;
+use std::alloc::Global;
+use std::marker::Model;
+use type_table::TypeTable;
+
+/// What comes of an event: it is taken, or why it isn't.
+type Verdict = Result<(), EventFault>;
+
+/// Judges events one after another, and keeps of those before what that takes: for each transaction that
+/// began its operations that live, and nothing where it ended.
+#[derive(Drop)]
+pub struct Judge {
+    rows: Slots,
+}
+
+impl Model for Judge {
+    ghost use Rattle.std.specs.Prelude.{List, Option};
+    ghost use Rattle.history_audit.specs.declared.operation.Operation.{Operation};
+
+    ghost Value = { List (Option (List Operation)) };
+
+    ghost view = { λ a. a.rows };
+}
+
+impl Judge {
+    /// Before the first event. It takes no memory.
+    pub fn new(alloc: Global) -> Judge
+        ensures { result ≡ [] }
+    {
+        Judge {
+            rows: Slots::new(alloc),
+        }
+    }
+
+    /// Judges one more event. What a commit commits is let go: `commit` hands it out. Where the event is bad or
+    /// memory was refused, nothing changes.
+    pub fn judge(&mut self, tables: &[&TypeTable], event: EventKind) -> Result<(), EventFault>
+        ensures judged { Takes (map (λ t. t.now) tables.now) self.old event result self.new }
+        ensures kept { OnErr result (self.new ≡ self.old) }
+    {
+        match event {
+            EventKind::Begin { t } => self.begin(t),
+            EventKind::Op { t, x, k } => self.op(tables, t, Operation { x, k }),
+            EventKind::Busy { c, t, x, .. } => self.unanswered(tables, t, Operation { x, k: c }),
+            EventKind::None { t, x, c } => self.unanswered(tables, t, Operation { x, k: c }),
+            EventKind::Commit { t } => match self.commit(t) {
+                Ok(_) => Ok(()),
+                Err(fault) => Err(fault),
+            },
+            EventKind::Abort { t } => self.abort(t),
+            EventKind::Rollback { t, n } => self.rollback(t, n),
+        }
+    }
+
+    /// Judges a commit of t, and hands out the operations of t that live, in order. Where it is bad, nothing
+    /// changes.
+    pub fn commit(&mut self, t: u32) -> Result<Operations, EventFault>
+        ensures judged { (tables : List Table) → Judges tables self.old (kind.Commit t) (handed result) self.new }
+        ensures kept { OnErr result (self.new ≡ self.old) }
+    {
+        moved_rows_agree();
+        if !self.rows.is_open(t) {
+            return Err(EventFault::Bad);
+        }
+        Ok(self.rows.end(t))
+    }
+
+    // A transaction's number is the number of those before it.
+    fn begin(&mut self, t: u32) -> Verdict
+        ensures judged { (tables : List Table) → Takes tables self.old (kind.Begin t) result self.new }
+        ensures kept { OnErr result (self.new ≡ self.old) }
+    {
+        moved_rows_agree();
+        if t as usize != self.rows.begun() {
+            return Err(EventFault::Bad);
+        }
+        match self.rows.begin(t) {
+            Ok(()) => Ok(()),
+            Err(_) => Err(EventFault::NoMemory),
+        }
+    }
+
+    // An operation of an open transaction.
+    fn op(&mut self, tables: &[&TypeTable], t: u32, operation: Operation) -> Verdict
+        ensures judged { Takes (map (λ t. t.now) tables.now) self.old (kind.Op t operation.x operation.k) result self.new }
+        ensures kept { OnErr result (self.new ≡ self.old) }
+    {
+        moved_rows_agree();
+        if !is_operation(tables, operation) {
+            return Err(EventFault::Bad);
+        }
+        if !self.rows.is_open(t) {
+            return Err(EventFault::Bad);
+        }
+        match self.rows.add(t, operation) {
+            Ok(()) => Ok(()),
+            Err(_) => Err(EventFault::NoMemory),
+        }
+    }
+
+    // An answer to an open transaction that isn't an operation, which changes nothing.
+    fn unanswered(&self, tables: &[&TypeTable], t: u32, operation: Operation) -> Verdict
+        ensures busy { (u : ℕ) → Takes (map (λ t. t.now) tables.now) self.now (kind.Busy operation.k t operation.x u) result self.now }
+        ensures none { Takes (map (λ t. t.now) tables.now) self.now (kind.None t operation.x operation.k) result self.now }
+    {
+        moved_rows_agree();
+        if !is_operation(tables, operation) {
+            return Err(EventFault::Bad);
+        }
+        if !self.rows.is_open(t) {
+            return Err(EventFault::Bad);
+        }
+        Ok(())
+    }
+
+    // The end of an open transaction, whose operations are struck.
+    fn abort(&mut self, t: u32) -> Verdict
+        ensures judged { (tables : List Table) → Takes tables self.old (kind.Abort t) result self.new }
+        ensures kept { OnErr result (self.new ≡ self.old) }
+    {
+        moved_rows_agree();
+        if !self.rows.is_open(t) {
+            return Err(EventFault::Bad);
+        }
+        let _ = self.rows.end(t);
+        Ok(())
+    }
+
+    // A strike of the last n operations of an open transaction.
+    fn rollback(&mut self, t: u32, n: u32) -> Verdict
+        ensures judged { (tables : List Table) → Takes tables self.old (kind.Rollback t n) result self.new }
+        ensures kept { OnErr result (self.new ≡ self.old) }
+    {
+        moved_rows_agree();
+        if !self.rows.is_open(t) {
+            return Err(EventFault::Bad);
+        }
+        let n = n as usize;
+        let count = self.rows.count(t);
+        if n == 0 || n > count {
+            return Err(EventFault::Bad);
+        }
+        self.rows.keep(t, count - n);
+        Ok(())
+    }
+}
+
+/// Whether the object is there and the operation is one of its table.
+fn is_operation(tables: &[&TypeTable], operation: Operation) -> bool
+    ensures { IsTrue result ↔ IsOperation (slice_get (map (λ t. t.now) tables.now) operation.x) operation.k }
+{
+    match tables.get(operation.x as usize) {
+        Some(table) => operation.k < table.op_count(),
+        None => false,
+    }
+}

@@ -1,2 +1,0 @@
-pub mod AuditLemmas
-pub mod Told

@@ -1,0 +1,11 @@
+//! The tests of the program, and of its texts and files.
+
+mod gathered;
+mod memory_source;
+mod programs;
+mod source;
+mod tasks;
+mod texts_read;
+mod texts_refused;
+mod texts_written;
+mod words;

@@ -1,0 +1,237 @@
+//! The whole program, from its words to what it writes.
+
+ghost use Rattle.std.specs.Prelude.{◌≡◌, None, IfOk};
+ghost use Rattle.outputs.specs.Out.{sink_fault};
+
+mod audits;
+mod checks;
+mod deferred;
+mod faults;
+mod first_faults;
+mod in_place;
+mod jobs;
+mod many;
+mod memory;
+mod processes;
+mod rollbacks;
+mod seeds;
+mod stopped;
+mod texts;
+
+use command_files::{Fault, Source, SourceFault, Status, say_fault};
+use commands::{Console, do_words};
+use outputs::{Gathered, Sink};
+use std::alloc::Global;
+use std::process::Abort;
+use std::sync::Wait;
+use std::test::Fail;
+use std::thread::Threads;
+use test_support::sinks::{AtEnd, Narrow, memory, sink_over};
+
+/// A path, and the text of the file there.
+type File<'a> = (&'a str, &'a str);
+
+/// The words after the program's name, the files, and what comes of them.
+#[derive(Clone, Copy)]
+pub struct Case<'a> {
+    pub words: &'a [&'a str],
+    pub files: &'a [File<'a>],
+    pub out: &'a str,
+    pub err: &'a str,
+    pub status: Status,
+}
+
+/// What the program says where memory was refused.
+const NO_MEMORY: &str = "colock: no memory\n";
+
+/// The status of the program, and what it wrote.
+#[derive(Drop)]
+pub struct Played {
+    status: Status,
+    out: Vec<u8>,
+    err: Vec<u8>,
+}
+
+impl Played {
+    /// Whether it is this.
+    pub fn is(&self, status: Status, out: &[u8], err: &str) -> bool {
+        self.status == status && self.out.as_slice() == out && self.err.as_slice() == err.as_bytes()
+    }
+
+    /// What standard output took, where there is this status and no fault is said.
+    pub fn answer(self, status: Status) -> Option<Vec<u8>> {
+        if self.status == status && self.err.is_empty() {
+            Some(self.out)
+        } else {
+            None
+        }
+    }
+
+    /// Whether it is what a case says.
+    fn is_of(&self, case: &Case<'_>) -> bool {
+        self.is(case.status, case.out.as_bytes(), case.err)
+    }
+
+    /// Whether it is what may come where memory was refused: it is said, behind whole lines; or a
+    /// command of a script, or a job, was refused for it.
+    fn wants_memory(&self) -> bool {
+        let whole = self.out.last().is_none_or(|byte| *byte == b'\n');
+        let said = self.status == Status::Failed && self.err.as_slice() == NO_MEMORY.as_bytes();
+        said && whole || self.refuses_a_part()
+    }
+
+    fn refuses_a_part(&self) -> bool {
+        let text = str::from_utf8(&self.out).unwrap_or("");
+        self.status == Status::Yes && self.err.is_empty() && text.contains(" refused 6 NoMemory\n")
+    }
+}
+
+/// The files of a case.
+#[derive(Drop)]
+struct CaseFiles<'a> {
+    alloc: Global,
+    files: &'a [File<'a>],
+}
+
+impl Source for CaseFiles<'_> {
+    fn bytes(&mut self, path: &str) -> Result<Vec<u8>, SourceFault> {
+        let Some(file) = self.files.iter().find(|file| file.0 == path) else {
+            return Err(SourceFault::CannotRead);
+        };
+        match file.1.as_bytes().to_vec(self.alloc) {
+            Ok(bytes) => Ok(bytes),
+            Err(_) => Err(SourceFault::NoMemory),
+        }
+    }
+}
+
+/// An output over memory, which may take only so many bytes.
+type Held = Sink<Narrow>;
+
+/// An output with memory for all that it takes, and room for so many bytes.
+fn held_output(alloc: Global, room: usize, at_end: AtEnd) -> Result<Held, Fail>
+    ensures { IfOk result (λ out. sink_fault out ≡ None) }
+{
+    Ok(sink_over(memory(alloc)?, 4096, room, at_end))
+}
+
+/// The words as the system gives them.
+fn owned(alloc: Global, words: &[&str]) -> Result<Vec<String>, Fault<'static>> {
+    let mut owned = Vec::with_capacity(alloc, words.len())?;
+    for word in words {
+        owned.push(String::from_str(alloc, word)?)?;
+    }
+    Ok(owned)
+}
+
+/// What the program does with these words over these files, with these two outputs.
+fn play_over<R: AllocGlobal + Threads + Wait + Sync, S: Source>(
+    rt: &R,
+    words: &[&str],
+    source: &mut S,
+    out: Held,
+    mut err: Held,
+) -> Played
+    requires out_takes { sink_fault out ≡ None }
+    requires err_takes { sink_fault err ≡ None }
+{
+    let Ok(out) = Gathered::new(rt.alloc(), out) else {
+        let status = say_fault(rt.alloc(), &Fault::NoMemory, &mut err);
+        let out = Vec::new(rt.alloc());
+        let err = err.into_inner().held;
+        return Played { status, out, err };
+    };
+    let mut console = Console { out, err };
+    let status = do_words(rt, owned(rt.alloc(), words), source, &mut console);
+    let Console { out, err } = console;
+    let out = out.into_inner().into_inner().held;
+    let err = err.into_inner().held;
+    Played { status, out, err }
+}
+
+/// What it does with a case's words over its files, with these two outputs.
+fn play_on<R: AllocGlobal + Threads + Wait + Sync>(
+    rt: &R,
+    case: &Case<'_>,
+    out: Held,
+    err: Held,
+) -> Played
+    requires out_takes { sink_fault out ≡ None }
+    requires err_takes { sink_fault err ≡ None }
+{
+    let mut source = CaseFiles {
+        alloc: rt.alloc(),
+        files: case.files,
+    };
+    play_over(rt, case.words, &mut source, out, err)
+}
+
+/// What it does with words over files, with outputs that take all.
+pub fn outcome_of<R: AllocGlobal + Threads + Wait + Sync, S: Source>(
+    rt: &R,
+    words: &[&str],
+    source: &mut S,
+) -> Result<Played, Fail> {
+    let out = held_output(rt.alloc(), usize::MAX, AtEnd::Fails)?;
+    let err = held_output(rt.alloc(), usize::MAX, AtEnd::Fails)?;
+    Ok(play_over(rt, words, source, out, err))
+}
+
+/// The same of a case.
+fn play<R: AllocGlobal + Threads + Wait + Sync>(rt: &R, case: &Case<'_>) -> Result<Played, Fail> {
+    let mut source = CaseFiles {
+        alloc: rt.alloc(),
+        files: case.files,
+    };
+    outcome_of(rt, case.words, &mut source)
+}
+
+/// That the program does what a case says. Where one allocation is refused, that is said, and the next
+/// try has it.
+fn plays<R: Abort + AllocGlobal + Threads + Wait + Sync>(
+    rt: &R,
+    case: &Case<'_>,
+) -> Result<(), Fail> {
+    let first = play(rt, case)?;
+    if first.is_of(case) {
+        return Ok(());
+    }
+    assert!(rt; first.wants_memory());
+    assert!(rt; play(rt, case)?.is_of(case));
+    Ok(())
+}
+
+fn all_play<R: Abort + AllocGlobal + Threads + Wait + Sync>(
+    rt: &R,
+    cases: &[Case<'_>],
+) -> Result<(), Fail> {
+    for case in cases {
+        plays(rt, case)?;
+    }
+    Ok(())
+}
+
+/// The cases of runs and audits.
+fn all_cases() -> [&'static [Case<'static>]; 6] {
+    [
+        &in_place::CASES,
+        &deferred::CASES,
+        &rollbacks::CASES,
+        &faults::CASES,
+        &first_faults::CASES,
+        &audits::CASES,
+    ]
+}
+
+#[test]
+fn runs_and_audits(rt: HostRuntime) -> Result<(), Fail> {
+    for cases in all_cases() {
+        all_play(&rt, cases)?;
+    }
+    Ok(())
+}
+
+#[test]
+fn processes_over_memory(rt: HostRuntime) -> Result<(), Fail> {
+    all_play(&rt, &processes::CASES)
+}

@@ -1,0 +1,74 @@
+//! Outputs that stop: the program ends with status 3 and says nothing, and the output has taken a beginning
+//! of the text. That standard error stops changes no status.
+
+use super::audits::OWN_OUTPUT;
+use super::checks::{CHECKED, MADE, WRITTEN};
+use super::faults::{EIGHT_DIGITS, INITIAL_OUTSIDE};
+use super::rollbacks::BOTH_KINDS;
+use super::{Case, held_output, play_on};
+use command_files::Status;
+use std::process::Abort;
+use std::sync::Wait;
+use std::test::Fail;
+use std::thread::Threads;
+use test_support::sinks::AtEnd;
+
+/// A run, an audit, a run with an object that is refused, a check, a type that is made, and its tables.
+static CASES: [Case<'static>; 6] = [
+    BOTH_KINDS,
+    OWN_OUTPUT,
+    INITIAL_OUTSIDE,
+    CHECKED,
+    MADE,
+    WRITTEN,
+];
+
+/// That a case stops where the output has room for so many bytes.
+fn stops_at<R: Abort + AllocGlobal + Threads + Wait + Sync>(
+    rt: &R,
+    case: &Case<'_>,
+    room: usize,
+    at_end: AtEnd,
+) -> Result<(), Fail> {
+    let out = held_output(rt.alloc(), room, at_end)?;
+    let err = held_output(rt.alloc(), usize::MAX, at_end)?;
+    let taken = case.out.as_bytes().get(..room).ok_or("no beginning")?;
+    assert!(rt; play_on(rt, case, out, err).is(Status::Failed, taken, ""));
+    Ok(())
+}
+
+fn stops<R: Abort + AllocGlobal + Threads + Wait + Sync>(
+    rt: &R,
+    case: &Case<'_>,
+) -> Result<(), Fail> {
+    for room in 0..case.out.len() {
+        stops_at(rt, case, room, AtEnd::Fails)?;
+        stops_at(rt, case, room, AtEnd::TakesNothing)?;
+    }
+    Ok(())
+}
+
+/// That a case has its status where standard error has room for so many bytes.
+fn ends_alike<R: Abort + AllocGlobal + Threads + Wait + Sync>(
+    rt: &R,
+    case: &Case<'_>,
+    room: usize,
+) -> Result<(), Fail> {
+    let out = held_output(rt.alloc(), usize::MAX, AtEnd::Fails)?;
+    let err = held_output(rt.alloc(), room, AtEnd::Fails)?;
+    let played = play_on(rt, case, out, err);
+    let taken = case.err.get(..room).ok_or("no beginning")?;
+    assert!(rt; played.is(case.status, case.out.as_bytes(), taken));
+    Ok(())
+}
+
+#[test]
+fn outputs_that_stop(rt: HostRuntime) -> Result<(), Fail> {
+    for case in &CASES {
+        stops(&rt, case)?;
+    }
+    for room in 0..EIGHT_DIGITS.err.len() {
+        ends_alike(&rt, &EIGHT_DIGITS, room)?;
+    }
+    Ok(())
+}

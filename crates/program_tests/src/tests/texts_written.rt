@@ -1,0 +1,147 @@
+//! What is written of a history, and what is read of it again.
+
+ghost use Rattle.std.specs.Prelude.{None};
+
+use super::texts_read::{HIGH_HISTORY, HISTORY};
+use history_text::{
+    HistoryFile, Out, OutFault, read_history, write_event, write_history, write_object,
+};
+use object_trait::{Event, EventKind};
+use outputs::{Failed, Sink};
+use std::alloc::Global;
+use std::process::Abort;
+use std::test::Fail;
+use test_support::sinks::{AtEnd, narrow_sink};
+
+/// The history with comments and spaces, as a run of the program writes it and as one may write it by
+/// hand.
+const COMMENTED: &[u8] = b"# By hand.
+ object  undo 0
+
+object intentions 0 
+begin 0 0
+begin 0 1
+op 0 0 0 0
+op 0 1 0 0
+op 0 0 1 0
+busy 0 1 1 0 0
+# refused 3 NoCall
+none 0 1 0 1
+rollback 0 0 2
+commit 0 1
+abort 0 0
+end
+# kept 0 1
+# kept 1 0
+# audit yes
+";
+
+/// The canonical text of a file.
+fn written(alloc: Global, file: &HistoryFile) -> Result<Vec<u8>, OutFault> {
+    let mut out = Sink::new(Vec::new(alloc));
+    write_history(&file.objects, &file.events, &mut out)?;
+    Ok(out.into_inner())
+}
+
+/// That the history of a text is written so, and that what is read of this is the history.
+fn is_written_as(rt: &(impl Abort + AllocGlobal), text: &[u8], wanted: &[u8]) -> Result<(), Fail> {
+    let file = read_history(rt.alloc(), text)?;
+    assert!(rt; written(rt.alloc(), &file)?.as_slice() == wanted);
+    let again = read_history(rt.alloc(), wanted)?;
+    assert!(rt; again.objects.as_slice() == file.objects.as_slice());
+    assert!(rt; again.events.as_slice() == file.events.as_slice());
+    Ok(())
+}
+
+#[test]
+fn histories_are_written_and_read_again(rt: HostRuntime) -> Result<(), Fail> {
+    is_written_as(&rt, HISTORY, HISTORY)?;
+    is_written_as(&rt, HIGH_HISTORY, HIGH_HISTORY)?;
+    is_written_as(&rt, COMMENTED, HISTORY)
+}
+
+/// An output that counts the pieces that it is offered, and takes them whole.
+#[derive(Drop)]
+struct Counting {
+    pieces: usize,
+    bytes: usize,
+}
+
+impl Out for Counting {
+    ghost taken = { λ _. None };
+
+    ghost fault = { λ _. None };
+
+    fn take(&mut self, piece: &[u8]) -> Result<usize, Failed> {
+        self.pieces = self.pieces.wrapping_add(1);
+        self.bytes = self.bytes.wrapping_add(piece.len());
+        Ok(piece.len())
+    }
+
+    fn fault(&self) -> Option<OutFault> {
+        None
+    }
+}
+
+/// The greatest event, and its line.
+const GREATEST: Event = Event {
+    worker: 255,
+    kind: EventKind::Busy {
+        c: 255,
+        t: 4_294_967_295,
+        x: 4_294_967_295,
+        u: 4_294_967_295,
+    },
+};
+
+const GREATEST_LINE: &[u8] = b"busy 255 4294967295 4294967295 255 4294967295\n";
+
+#[test]
+fn an_event_is_one_piece(rt: HostRuntime) -> Result<(), Fail> {
+    let mut out = Sink::new(Vec::new(rt.alloc()));
+    assert!(rt; write_event(&mut out, &GREATEST) == Ok(()));
+    assert!(rt; out.into_inner().as_slice() == GREATEST_LINE);
+    let file = read_history(rt.alloc(), HISTORY)?;
+    let mut out = Counting {
+        pieces: 0,
+        bytes: 0,
+    };
+    for event in &file.events {
+        assert!(rt; write_event(&mut out, event) == Ok(()));
+    }
+    assert!(rt; out.pieces == file.events.len());
+    for object in &file.objects {
+        assert!(rt; write_object(&mut out, object) == Ok(()));
+    }
+    assert!(rt; out.bytes.wrapping_add(4) == HISTORY.len());
+    Ok(())
+}
+
+/// That a writer with room for so many bytes holds these of the text, and stops it by this fault.
+fn stops(
+    rt: &(impl Abort + AllocGlobal),
+    file: &HistoryFile,
+    room: usize,
+    at_end: AtEnd,
+    fault: OutFault,
+) {
+    let mut out = narrow_sink(rt.alloc(), 7, room, at_end);
+    assert!(rt; write_history(&file.objects, &file.events, &mut out) == Err(fault));
+    assert!(rt; Some(out.into_inner().held.as_slice()) == HISTORY.get(..room));
+}
+
+#[test]
+fn a_fault_stops_the_history(rt: HostRuntime) -> Result<(), Fail> {
+    let file = read_history(rt.alloc(), HISTORY)?;
+    for room in 0..HISTORY.len() {
+        stops(&rt, &file, room, AtEnd::Fails, OutFault::Device);
+        stops(
+            &rt,
+            &file,
+            room,
+            AtEnd::TakesNothing,
+            OutFault::WroteNothing,
+        );
+    }
+    Ok(())
+}

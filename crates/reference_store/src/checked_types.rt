@@ -1,0 +1,26 @@
+//! Checked types, for objects.
+
+use std::alloc::Global;
+use std::sync::Arc;
+use std::test::Fail;
+use table_checker::{CheckedType, check};
+use type_table::Kind;
+use type_text::read_type;
+
+/// An object of a store: its kind of recovery, and the text of its type.
+pub type Sort = (Kind, &'static str);
+
+/// The type of this text, checked for this kind of recovery.
+fn checked_once(alloc: Global, text: &str, kind: Kind) -> Option<Arc<CheckedType>> {
+    let file = read_type(alloc, text.as_bytes()).ok()?;
+    let checked = check(file, kind).ok()?;
+    Arc::new(alloc, checked).ok()
+}
+
+/// The same. Where one allocation is refused, the next try has it.
+pub fn checked_of(alloc: Global, text: &str, kind: Kind) -> Result<Arc<CheckedType>, Fail> {
+    if let Some(checked) = checked_once(alloc, text, kind) {
+        return Ok(checked);
+    }
+    Ok(checked_once(alloc, text, kind).ok_or("no checked type")?)
+}

@@ -1,0 +1,8 @@
+//! What a store, a run and a worker do, told slowly from lists of what happened: the tests compare with it.
+#![tactic(auto)]
+
+pub mod asked;
+pub mod checked_types;
+pub mod reference;
+pub mod runs;
+pub mod work;

@@ -1,0 +1,243 @@
+//! What a run writes, told by a slow fold over the lines of its script. A command that met a refused
+//! allocation does nothing.
+
+use crate::asked::{Ask, Told};
+use crate::checked_types::{Sort, checked_of};
+use crate::reference::Reference;
+use object_trait::{Event, EventKind};
+use serial_order::Refusal;
+use std::alloc::{AllocError, Global};
+use std::sync::Arc;
+use std::test::Fail;
+use table_checker::CheckedType;
+use type_table::Kind;
+
+/// What a run writes of its commands and its objects, and the lines of the audit behind that.
+#[derive(Drop)]
+pub struct RunText {
+    pub run: Vec<u8>,
+    pub audit: Vec<u8>,
+}
+
+/// The line of a command that met a refused allocation.
+const NO_MEMORY: &str = "# refused 6 NoMemory";
+
+/// The line of another refusal.
+pub fn refusal_line(refusal: Refusal) -> &'static str {
+    match refusal {
+        Refusal::NotOpen => "# refused 1 NotOpen",
+        Refusal::NoObject => "# refused 2 NoObject",
+        Refusal::NoCall => "# refused 3 NoCall",
+        Refusal::TooManyOpen => "# refused 4 TooManyOpen",
+        Refusal::HistoryFull => "# refused 5 HistoryFull",
+        Refusal::NoMemory => NO_MEMORY,
+        Refusal::BadRollback => "# refused 7 BadRollback",
+    }
+}
+
+/// The line of an event of worker 0.
+pub fn event_line(alloc: Global, event: Event) -> Result<String, AllocError> {
+    let line = match event.kind {
+        EventKind::Begin { t } => format!(in alloc; "begin 0 {t}")?,
+        EventKind::Op { t, x, k } => format!(in alloc; "op 0 {t} {x} {k}")?,
+        EventKind::Busy { c, t, x, u } => format!(in alloc; "busy 0 {t} {x} {c} {u}")?,
+        EventKind::None { t, x, c } => format!(in alloc; "none 0 {t} {x} {c}")?,
+        EventKind::Commit { t } => format!(in alloc; "commit 0 {t}")?,
+        EventKind::Abort { t } => format!(in alloc; "abort 0 {t}")?,
+        EventKind::Rollback { t, n } => format!(in alloc; "rollback 0 {t} {n}")?,
+    };
+    Ok(line)
+}
+
+/// The number that a word is.
+fn number(word: Option<&str>) -> Option<u32> {
+    word?.parse().ok()
+}
+
+/// What a line of a script asks, where it is a command.
+fn ask_of(line: &'static str) -> Option<Ask> {
+    let mut words = line.split_whitespace();
+    let key = words.next()?;
+    if key == "begin" {
+        return Some(Ask::Begin);
+    }
+    let t = number(words.next())?;
+    match key {
+        "commit" => Some(Ask::Commit(t)),
+        "abort" => Some(Ask::Abort(t)),
+        "rollback" => Some(Ask::Rollback(t, number(words.next())?)),
+        "call" => Some(Ask::Call(t, number(words.next())?, words.next()?)),
+        _ => None,
+    }
+}
+
+/// The object of a line of a script, where it is one: the texts of the types stand in their order.
+fn sort_of(line: &str, types: &[&'static str]) -> Option<Sort> {
+    let mut words = line.split_whitespace();
+    if words.next()? != "object" {
+        return None;
+    }
+    let kind = Kind::of_word(words.next()?.as_bytes())?;
+    let place = number(words.next())?;
+    Some((kind, *types.get(place as usize)?))
+}
+
+/// Puts a line behind the others.
+pub fn push_line(text: &mut Vec<u8>, line: &str) -> Result<(), AllocError> {
+    text.extend_from_slice(line.as_bytes())?;
+    text.extend_from_slice(b"\n")?;
+    Ok(())
+}
+
+/// Puts the line of what comes of a command behind the others.
+fn push_told(
+    alloc: Global,
+    text: &mut Vec<u8>,
+    fold: &mut Reference,
+    ask: Ask,
+) -> Result<(), AllocError> {
+    if let Told::Refused(refusal) = fold.told(0, ask)? {
+        return push_line(text, refusal_line(refusal));
+    }
+    if let Some(event) = fold.events().last() {
+        let line = event_line(alloc, *event)?;
+        push_line(text, line.as_str())?;
+    }
+    Ok(())
+}
+
+/// The line at a place of a text.
+fn line_at(text: &[u8], place: usize) -> &[u8] {
+    text.split(|b| *b == b'\n').nth(place).unwrap_or(b"")
+}
+
+/// Puts what a run writes of the lines of its script behind its limit. A command whose line in the text
+/// that was written says that it met a refused allocation does nothing.
+fn push_lines(
+    alloc: Global,
+    text: &mut Vec<u8>,
+    fold: &mut Reference,
+    script: &'static str,
+    written: &[u8],
+) -> Result<(), AllocError> {
+    for (place, line) in script.lines().skip(1).enumerate() {
+        if let Some(ask) = ask_of(line) {
+            if line_at(written, place) == NO_MEMORY.as_bytes() {
+                push_line(text, NO_MEMORY)?;
+            } else {
+                push_told(alloc, text, fold, ask)?;
+            }
+        } else if line.starts_with("object ") {
+            push_line(text, line)?;
+        }
+    }
+    Ok(())
+}
+
+/// Puts the lines behind the commands.
+pub fn push_end(alloc: Global, text: &mut Vec<u8>, fold: &mut Reference) -> Result<(), AllocError> {
+    for t in 0..fold.count() {
+        if fold.open_at(0) == Some(t) {
+            push_told(alloc, text, fold, Ask::Abort(t))?;
+        }
+    }
+    push_line(text, "end")?;
+    for x in 0..256 {
+        if let Some(state) = fold.committed(x) {
+            let line = format!(in alloc; "# kept {x} {state}")?;
+            push_line(text, line.as_str())?;
+        }
+    }
+    Ok(())
+}
+
+/// The lines of the audit: who committed, in that order, and where their operations lead.
+pub fn audit_of(alloc: Global, fold: &Reference) -> Result<Vec<u8>, AllocError> {
+    let mut text = b"# audit yes\n".to_vec(alloc)?;
+    for event in fold.events() {
+        if let EventKind::Commit { t } = event.kind {
+            let line = format!(in alloc; "# commit {t}")?;
+            push_line(&mut text, line.as_str())?;
+        }
+    }
+    for x in 0..256 {
+        if let Some(state) = fold.serial_state(x) {
+            let line = format!(in alloc; "# serial {x} {state}")?;
+            push_line(&mut text, line.as_str())?;
+        }
+    }
+    Ok(text)
+}
+
+fn sorts_once(
+    alloc: Global,
+    script: &str,
+    types: &[&'static str],
+) -> Result<Vec<Sort>, AllocError> {
+    let mut sorts = Vec::new(alloc);
+    for line in script.lines() {
+        if let Some(sort) = sort_of(line, types) {
+            sorts.push(sort)?;
+        }
+    }
+    Ok(sorts)
+}
+
+/// The objects of a script, whose types have these texts. Where one allocation is refused, the next try
+/// has it.
+pub fn sorts_of(
+    alloc: Global,
+    script: &str,
+    types: &[&'static str],
+) -> Result<Vec<Sort>, AllocError> {
+    if let Ok(sorts) = sorts_once(alloc, script, types) {
+        return Ok(sorts);
+    }
+    sorts_once(alloc, script, types)
+}
+
+/// The checked types of these objects. Where one allocation is refused, the next try has it.
+pub fn types_of(alloc: Global, sorts: &[Sort]) -> Result<Vec<Arc<CheckedType>>, Fail> {
+    let mut types = Vec::new(alloc);
+    if types.reserve(sorts.len()).is_err() {
+        types.reserve(sorts.len())?;
+    }
+    for (kind, text) in sorts {
+        types
+            .push(checked_of(alloc, text, *kind)?)
+            .ok()
+            .ok_or("no room")?;
+    }
+    Ok(types)
+}
+
+/// What a run writes, by the slow fold over objects of these types.
+fn folded_once(
+    alloc: Global,
+    types: Vec<Arc<CheckedType>>,
+    script: &'static str,
+    written: &[u8],
+) -> Result<RunText, AllocError> {
+    let max = number(script.split_whitespace().nth(1)).unwrap_or(0);
+    let mut fold = Reference::new(alloc, types, max);
+    let mut run = Vec::new(alloc);
+    push_lines(alloc, &mut run, &mut fold, script, written)?;
+    push_end(alloc, &mut run, &mut fold)?;
+    let audit = audit_of(alloc, &fold)?;
+    Ok(RunText { run, audit })
+}
+
+/// What a run of a canonical script writes, where the text that was written tells which commands met
+/// refused allocations. Where the fold itself meets one, the next try has it.
+pub fn folded(
+    alloc: Global,
+    script: &'static str,
+    types: &[&'static str],
+    written: &[u8],
+) -> Result<RunText, Fail> {
+    let sorts = sorts_of(alloc, script, types)?;
+    if let Ok(folded) = folded_once(alloc, types_of(alloc, &sorts)?, script, written) {
+        return Ok(folded);
+    }
+    Ok(folded_once(alloc, types_of(alloc, &sorts)?, script, written)?)
+}

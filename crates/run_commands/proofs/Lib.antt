@@ -1,2 +1,0 @@
-pub mod PlanRuns
-pub mod CounterRun

@@ -1,0 +1,40 @@
+-- What a source tells stays while files are read, and so does what was read.
+use Rattle.std.proofs.Common.{◌≡◌, ℕ, List, Option, IfSome, subst}
+use Rattle.table_checker.specs.Checked.{Checked}
+use Rattle.table_checker.specs.declared.refusal.CheckRefusal.{CheckRefusal}
+use Rattle.type_text.specs.declared.type_file.TypeFile.{TypeFile}
+use Rattle.store_text.specs.declared.line.ObjectLine.{ObjectLine}
+use Rattle.command_files.specs.Files.{IsFaulty, IsFileAt}
+use Rattle.store_files.specs.ObjectTypes.{AreTypesAt, HasNoType, HasTypeFault, IsRefusedAt, in_type, no_type}
+use Rattle.store_files.specs.Types.{AreFilesAt, Held, IsFirstFaulty}
+
+module _ (holds later : Held) (kept : (other : List ℕ) → later other ≡ holds other) where
+  pub files_kept : (paths : List (List ℕ)) (files : List TypeFile) → AreFilesAt later paths files → AreFilesAt holds paths files
+  files_kept paths files are = record {
+    as_many = are.as_many;
+    each = λ k path file at there. subst (λ (o : Option (List ℕ)). IsFileAt o file) (kept path) (are.each k path file at there);
+  }
+
+  pub faulty_kept : (paths : List (List ℕ)) → IsFirstFaulty later paths → IsFirstFaulty holds paths
+  faulty_kept paths first = record {
+    k = first.k;
+    path = first.path;
+    there = first.there;
+    files = first.files;
+    before = files_kept _ first.files first.before;
+    faulty = subst (λ (o : Option (List ℕ)). IfSome o IsFaulty) (kept first.path) first.faulty;
+  }
+
+  pub types_kept : (words : List (List ℕ)) (objects : List ObjectLine) (types : List Checked) → AreTypesAt later words objects types → AreTypesAt holds words objects types
+  types_kept words objects types at = record { files = at.files; held = files_kept words at.files at.held; are = at.are }
+
+  pub refused_kept : (words : List (List ℕ)) (objects : List ObjectLine) (x : ℕ) (refusal : CheckRefusal) → IsRefusedAt later words objects x refusal
+      → IsRefusedAt holds words objects x refusal
+  refused_kept words objects x refusal at = record { files = at.files; held = files_kept words at.files at.held; first = at.first }
+
+  no_type_kept : (words : List (List ℕ)) (objects : List ObjectLine) → HasNoType later words objects → HasNoType holds words objects
+  no_type_kept words objects has = record { files = has.files; held = files_kept words has.files has.held; x = has.x; place = has.place; first = has.first }
+
+  pub type_fault_kept : (words : List (List ℕ)) (objects : List ObjectLine) → HasTypeFault later words objects → HasTypeFault holds words objects
+  type_fault_kept words objects (in_type first) = in_type (faulty_kept words first)
+  type_fault_kept words objects (no_type has) = no_type (no_type_kept words objects has)

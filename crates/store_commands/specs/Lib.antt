@@ -1,0 +1,4 @@
+pub mod Audited
+pub mod Passing
+pub mod Runs
+pub mod Works

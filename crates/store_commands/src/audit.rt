@@ -1,0 +1,72 @@
+//! `audit`: whether the committed transactions of a history, run one after another, give the same replies.
+
+ghost use Rattle.std.specs.Prelude.{◌≡◌, None, map, IfOk, IfErr};
+ghost use Rattle.command_files.specs.declared.fault.Fault.TheVariants.{NoMemory};
+ghost use Rattle.command_files.specs.Answers.{Comes};
+ghost use Rattle.history_audit.specs.Text.{audit_text};
+ghost use Rattle.store_commands.specs.Audited.{AuditsFile, AuditsRead, HasAuditFault};
+ghost use Rattle.store_files.specs.Types.{IsUnplaced};
+
+use command_files::{Fault, Source, Verdict, put_answer, read_file};
+use history_audit::{Audit, AuditFault, audit, write_audit};
+use history_text::HistoryFile;
+use outputs::{Out, Sink};
+use std::alloc::Global;
+use store_files::{HistoryFormat, read_types, tables_of};
+use type_text::TypeFile;
+
+/// `audit HISTORY TYPE...`: files are read in the order of the words, each parsed before the next is
+/// opened, and then the place of each object is tested; no type is checked for a kind.
+///
+/// # Errors
+///
+/// A file can't be read or its text has a fault, no TYPE word is at an object's place, memory was
+/// refused, or the output failed.
+pub fn audit_history<'a, S: Source, W: Out>(
+    alloc: Global,
+    history: &'a str,
+    types: &[&'a str],
+    source: &mut S,
+    out: &mut W,
+) -> Result<Verdict, Fault<'a>>
+    requires { W.fault out.old ≡ None }
+    ensures { let words = map (λ p. p.now) types.now in let holds = S.holds source.old in
+        Comes (AuditsFile holds history.now words) (HasAuditFault holds history.now words) result (W.taken out.old) (W.taken out.new) }
+{
+    let read = read_file(alloc, &HistoryFormat, history, source)?;
+    let files = read_types(alloc, types, source)?;
+    audit_read(alloc, history, &read, &files, out)
+}
+
+/// The answer to a history that was read at a path, with these type files.
+fn audit_read<'a, W: Out>(
+    alloc: Global,
+    path: &'a str,
+    history: &HistoryFile,
+    files: &[TypeFile],
+    out: &mut W,
+) -> Result<Verdict, Fault<'a>>
+    requires { W.fault out.old ≡ None }
+    ensures { Comes (AuditsRead history.now files.now) (IsUnplaced files.now history.now.objects.items) result (W.taken out.old) (W.taken out.new) }
+{
+    let tables = tables_of(alloc, path, files, &history.objects)?;
+    let outcome = audit(alloc, &history.events, &tables);
+    let text = text_of(alloc, &outcome)?;
+    match outcome {
+        Ok(_) => put_answer(Verdict::Yes, &text, out),
+        Err(AuditFault::NoMemory) => Err(Fault::NoMemory),
+        Err(_) => put_answer(Verdict::No, &text, out),
+    }
+}
+
+/// The lines of an audit, put together in memory, so that a growth that is refused leaves nothing written.
+fn text_of<'a>(alloc: Global, outcome: &Result<Audit, AuditFault>) -> Result<Vec<u8>, Fault<'a>>
+    ensures text { IfOk result (λ text. text.items ≡ audit_text outcome.now) }
+    ensures failed { IfErr result (λ fault. fault ≡ NoMemory) }
+{
+    let mut text = Sink::new(Vec::new(alloc));
+    match write_audit(outcome, &mut text) {
+        Ok(()) => Ok(text.into_inner()),
+        Err(_) => Err(Fault::NoMemory),
+    }
+}

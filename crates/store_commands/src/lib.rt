@@ -1,0 +1,14 @@
+//! The commands over stores: `run`, `work` and `stress`, whose audits never say no, and `audit`.
+#![tactic(auto)]
+
+mod audit;
+mod fresh;
+mod passing;
+mod run;
+mod schedule;
+mod work;
+
+pub use audit::audit_history;
+pub use run::run_file;
+pub use schedule::Schedule;
+pub use work::{Work, work_file};

@@ -1,0 +1,20 @@
+-- Histories and their texts.
+use Rattle.std.specs.Prelude.{◌≡◌, ℕ, List, Ok, Err}
+use Rattle.line_text.specs.Outcome.{outcome_of}
+use Rattle.line_text.specs.declared.fault.TextFault.{TextFault}
+use Rattle.store_text.specs.Body.{store_rules}
+use Rattle.store_text.specs.declared.line.Line.{Line}
+use Rattle.history_text.specs.Events.{events}
+use Rattle.history_text.specs.History.{IsHistoryOf}
+use Rattle.history_text.specs.declared.event_line.EventLine.{EventLine}
+use Rattle.history_text.specs.declared.history_file.HistoryFile.{HistoryFile}
+
+-- the history that a text describes
+pub record DescribesHistory (text : List ℕ) (file : HistoryFile) : Type 0 where
+  pub lines : List (Line EventLine)
+  pub accepted : outcome_of (store_rules events) text ≡ Ok lines
+  pub described : IsHistoryOf lines file
+
+-- the text has a fault
+abbrev pub IsFaultyHistory : List ℕ → Type 0
+IsFaultyHistory text = (f : TextFault) × (outcome_of (store_rules events) text ≡ Err f)

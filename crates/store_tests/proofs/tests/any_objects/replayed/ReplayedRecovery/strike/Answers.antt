@@ -1,0 +1,18 @@
+use Rattle.std.proofs.Common.{◌≡◌, ◌-◌, length}
+use Rattle.object_trait.specs.Meaning.{open_of}
+use Rattle.store_tests.specs.Replayed.{from_the_start}
+use Rattle.store_tests.proofs.Replaying.{struck-replayed}
+use Rattle.store_tests.proofs.UpdateInPlace.{strike-unsettled}
+use Rattle.store_tests.proofs.tests.any_objects.replayed.ReplayedRecovery.strike.Goals as goal
+
+pub invariant_of-self : goal.invariant_of-self
+invariant_of-self c =
+    let m = c.self.inside in
+    struck-replayed c.checked_is_covered.ensures c.sound_after_strike.ensures m.checked m.log.items c.keep_first.new.log.items c.args.t (c.count_of-count.result - c.args.m) c.self.invariant
+    c.keep_first.ensures.items c.keep_first.ensures.fewer
+
+pub returns : goal.returns
+returns c =
+    let m = c.self.inside in
+    let count : c.count_of-count.result ≡ length (open_of c.args.t m.log.items) = rw c.deref.ensures.value at c.count_of-count.ensures.count in
+    rw (← c.self.view_is, ← count) (strike-unsettled (from_the_start m.checked m.log.items) c.args.t (c.count_of-count.result - c.args.m) c.keep_first.new.log.items c.self.invariant.in_place c.keep_first.ensures.items)

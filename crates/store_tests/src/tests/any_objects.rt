@@ -1,0 +1,56 @@
+//! Objects of any kind of recovery, their events, and the laws of them.
+
+mod boxed;
+pub mod one_entry;
+pub mod replayed;
+
+use object_trait::{
+    Event, EventKind, LogEntry, checked_is_covered, fresh_is_sound, keeps_first, keeps_none,
+    keeps_others, keeps_parts, opens_commute, parts_sort, sorts_equi, sorts_look,
+    sound_after_apply, sound_after_commit, sound_after_strike, struck_log_is_legal, struck_part,
+    untouched_shows_the_same, untouched_stays,
+};
+use std::test::Fail;
+use test_support::printed::are_debugged;
+
+const EVENT: Event = Event {
+    worker: 3,
+    kind: EventKind::Op { t: 1, x: 0, k: 2 },
+};
+
+#[test]
+fn events_are_compared(rt: HostRuntime) {
+    let other = Event { worker: 4, ..EVENT };
+    let ended = Event {
+        kind: EventKind::Commit { t: 1 },
+        ..EVENT
+    };
+    assert!(rt; (EVENT == EVENT) & (EVENT != other) & (EVENT != ended));
+}
+
+#[test]
+fn events_are_printed(rt: HostRuntime) -> Result<(), Fail> {
+    let text = "Event { worker: 3, kind: Op { t: 1, x: 0, k: 2 } }";
+    are_debugged(rt.alloc(), &[(EVENT, text)])
+}
+
+#[test]
+fn laws_are_called() {
+    parts_sort::<LogEntry>();
+    keeps_first::<LogEntry>();
+    keeps_none::<LogEntry>();
+    keeps_parts::<LogEntry>();
+    keeps_others::<LogEntry>();
+    struck_part::<LogEntry>();
+    sorts_look::<LogEntry>();
+    sorts_equi::<LogEntry>();
+    checked_is_covered();
+    struck_log_is_legal();
+    opens_commute();
+    fresh_is_sound();
+    sound_after_apply();
+    sound_after_commit();
+    sound_after_strike();
+    untouched_stays();
+    untouched_shows_the_same();
+}

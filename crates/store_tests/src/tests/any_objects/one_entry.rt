@@ -1,0 +1,131 @@
+//! An object of update in place whose log has room for one entry. It settles nothing.
+
+ghost use Rattle.std.specs.Prelude.{◌≡◌, ◌<◌, Some, None};
+ghost use Rattle.std.specs.List.{list_any};
+ghost use Rattle.std.specs.Option.{option_to_list};
+ghost use Rattle.type_table.specs.Run.{run};
+ghost use Rattle.type_table.specs.declared.kind.Kind.TheVariants.{Undo};
+ghost use Rattle.object_trait.specs.Meaning.{ops_of, is_open_of};
+ghost use Rattle.object_trait.specs.Steps.{marked};
+ghost use Rattle.object_trait.specs.Examples.{of_one_entry};
+
+use object_trait::{LogEntry, Recovery};
+use std::alloc::AllocError;
+use table_checker::CheckedType;
+
+/// Its checked type, the entry, and the state after it.
+#[derive(Drop)]
+pub struct OneEntry {
+    checked: CheckedType,
+    entry: Option<LogEntry>,
+    state: u16,
+    ghost in_place: { checked.kind ≡ Undo },
+    ghost reached: { run checked.file.table (Some checked.file.table.initial) (ops_of (option_to_list entry)) ≡ Some state },
+    ghost inside: { state < checked.file.table.states },
+}
+
+impl OneEntry {
+    /// As it is made, at the initial state.
+    pub fn new(checked: CheckedType) -> OneEntry
+        requires { checked.kind ≡ Undo }
+    {
+        let initial = checked.table().initial();
+        OneEntry {
+            checked,
+            entry: None,
+            state: initial,
+        }
+    }
+
+    /// Takes out the entry, and goes back to the initial state.
+    fn take_out(&mut self)
+        ensures checked { self.new.checked ≡ self.old.checked }
+        ensures empty { self.new.entry ≡ None }
+    {
+        let initial = self.checked.table().initial();
+        self.entry = None;
+        self.state = initial;
+    }
+
+    /// Whether the entry is an open one of t.
+    fn is_open_of(&self, t: u32) -> bool
+        ensures { result ≡ list_any (is_open_of t) (option_to_list self.now.entry) }
+    {
+        match self.entry {
+            Some(entry) => entry.by == t && !entry.done,
+            None => false,
+        }
+    }
+}
+
+/// An entry after a commit of t.
+pub fn marked(entry: LogEntry, t: u32) -> LogEntry
+    ensures { result ≡ marked t entry }
+{
+    LogEntry {
+        done: entry.done || entry.by == t,
+        ..entry
+    }
+}
+
+impl Recovery for OneEntry {
+    ghost meaning = { λ o. of_one_entry o.checked o.entry };
+
+    fn checked(&self) -> &CheckedType {
+        &self.checked
+    }
+
+    fn state(&self) -> u16 {
+        self.state
+    }
+
+    fn legal(&self, _t: u32, k: u8) -> bool {
+        self.checked.table().next(self.state, k).is_some()
+    }
+
+    fn apply(&mut self, t: u32, k: u8) -> Result<(), AllocError> {
+        if self.entry.is_some() {
+            return Err(AllocError);
+        }
+        let next = self.checked.table().next(self.state, k);
+        let Some(state) = next else {
+            return Err(AllocError);
+        };
+        self.entry = Some(LogEntry {
+            by: t,
+            op: k,
+            done: false,
+        });
+        self.state = state;
+        Ok(())
+    }
+
+    fn commit(&mut self, t: u32) {
+        if let Some(entry) = self.entry {
+            self.entry = Some(marked(entry, t));
+        }
+    }
+
+    fn abort(&mut self, t: u32) {
+        if self.is_open_of(t) {
+            self.take_out();
+        }
+    }
+
+    fn strike(&mut self, t: u32, m: u32) {
+        if m > 0 {
+            self.abort(t);
+        }
+    }
+
+    fn open_count(&self) -> u32 {
+        match self.entry {
+            Some(entry) if !entry.done => 1,
+            _ => 0,
+        }
+    }
+
+    fn is_fresh(&self) -> bool {
+        self.entry.is_none()
+    }
+}

@@ -1,0 +1,97 @@
+//! The entries of a history and why a command is refused; the laws of histories.
+
+use serial_order::{
+    Entry, Refusal, allows_alike, answer_may_follow, beginners_after, blocker_is_held,
+    checked_headline, command_appends, commit_keeps_views, first_op_is_least, fresh_stands,
+    headline, held_after, idle_is_closed, logs_are_counted, machine_may_apply, opens_after,
+    operations_in_run, own_after, replay_runs, replays_join, run_goes_on, run_is_history,
+    seen_after, sorts_into_commit_order, stands_as_read, stands_on, struck_view_is_legal,
+    transactions_in_run, views_are_legal,
+};
+use std::process::Abort;
+use std::test::Fail;
+use test_support::printed::{are_debugged, are_printed};
+
+const ENTRY: Entry = Entry {
+    by: 1,
+    at: 0,
+    op: 2,
+};
+
+#[test]
+fn entries_are_compared(rt: HostRuntime) {
+    let others = [
+        Entry { by: 3, ..ENTRY },
+        Entry { at: 3, ..ENTRY },
+        Entry { op: 3, ..ENTRY },
+    ];
+    assert!(rt; ENTRY == ENTRY);
+    for other in others {
+        assert!(rt; ENTRY != other);
+    }
+}
+
+#[test]
+fn entries_are_printed(rt: HostRuntime) -> Result<(), Fail> {
+    are_debugged(rt.alloc(), &[(ENTRY, "Entry { by: 1, at: 0, op: 2 }")])
+}
+
+static REFUSALS: [(Refusal, &str); 7] = [
+    (Refusal::NotOpen, "NotOpen"),
+    (Refusal::NoObject, "NoObject"),
+    (Refusal::NoCall, "NoCall"),
+    (Refusal::TooManyOpen, "TooManyOpen"),
+    (Refusal::HistoryFull, "HistoryFull"),
+    (Refusal::NoMemory, "NoMemory"),
+    (Refusal::BadRollback, "BadRollback"),
+];
+
+#[test]
+fn refusals_are_printed(rt: HostRuntime) -> Result<(), Fail> {
+    are_printed(rt.alloc(), &REFUSALS)?;
+    are_debugged(rt.alloc(), &REFUSALS)
+}
+
+/// That of these refusals the one with this word alone is this one.
+fn is_alone(rt: &impl Abort, rows: &[(Refusal, &str)], alone: Refusal, its: &str) {
+    for (refusal, word) in rows {
+        assert!(rt; (*refusal == alone) == (*word == its));
+    }
+}
+
+#[test]
+fn refusals_are_compared(rt: HostRuntime) {
+    is_alone(&rt, &REFUSALS, Refusal::NoCall, "NoCall");
+}
+
+#[test]
+fn laws_are_called() {
+    run_is_history();
+    run_goes_on();
+    seen_after();
+    transactions_in_run();
+    opens_after();
+    beginners_after();
+    operations_in_run();
+    held_after();
+    blocker_is_held();
+    own_after();
+    logs_are_counted();
+    idle_is_closed();
+    stands_as_read();
+    first_op_is_least();
+    answer_may_follow();
+    replay_runs();
+    command_appends();
+    replays_join();
+    sorts_into_commit_order();
+    struck_view_is_legal();
+    views_are_legal();
+    commit_keeps_views();
+    fresh_stands();
+    stands_on();
+    allows_alike();
+    machine_may_apply();
+    headline();
+    checked_headline();
+}

@@ -1,0 +1,149 @@
+//! What workers report of the jobs that they did at a store, side by side and by drawn turns.
+
+mod alone;
+mod drawn;
+mod limits;
+mod many;
+mod meeting;
+mod memory;
+
+use history_audit::{Audit, AuditFault, audit};
+use jobs_text::{Job, JobsFile, read_jobs};
+use object_trait::{Event, EventKind, Recovery};
+use objects::Object;
+use std::alloc::{AllocError, Global};
+use std::process::Abort;
+use std::sync::Wait;
+use std::test::Fail;
+use std::thread::Threads;
+use store::Store;
+use type_table::TypeTable;
+use workers::{NoGate, Outcome, Receipt, Report, WorkFault, run_workers, stress};
+
+/// Whose turn it is: that of whoever has the lock, or a worker's that is drawn by words from a seed.
+#[derive(Clone, Copy, Debug)]
+pub enum Turns {
+    SideBySide,
+    Drawn(u64),
+}
+
+/// What came of jobs: the history and the objects of the store at its close, what each worker was told,
+/// and why not all was done.
+#[derive(Drop)]
+pub struct Done {
+    pub history: Vec<Event>,
+    pub objects: Vec<Object>,
+    pub reports: Vec<Report>,
+    pub fault: Option<WorkFault>,
+}
+
+/// Does jobs at a store, and closes it.
+pub fn do_jobs<R: AllocGlobal + Threads + Wait + Sync>(
+    rt: &R,
+    store: Store<Object>,
+    jobs: Vec<Vec<Job>>,
+    tries: u8,
+    turns: Turns,
+) -> Done {
+    let (store, reports, fault) = match turns {
+        Turns::SideBySide => run_workers(rt, store, jobs, tries, &NoGate),
+        Turns::Drawn(seed) => stress(rt.alloc(), store, jobs, tries, seed),
+    };
+    let (history, objects) = store.close();
+    Done {
+        history,
+        objects,
+        reports,
+        fault,
+    }
+}
+
+/// The jobs of a text, in so many lists. Where one allocation is refused, the next try has it.
+pub fn jobs_of(alloc: Global, text: &str, lists: u8) -> Result<Vec<Vec<Job>>, Fail> {
+    let file = match read_jobs(alloc, text.as_bytes(), lists) {
+        Ok(file) => file,
+        Err(_) => read_jobs(alloc, text.as_bytes(), lists)?,
+    };
+    let JobsFile {
+        max: _,
+        objects: _,
+        jobs,
+    } = file;
+    Ok(jobs)
+}
+
+/// That the receipts are the events of worker w from a place of a history on, in order.
+fn are_receipts(rt: &impl Abort, history: &[Event], from: usize, w: usize, receipts: &[Receipt]) {
+    let mut told = receipts.iter();
+    for (position, event) in history.iter().enumerate().skip(from) {
+        if usize::from(event.worker) == w {
+            let receipt = Receipt {
+                position,
+                event: *event,
+            };
+            assert!(rt; told.next() == Some(&receipt));
+        }
+    }
+    assert!(rt; told.next() == None);
+}
+
+/// The transaction of a job that committed.
+fn committed(outcome: &Outcome) -> Option<u32> {
+    match outcome {
+        Outcome::Committed(t) => Some(*t),
+        _ => None,
+    }
+}
+
+/// That a worker committed the transactions of which its outcomes tell, in order, and no others.
+fn are_commits(rt: &impl Abort, report: &Report) {
+    let mut told = report.outcomes.iter().filter_map(committed);
+    for receipt in &report.receipts {
+        if let EventKind::Commit { t } = receipt.event.kind {
+            assert!(rt; told.next() == Some(t));
+        }
+    }
+    assert!(rt; told.next() == None);
+}
+
+/// That each event from a place of a history on is one receipt of its worker, that there are no other
+/// receipts, and that the jobs that committed are those whose commits are events.
+pub fn are_reported(rt: &impl Abort, history: &[Event], from: usize, reports: &[Report]) {
+    for event in history.iter().skip(from) {
+        assert!(rt; usize::from(event.worker) < reports.len());
+    }
+    for (w, report) in reports.iter().enumerate() {
+        are_receipts(rt, history, from, w, &report.receipts);
+        are_commits(rt, report);
+    }
+}
+
+/// The tables of objects.
+fn tables_of(alloc: Global, objects: &[Object]) -> Result<Vec<&TypeTable>, AllocError> {
+    objects
+        .iter()
+        .map(|object| object.checked().table())
+        .collect(alloc)
+}
+
+/// The audit of what was done. Where one allocation is refused, the next try has it.
+pub fn audit_of(alloc: Global, done: &Done) -> Result<Audit, Fail> {
+    let tables = match tables_of(alloc, &done.objects) {
+        Ok(tables) => tables,
+        Err(_) => tables_of(alloc, &done.objects)?,
+    };
+    match audit(alloc, &done.history, &tables) {
+        Err(AuditFault::NoMemory) => Ok(audit(alloc, &done.history, &tables)?),
+        audited => Ok(audited?),
+    }
+}
+
+/// That the audit says yes, and that each object keeps its serial state.
+pub fn is_serial(rt: &(impl Abort + AllocGlobal), done: &Done) -> Result<Audit, Fail> {
+    let audit = audit_of(rt.alloc(), done)?;
+    assert!(rt; audit.finals.len() == done.objects.len());
+    for (object, state) in done.objects.iter().zip(&audit.finals) {
+        assert!(rt; object.state() == *state);
+    }
+    Ok(audit)
+}

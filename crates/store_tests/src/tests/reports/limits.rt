@@ -1,0 +1,209 @@
+//! How many lists of jobs there may be, how often a job may be tried, and how many transactions may be
+//! open.
+
+use super::{Done, Turns, are_reported, do_jobs, jobs_of};
+use crate::tests::stores::full::begin_many;
+use crate::tests::stores::objects_of;
+use crate::tests::stores::scripts::{Happened, Row, answers, are_events, store_of};
+use object_trait::EventKind;
+use reference_store::asked::{Ask, Told};
+use serial_order::Refusal;
+use std::process::Abort;
+use std::sync::Wait;
+use std::test::Fail;
+use std::thread::Threads;
+use test_support::type_texts::{COUNTER, COUNTER_OF_FOUR};
+use type_table::Kind;
+use workers::{Outcome, WorkFault};
+
+/// The ways in which turns come.
+static BOTH: [Turns; 2] = [Turns::SideBySide, Turns::Drawn(7)];
+
+/// Jobs of no worker.
+const NO_JOB: &str = "max 20
+object undo 0
+end
+";
+
+/// One job of worker 0.
+const ONE_JOB: &str = "max 20
+object undo 0
+job 0
+do 0 inc:1
+end
+";
+
+/// What a store was asked before: one transaction committed, and one is open.
+static BEFORE: [Row; 5] = [
+    (9, Ask::Begin, Told::Begun(0)),
+    (9, Ask::Call(0, 0, "inc:1"), Told::Reply(0)),
+    (9, Ask::Commit(0), Told::Done),
+    (9, Ask::Begin, Told::Begun(1)),
+    (9, Ask::Call(1, 0, "inc:1"), Told::Reply(0)),
+];
+
+/// Its history, closed behind that.
+static UNCHANGED: [Happened; 6] = [
+    (9, EventKind::Begin { t: 0 }),
+    (9, EventKind::Op { t: 0, x: 0, k: 0 }),
+    (9, EventKind::Commit { t: 0 }),
+    (9, EventKind::Begin { t: 1 }),
+    (9, EventKind::Op { t: 1, x: 0, k: 0 }),
+    (9, EventKind::Abort { t: 1 }),
+];
+
+/// Its history where the job was done, closed behind that.
+static WITH_JOB: [Happened; 9] = [
+    (9, EventKind::Begin { t: 0 }),
+    (9, EventKind::Op { t: 0, x: 0, k: 0 }),
+    (9, EventKind::Commit { t: 0 }),
+    (9, EventKind::Begin { t: 1 }),
+    (9, EventKind::Op { t: 1, x: 0, k: 0 }),
+    (0, EventKind::Begin { t: 2 }),
+    (0, EventKind::Op { t: 2, x: 0, k: 0 }),
+    (0, EventKind::Commit { t: 2 }),
+    (9, EventKind::Abort { t: 1 }),
+];
+
+/// The text of jobs, how many lists and tries, and the fault.
+type Limit = (&'static str, u8, u8, Option<WorkFault>);
+
+static LIMITS: [Limit; 16] = [
+    (NO_JOB, 0, 1, Some(WorkFault::BadWorkers)),
+    (NO_JOB, 0, 0, Some(WorkFault::BadWorkers)),
+    (NO_JOB, 0, 101, Some(WorkFault::BadWorkers)),
+    (ONE_JOB, 17, 1, Some(WorkFault::BadWorkers)),
+    (ONE_JOB, 17, 0, Some(WorkFault::BadWorkers)),
+    (ONE_JOB, 17, 101, Some(WorkFault::BadWorkers)),
+    (ONE_JOB, 255, 100, Some(WorkFault::BadWorkers)),
+    (ONE_JOB, 1, 0, Some(WorkFault::BadTries)),
+    (ONE_JOB, 1, 101, Some(WorkFault::BadTries)),
+    (ONE_JOB, 16, 0, Some(WorkFault::BadTries)),
+    (ONE_JOB, 16, 101, Some(WorkFault::BadTries)),
+    (ONE_JOB, 16, 255, Some(WorkFault::BadTries)),
+    (ONE_JOB, 1, 1, None),
+    (ONE_JOB, 1, 100, None),
+    (ONE_JOB, 16, 1, None),
+    (ONE_JOB, 16, 100, None),
+];
+
+/// That nothing was done and nothing is reported; or that the job was done, and there is a report of each
+/// list.
+fn is_limited(rt: &impl Abort, limit: &Limit, done: &Done) {
+    let (_, lists, _, fault) = *limit;
+    assert!(rt; done.fault == fault);
+    if fault.is_some() {
+        are_events(rt, &done.history, &UNCHANGED);
+        assert!(rt; done.reports.is_empty());
+        return;
+    }
+    are_events(rt, &done.history, &WITH_JOB);
+    assert!(rt; done.reports.len() == usize::from(lists));
+    are_reported(rt, done.history.get(..8).unwrap_or(&[]), 5, &done.reports);
+}
+
+/// That these numbers of lists and tries are taken, or not, at a store at which something happened.
+fn is_taken<R: Abort + AllocGlobal + Threads + Wait + Sync>(
+    rt: &R,
+    limit: &Limit,
+    turns: Turns,
+) -> Result<(), Fail> {
+    let (text, lists, tries, _) = *limit;
+    let jobs = jobs_of(rt.alloc(), text, lists)?;
+    let objects = objects_of(rt.alloc(), &[(Kind::Undo, COUNTER_OF_FOUR)])?;
+    let mut store = store_of(rt, objects, 20)?;
+    answers(rt, &mut store, &BEFORE);
+    let done = do_jobs(rt, store, jobs, tries, turns);
+    is_limited(rt, limit, &done);
+    Ok(())
+}
+
+#[test]
+fn lists_and_tries_are_limited(rt: HostRuntime) -> Result<(), Fail> {
+    for turns in &BOTH {
+        for limit in &LIMITS {
+            is_taken(&rt, limit, *turns)?;
+        }
+    }
+    Ok(())
+}
+
+/// Three jobs of two workers.
+const THREE_JOBS: &str = "max 20
+object undo 0
+job 0
+do 0 inc:1
+job 0
+job 1
+do 0 dec:1
+end
+";
+
+/// What comes of jobs at a store at which so many transactions of worker 7 are open.
+fn done_beside<R: Abort + AllocGlobal + Threads + Wait + Sync>(
+    rt: &R,
+    open: u32,
+    text: &str,
+    lists: u8,
+    turns: Turns,
+) -> Result<Done, Fail> {
+    let jobs = jobs_of(rt.alloc(), text, lists)?;
+    let objects = objects_of(rt.alloc(), &[(Kind::Undo, COUNTER)])?;
+    let mut store = store_of(rt, objects, 3000)?;
+    begin_many(rt, &mut store, open);
+    Ok(do_jobs(rt, store, jobs, 3, turns))
+}
+
+/// That all jobs were refused, and there are so many events.
+fn are_refused(rt: &impl Abort, done: &Done, events: usize) {
+    assert!(rt; done.fault == None);
+    assert!(rt; done.history.len() == events);
+    for event in &done.history {
+        assert!(rt; event.worker == 7);
+    }
+    for report in &done.reports {
+        assert!(rt; report.receipts.is_empty());
+        for outcome in &report.outcomes {
+            assert!(rt; *outcome == Outcome::Refused(Refusal::TooManyOpen));
+        }
+    }
+}
+
+/// How many jobs have an outcome.
+fn outcomes_of(done: &Done) -> [usize; 2] {
+    let mut counts = [0; 2];
+    for (count, report) in counts.iter_mut().zip(&done.reports) {
+        *count = report.outcomes.len();
+    }
+    counts
+}
+
+/// The 1,024 begins and their ends are all that happened.
+#[test]
+fn too_many_are_open(rt: HostRuntime) -> Result<(), Fail> {
+    for turns in &BOTH {
+        let done = done_beside(&rt, 1024, THREE_JOBS, 2, *turns)?;
+        are_refused(&rt, &done, 2048);
+        assert!(rt; done.reports.len() == 2);
+        assert!(rt; outcomes_of(&done) == [2, 1]);
+    }
+    Ok(())
+}
+
+/// Where one more can be open, the one worker begins.
+#[test]
+fn one_more_may_be_open(rt: HostRuntime) -> Result<(), Fail> {
+    for turns in &BOTH {
+        let done = done_beside(&rt, 1023, ONE_JOB, 1, *turns)?;
+        assert!(rt; done.history.len() == 2049);
+        are_reported(
+            &rt,
+            done.history.get(..1026).unwrap_or(&[]),
+            1023,
+            &done.reports,
+        );
+        let outcomes = done.reports.first().ok_or("no report")?.outcomes.as_slice();
+        assert!(rt; outcomes == [Outcome::Committed(1023)].as_slice());
+    }
+    Ok(())
+}

@@ -1,0 +1,148 @@
+//! Two workers whose jobs overlap: neither commits before the other has made its call too.
+
+use super::{Done, are_reported, is_serial, jobs_of};
+use crate::tests::stores::objects_of;
+use crate::tests::stores::scripts::store_of;
+use object_trait::{Event, EventKind};
+use std::process::Abort;
+use std::sync::Wait;
+use std::sync::atomic::{AtomicBool, AtomicU32, Ordering};
+use std::test::Fail;
+use std::thread;
+use std::thread::Threads;
+use test_support::type_texts::COUNTER;
+use type_table::Kind;
+use workers::{Gate, Outcome, Report, run_workers};
+
+/// How often a worker looks for the other.
+const MOST_LOOKS: u32 = 50_000_000;
+
+/// One of the workers at the gate: how many turns it had there, and whether it is at its third.
+#[derive(Drop)]
+struct Side {
+    turns: AtomicU32,
+    is_there: AtomicBool,
+}
+
+impl Side {
+    /// At first it had none.
+    fn new() -> Side {
+        Side {
+            turns: AtomicU32::new(0),
+            is_there: AtomicBool::new(false),
+        }
+    }
+}
+
+/// A gate at which two workers meet in front of their third turns.
+#[derive(Drop)]
+struct Meeting {
+    first: Side,
+    second: Side,
+    /// Whether a worker didn't find the other, or was told another number of its turns.
+    failed: AtomicBool,
+}
+
+impl Meeting {
+    /// Waits until the other side is there.
+    fn wait_for(&self, other: &Side) {
+        for _ in 0..MOST_LOOKS {
+            if other.is_there.load(Ordering::SeqCst) {
+                return;
+            }
+            thread::yield_now();
+        }
+        self.failed.store(true, Ordering::SeqCst);
+    }
+
+    /// One side in front of a turn.
+    fn meet(&self, own: &Side, other: &Side, step: u32) {
+        if own.turns.fetch_add(1, Ordering::SeqCst) != step {
+            self.failed.store(true, Ordering::SeqCst);
+        }
+        if step == 2 {
+            own.is_there.store(true, Ordering::SeqCst);
+            self.wait_for(other);
+        }
+    }
+}
+
+impl Gate for Meeting {
+    fn pass(&self, worker: u8, step: u32) {
+        match worker {
+            0 => self.meet(&self.first, &self.second, step),
+            _ => self.meet(&self.second, &self.first, step),
+        }
+    }
+}
+
+/// One job of each of two workers.
+const TWO_JOBS: &str = "max 20
+object undo 0
+job 0
+do 0 inc:1
+job 1
+do 0 inc:1
+end
+";
+
+/// What comes of them in one try.
+fn done_at<R: Abort + AllocGlobal + Threads + Wait + Sync>(
+    rt: &R,
+    gate: &Meeting,
+) -> Result<Done, Fail> {
+    let jobs = jobs_of(rt.alloc(), TWO_JOBS, 2)?;
+    let objects = objects_of(rt.alloc(), &[(Kind::Undo, COUNTER)])?;
+    let store = store_of(rt, objects, 20)?;
+    let (store, reports, fault) = run_workers(rt, store, jobs, 1, gate);
+    assert!(rt; store.kept(0) == Some(2));
+    let (history, objects) = store.close();
+    Ok(Done {
+        history,
+        objects,
+        reports,
+        fault,
+    })
+}
+
+/// That both operations come before both commits.
+fn do_overlap(rt: &impl Abort, history: &[Event]) {
+    let ops = history
+        .iter()
+        .take(4)
+        .filter(|event| matches!(event.kind, EventKind::Op { t: _, x: 0, k: 0 }))
+        .count();
+    let commits = history
+        .iter()
+        .skip(4)
+        .filter(|event| matches!(event.kind, EventKind::Commit { t: _ }))
+        .count();
+    assert!(rt; (history.len(), ops, commits) == (6, 2, 2));
+}
+
+/// That each of two workers committed its one job.
+fn both_committed(rt: &impl Abort, reports: &[Report]) {
+    assert!(rt; reports.len() == 2);
+    for report in reports {
+        assert!(rt; report.outcomes.len() == 1);
+        assert!(rt; matches!(report.outcomes.first(), Some(Outcome::Committed(_))));
+    }
+}
+
+#[test]
+fn jobs_overlap(rt: HostRuntime) -> Result<(), Fail> {
+    let gate = Meeting {
+        first: Side::new(),
+        second: Side::new(),
+        failed: AtomicBool::new(false),
+    };
+    let done = done_at(&rt, &gate)?;
+    assert!(rt; !gate.failed.load(Ordering::SeqCst));
+    assert!(rt; done.fault == None);
+    do_overlap(&rt, &done.history);
+    both_committed(&rt, &done.reports);
+    are_reported(&rt, &done.history, 0, &done.reports);
+    let audit = is_serial(&rt, &done)?;
+    assert!(rt; audit.finals.as_slice() == [2].as_slice());
+    Ok(())
+}

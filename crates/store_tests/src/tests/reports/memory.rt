@@ -1,0 +1,152 @@
+//! Each allocation refused in turn, by `rt try --test --fail-alloc N`: the reports go on telling what
+//! happened, and a job that met it is refused, or nothing was done.
+
+use super::alone::done_alone;
+use super::{Done, Turns, are_reported, do_jobs, is_serial, jobs_of};
+use crate::tests::stores::objects_of;
+use crate::tests::stores::scripts::{Row, answers, store_of};
+use reference_store::asked::{Ask, Told};
+use reference_store::work::{Fold, ONE_WORKER, ROOMS, folded};
+use serial_order::Refusal;
+use std::alloc::Global;
+use std::process::Abort;
+use std::sync::Wait;
+use std::test::Fail;
+use std::thread::Threads;
+use test_support::type_texts::COUNTER;
+use type_table::Kind;
+use workers::{Outcome, WorkFault};
+
+/// Whether this is what a fold does.
+fn is_of(done: &Done, fold: &Fold) -> bool {
+    let Some(report) = done.reports.first() else {
+        return false;
+    };
+    done.history.as_slice() == fold.events()
+        && report.outcomes.as_slice() == fold.outcomes.as_slice()
+}
+
+/// Whether this is what comes of the jobs, where memory may be refused once.
+fn is_folded(alloc: Global, done: &Done) -> Result<bool, Fail> {
+    for room in &ROOMS {
+        if is_of(done, &folded(alloc, &ONE_WORKER, *room)?) {
+            return Ok(true);
+        }
+    }
+    Ok(false)
+}
+
+/// That nothing was done.
+fn is_nothing(rt: &impl Abort, done: &Done, events: usize) {
+    assert!(rt; done.fault == Some(WorkFault::NoMemory));
+    assert!(rt; done.reports.is_empty());
+    assert!(rt; done.history.len() == events);
+}
+
+/// That one worker did its jobs, each but one at the most, or nothing.
+fn one_works<R: Abort + AllocGlobal + Threads + Wait + Sync>(
+    rt: &R,
+    turns: Turns,
+) -> Result<(), Fail> {
+    let done = done_alone(rt, ONE_WORKER.jobs, ONE_WORKER.max, turns)?;
+    if done.reports.is_empty() {
+        is_nothing(rt, &done, 0);
+        return Ok(());
+    }
+    assert!(rt; done.fault == None);
+    assert!(rt; is_folded(rt.alloc(), &done)?);
+    are_reported(rt, &done.history, 0, &done.reports);
+    is_serial(rt, &done)?;
+    Ok(())
+}
+
+#[test]
+fn one_worker_wants_memory(rt: HostRuntime) -> Result<(), Fail> {
+    one_works(&rt, Turns::SideBySide)?;
+    one_works(&rt, Turns::Drawn(7))
+}
+
+/// Jobs of two workers at two objects, of which none needs another.
+const APART: &str = "max 20
+object undo 0
+object intentions 0
+job 0
+do 0 dec:1
+job 0
+do 0 inc:1
+job 1
+do 1 inc:1
+end
+";
+
+/// What a store was asked before.
+static BEFORE: [Row; 2] = [
+    (9, Ask::Begin, Told::Begun(0)),
+    (9, Ask::Commit(0), Told::Done),
+];
+
+/// What comes of the jobs of each worker, whatever the numbers of the transactions are.
+static USUAL: [&[Outcome]; 2] = [
+    &[Outcome::GaveUp, Outcome::Committed(0)],
+    &[Outcome::Committed(0)],
+];
+
+/// What comes of them in two tries, at a store with two events.
+fn done_apart<R: Abort + AllocGlobal + Threads + Wait + Sync>(
+    rt: &R,
+    turns: Turns,
+) -> Result<Done, Fail> {
+    let jobs = jobs_of(rt.alloc(), APART, 2)?;
+    let sorts = [(Kind::Undo, COUNTER), (Kind::Intentions, COUNTER)];
+    let mut store = store_of(rt, objects_of(rt.alloc(), &sorts)?, 20)?;
+    answers(rt, &mut store, &BEFORE);
+    Ok(do_jobs(rt, store, jobs, 2, turns))
+}
+
+/// Whether an outcome is the usual one, or memory was refused.
+fn is_usual(outcome: Outcome, usual: Outcome) -> bool {
+    match (outcome, usual) {
+        (Outcome::Committed(_), Outcome::Committed(_)) => true,
+        (Outcome::Refused(Refusal::NoMemory), _) => true,
+        _ => outcome == usual,
+    }
+}
+
+/// That a worker that was started has the usual outcomes, and one that wasn't did nothing.
+fn are_usual(rt: &impl Abort, outcomes: &[Outcome], usual: &[Outcome], is_started: bool) {
+    assert!(rt; outcomes.len() == usual.len());
+    for (outcome, usual) in outcomes.iter().zip(usual) {
+        if is_started {
+            assert!(rt; is_usual(*outcome, *usual));
+        } else {
+            assert!(rt; *outcome == Outcome::NotRun);
+        }
+    }
+}
+
+/// That two workers did their jobs, each but one at the most; or the first of them did, or nobody.
+fn two_work<R: Abort + AllocGlobal + Threads + Wait + Sync>(
+    rt: &R,
+    turns: Turns,
+) -> Result<(), Fail> {
+    let done = done_apart(rt, turns)?;
+    if done.reports.is_empty() {
+        is_nothing(rt, &done, BEFORE.len());
+        return Ok(());
+    }
+    assert!(rt; done.reports.len() == 2);
+    assert!(rt; matches!(done.fault, None | Some(WorkFault::NoMemory)));
+    for (w, (report, usual)) in done.reports.iter().zip(&USUAL).enumerate() {
+        let is_started = w == 0 || done.fault.is_none();
+        are_usual(rt, &report.outcomes, usual, is_started);
+    }
+    are_reported(rt, &done.history, BEFORE.len(), &done.reports);
+    is_serial(rt, &done)?;
+    Ok(())
+}
+
+#[test]
+fn two_workers_want_memory(rt: HostRuntime) -> Result<(), Fail> {
+    two_work(&rt, Turns::SideBySide)?;
+    two_work(&rt, Turns::Drawn(7))
+}

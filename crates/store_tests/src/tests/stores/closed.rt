@@ -1,0 +1,49 @@
+//! The end of a store, at which transactions are open.
+
+use super::objects_of;
+use super::scripts::{Happened, Row, answers, are_closed, are_events, store_of};
+use object_trait::{EventKind, Recovery};
+use reference_store::asked::{Ask, Told};
+use std::test::Fail;
+use test_support::type_texts::{COUNTER, ONE_WAY};
+use type_table::Kind;
+
+/// Three transactions of three workers, of which the second is ended by a fourth.
+static LEFT_OPEN: [Row; 7] = [
+    (9, Ask::Begin, Told::Begun(0)),
+    (8, Ask::Begin, Told::Begun(1)),
+    (7, Ask::Begin, Told::Begun(2)),
+    (3, Ask::Call(2, 0, "inc:1"), Told::Reply(0)),
+    (3, Ask::Call(0, 1, "q"), Told::Reply(1)),
+    (3, Ask::Call(1, 0, "inc:1"), Told::Reply(0)),
+    (3, Ask::Commit(1), Told::Done),
+];
+
+/// The open ones are aborted by the workers that began them.
+static CLOSED: [Happened; 9] = [
+    (9, EventKind::Begin { t: 0 }),
+    (8, EventKind::Begin { t: 1 }),
+    (7, EventKind::Begin { t: 2 }),
+    (3, EventKind::Op { t: 2, x: 0, k: 0 }),
+    (3, EventKind::Op { t: 0, x: 1, k: 1 }),
+    (3, EventKind::Op { t: 1, x: 0, k: 0 }),
+    (3, EventKind::Commit { t: 1 }),
+    (9, EventKind::Abort { t: 0 }),
+    (7, EventKind::Abort { t: 2 }),
+];
+
+#[test]
+fn open_transactions_are_aborted_in_order(rt: HostRuntime) -> Result<(), Fail> {
+    let sorts = [(Kind::Undo, COUNTER), (Kind::Undo, ONE_WAY)];
+    let mut store = store_of(&rt, objects_of(rt.alloc(), &sorts)?, 100)?;
+    answers(&rt, &mut store, &LEFT_OPEN);
+    let (history, objects) = store.close();
+    are_events(&rt, &history, &CLOSED);
+    are_closed(&rt, &objects);
+    let states: Vec<u16> = objects
+        .iter()
+        .map(|object| object.state())
+        .collect(rt.alloc())?;
+    assert!(rt; states.as_slice() == [1, 0].as_slice());
+    Ok(())
+}

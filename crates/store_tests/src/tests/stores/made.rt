@@ -1,0 +1,144 @@
+//! Of which objects a store is made, and in which order they come back.
+
+use super::scripts::{are_closed, store_of};
+use crate::tests::managers::driven::apply_next;
+use object_trait::Recovery;
+use objects::Object;
+use reference_store::checked_types::checked_of;
+use std::alloc::Global;
+use std::process::Abort;
+use std::sync::Arc;
+use std::test::Fail;
+use store::{NewRefusal, Store};
+use test_support::printed::{are_debugged, are_printed};
+use test_support::type_texts::COUNTER;
+use type_table::Kind;
+
+static REFUSALS: [(NewRefusal, &str); 5] = [
+    (NewRefusal::NoObjects, "NoObjects"),
+    (NewRefusal::TooManyObjects, "TooManyObjects"),
+    (NewRefusal::NotFresh, "NotFresh"),
+    (NewRefusal::BadMax, "BadMax"),
+    (NewRefusal::NoMemory, "NoMemory"),
+];
+
+#[test]
+fn refusals_are_printed(rt: HostRuntime) -> Result<(), Fail> {
+    are_printed(rt.alloc(), &REFUSALS)?;
+    are_debugged(rt.alloc(), &REFUSALS)
+}
+
+/// The kind of the object at this place.
+fn kind_at(x: usize) -> Kind {
+    if x % 3 == 0 {
+        Kind::Undo
+    } else {
+        Kind::Intentions
+    }
+}
+
+/// So many new objects.
+fn made(alloc: Global, count: usize) -> Result<Vec<Object>, Fail> {
+    let undo = checked_of(alloc, COUNTER, Kind::Undo)?;
+    let intentions = checked_of(alloc, COUNTER, Kind::Intentions)?;
+    let mut objects = Vec::new(alloc);
+    for x in 0..count {
+        let checked = match kind_at(x) {
+            Kind::Undo => Arc::try_clone(&undo)?,
+            Kind::Intentions => Arc::try_clone(&intentions)?,
+        };
+        objects
+            .push(Object::new(alloc, checked))
+            .ok()
+            .ok_or("no room")?;
+    }
+    Ok(objects)
+}
+
+/// Executes an operation at an object that is as it was made.
+fn touch(rt: &(impl Abort + AllocGlobal), object: &mut Object) -> Result<(), Fail> {
+    assert!(rt; object.is_fresh());
+    let mut log = Vec::new(rt.alloc());
+    apply_next(rt, object, &mut log, 0, 0)?;
+    Ok(())
+}
+
+/// So many objects, of which one may have been touched.
+fn offered(
+    rt: &(impl Abort + AllocGlobal),
+    count: usize,
+    touched: Option<usize>,
+) -> Result<Vec<Object>, Fail> {
+    let mut objects = made(rt.alloc(), count)?;
+    if let Some(x) = touched {
+        assert!(rt; x < objects.len());
+        touch(rt, &mut objects[x])?;
+    }
+    Ok(objects)
+}
+
+/// That these are so many objects in their places, of which one may have been touched.
+fn are_in_place(rt: &impl Abort, objects: &[Object], count: usize, touched: Option<usize>) {
+    assert!(rt; objects.len() == count);
+    for (x, object) in objects.iter().enumerate() {
+        assert!(rt; object.checked().kind() == kind_at(x));
+        assert!(rt; object.is_fresh() == (touched != Some(x)));
+    }
+}
+
+/// How many objects, which of them was touched, the limit, and why there is no store.
+type Offer = (usize, Option<usize>, u32, Option<NewRefusal>);
+
+static OFFERS: [Offer; 15] = [
+    (1, None, 2, None),
+    (1, None, 1_000_000, None),
+    (1, None, 0, Some(NewRefusal::BadMax)),
+    (1, None, 1, Some(NewRefusal::BadMax)),
+    (1, None, 1_000_001, Some(NewRefusal::BadMax)),
+    (1, None, 4_294_967_295, Some(NewRefusal::BadMax)),
+    (0, None, 20, Some(NewRefusal::NoObjects)),
+    (0, None, 1, Some(NewRefusal::NoObjects)),
+    (256, None, 20, None),
+    (257, None, 20, Some(NewRefusal::TooManyObjects)),
+    (257, Some(3), 1, Some(NewRefusal::TooManyObjects)),
+    (1, Some(0), 20, Some(NewRefusal::NotFresh)),
+    (1, Some(0), 1, Some(NewRefusal::NotFresh)),
+    (3, Some(2), 20, Some(NewRefusal::NotFresh)),
+    (256, Some(255), 20, Some(NewRefusal::NotFresh)),
+];
+
+/// The objects, and why there is no store of them. One that is made is closed.
+fn tried(alloc: Global, objects: Vec<Object>, max: u32) -> (Vec<Object>, Option<NewRefusal>) {
+    match Store::new(alloc, objects, max) {
+        Ok(store) => (store.close().1, None),
+        Err((objects, refusal)) => (objects, Some(refusal)),
+    }
+}
+
+/// That a store is made or refused as in each row.
+fn are_tried(rt: &(impl Abort + AllocGlobal), offers: &[Offer]) -> Result<(), Fail> {
+    for (count, touched, max, refusal) in offers {
+        let objects = offered(rt, *count, *touched)?;
+        let (objects, got) = tried(rt.alloc(), objects, *max);
+        assert!(rt; got == *refusal, "{count} {touched:?} {max}");
+        are_in_place(rt, &objects, *count, *touched);
+    }
+    Ok(())
+}
+
+#[test]
+fn stores_are_made_of_new_objects(rt: HostRuntime) -> Result<(), Fail> {
+    are_tried(&rt, &OFFERS)
+}
+
+/// A store is empty at first.
+#[test]
+fn a_new_store_is_empty(rt: HostRuntime) -> Result<(), Fail> {
+    let store = store_of(&rt, made(rt.alloc(), 2)?, 20)?;
+    let seen = (store.history().len(), store.kept(1), store.kept(2));
+    let (history, objects) = store.close();
+    assert!(rt; seen == (0, Some(0), None));
+    assert!(rt; history.is_empty());
+    are_closed(&rt, &objects);
+    Ok(())
+}

@@ -1,0 +1,260 @@
+//! Many commands from a generator, at stores and at lists of what happened.
+
+use super::scripts::{are_closed, outcome, store_of};
+use history_audit::{Audit, audit};
+use object_trait::{EventKind, Recovery};
+use objects::Object;
+use rand_core::utils::NextWord;
+use rand_pcg::Lcg64Xsh32;
+use reference_store::asked::Ask;
+use reference_store::checked_types::checked_of;
+use reference_store::reference::Reference;
+use std::alloc::{AllocError, Global};
+use std::process::Abort;
+use std::sync::Arc;
+use std::test::Fail;
+use store::Store;
+use table_checker::CheckedType;
+use test_support::type_texts::{COUNTER_FROM_ONE, COUNTER_OF_FOUR, ONE_WAY, SEMIQUEUE, TWIN};
+use type_table::{Kind, TypeTable};
+
+/// How many seeds there are.
+const SEEDS: u64 = 10;
+
+/// How many stores there are for each seed.
+const STORES: usize = 10;
+
+/// How many commands each of them is given.
+const COMMANDS: u32 = 2000;
+
+/// How many events a store may have: each second one can't have them all.
+const EVENTS: [u32; 2] = [10_000, 1000];
+
+/// A kind of recovery, the text of a type, and calls, of which the last isn't there.
+type Sort = (Kind, &'static str, [&'static str; 4]);
+
+/// The sorts of objects with update in place.
+static IN_PLACE: [Sort; 3] = [
+    (
+        Kind::Undo,
+        COUNTER_OF_FOUR,
+        ["inc:1", "dec:1", "inc:1", "no"],
+    ),
+    (Kind::Undo, SEMIQUEUE, ["enq:a", "enq:b", "deq", "enq"]),
+    (Kind::Undo, ONE_WAY, ["p", "q", "r", "s"]),
+];
+
+/// The sorts of deferred objects.
+static DEFERRED: [Sort; 4] = [
+    (
+        Kind::Intentions,
+        COUNTER_OF_FOUR,
+        ["inc:1", "dec:1", "dec:1", "no"],
+    ),
+    (
+        Kind::Intentions,
+        SEMIQUEUE,
+        ["enq:a", "enq:b", "deq", "enq"],
+    ),
+    (Kind::Intentions, TWIN, ["p", "q", "r", "s"]),
+    (
+        Kind::Intentions,
+        COUNTER_FROM_ONE,
+        ["inc:1", "dec:1", "inc:1", ""],
+    ),
+];
+
+/// The sorts of the four objects of a store: two with update in place, and two deferred ones between
+/// and behind them.
+fn sorts_of(store: usize) -> [&'static Sort; 4] {
+    let following = store.wrapping_add(1);
+    [
+        &IN_PLACE[store % 3],
+        &DEFERRED[store % 4],
+        &IN_PLACE[following % 3],
+        &DEFERRED[following % 4],
+    ]
+}
+
+/// What commands are drawn from: a generator, and the sorts of a store's objects.
+#[derive(Drop)]
+struct Dice {
+    words: Lcg64Xsh32,
+    sorts: [&'static Sort; 4],
+}
+
+impl Dice {
+    /// The next number below n.
+    fn below(&mut self, n: u32) -> u32 {
+        self.words.next_word() % n.max(1)
+    }
+
+    /// A transaction: mostly one of the first that are open, else one that began lately or would be next.
+    fn transaction(&mut self, reference: &Reference) -> u32 {
+        let lately = reference.count().wrapping_sub(self.below(7));
+        if self.below(12) == 0 {
+            return lately;
+        }
+        reference.open_at(self.below(3)).unwrap_or(lately)
+    }
+
+    /// A small number.
+    fn byte(&mut self, n: u32) -> u8 {
+        (self.below(n) % 256) as u8
+    }
+
+    /// A call of t, by name or by number.
+    fn call(&mut self, t: u32) -> Ask {
+        // one of 33 is of an object that isn't there
+        let x = match self.below(33) {
+            32 => 4,
+            n => n % 4,
+        };
+        let names: [&'static str; 4] = match self.sorts.get(x as usize) {
+            Some(sort) => sort.2,
+            None => ["p"; 4],
+        };
+        if self.below(6) == 0 {
+            return Ask::Number(t, x, self.byte(6));
+        }
+        match self.below(10) {
+            0 => Ask::Call(t, x, names[3]),
+            1..4 => Ask::Call(t, x, names[0]),
+            4..7 => Ask::Call(t, x, names[1]),
+            _ => Ask::Call(t, x, names[2]),
+        }
+    }
+
+    /// Some command, after what happened.
+    fn ask(&mut self, reference: &Reference) -> Ask {
+        if reference.open_at(1).is_none() && self.below(4) > 0 {
+            return Ask::Begin;
+        }
+        let t = self.transaction(reference);
+        match self.below(100) {
+            0..4 => Ask::Begin,
+            4..76 => self.call(t),
+            76..87 => Ask::Commit(t),
+            87..92 => Ask::Abort(t),
+            _ => Ask::Rollback(t, self.below(4)),
+        }
+    }
+}
+
+/// The checked types of these sorts.
+fn checked_types(alloc: Global, sorts: &[&'static Sort]) -> Result<Vec<Arc<CheckedType>>, Fail> {
+    let mut types = Vec::new(alloc);
+    for sort in sorts {
+        let checked = checked_of(alloc, sort.1, sort.0)?;
+        types.push(checked).ok().ok_or("no room")?;
+    }
+    Ok(types)
+}
+
+/// The same once more.
+fn copies(alloc: Global, types: &[Arc<CheckedType>]) -> Result<Vec<Arc<CheckedType>>, Fail> {
+    let mut more = Vec::new(alloc);
+    for checked in types {
+        more.push(Arc::try_clone(checked)?).ok().ok_or("no room")?;
+    }
+    Ok(more)
+}
+
+/// A new object of each type.
+fn objects_of(alloc: Global, types: &[Arc<CheckedType>]) -> Result<Vec<Object>, Fail> {
+    let mut objects = Vec::new(alloc);
+    for checked in types {
+        let object = Object::new(alloc, Arc::try_clone(checked)?);
+        objects.push(object).ok().ok_or("no room")?;
+    }
+    Ok(objects)
+}
+
+/// That objects with update in place keep what the lists say.
+fn keep_alike<R: Recovery>(rt: &impl Abort, store: &Store<R>, reference: &Reference) {
+    for x in [0, 2, 4] {
+        assert!(rt; store.kept(x) == reference.kept(x));
+    }
+}
+
+/// That each of many commands is answered alike.
+fn answer_alike<R: Recovery>(
+    rt: &impl Abort,
+    store: &mut Store<R>,
+    reference: &mut Reference,
+    dice: &mut Dice,
+) -> Result<(), Fail> {
+    for _ in 0..COMMANDS {
+        let ask = dice.ask(reference);
+        let w = dice.byte(16);
+        let wanted = reference.told(w, ask)?;
+        let got = outcome(store, w, ask);
+        assert!(rt; got == wanted);
+        keep_alike(rt, store, reference);
+    }
+    Ok(())
+}
+
+/// The tables of these types.
+fn tables_of<'a>(
+    alloc: Global,
+    types: &'a [Arc<CheckedType>],
+) -> Result<Vec<&'a TypeTable>, AllocError> {
+    types.iter().map(|checked| checked.table()).collect(alloc)
+}
+
+/// That an audit has the commits of the lists in their order, and the serial states.
+fn is_audited_alike(rt: &impl Abort, audit: &Audit, reference: &Reference) {
+    let mut order = audit.order.iter();
+    for event in reference.events() {
+        if let EventKind::Commit { t } = event.kind {
+            assert!(rt; order.next() == Some(&t));
+        }
+    }
+    assert!(rt; order.next() == None);
+    for x in 0..5 {
+        let state = audit.finals.get(x as usize).copied();
+        assert!(rt; state == reference.serial_state(x));
+    }
+}
+
+/// One store, from its beginning to its end, and the audit of its history.
+fn live_alike(
+    rt: &(impl Abort + AllocGlobal),
+    dice: &mut Dice,
+    max_events: u32,
+) -> Result<(), Fail> {
+    let types = checked_types(rt.alloc(), &dice.sorts)?;
+    let mut reference = Reference::new(rt.alloc(), copies(rt.alloc(), &types)?, max_events);
+    let mut store = store_of(rt, objects_of(rt.alloc(), &types)?, max_events)?;
+    let alike = answer_alike(rt, &mut store, &mut reference, dice);
+    let (history, objects) = store.close();
+    alike?;
+    reference.close()?;
+    assert!(rt; history.as_slice() == reference.events());
+    are_closed(rt, &objects);
+    let audit = audit(rt.alloc(), &history, &tables_of(rt.alloc(), &types)?)?;
+    is_audited_alike(rt, &audit, &reference);
+    Ok(())
+}
+
+/// All stores of a seed.
+fn are_alike(rt: &(impl Abort + AllocGlobal), seed: u64) -> Result<(), Fail> {
+    let mut dice = Dice {
+        words: Lcg64Xsh32::new(seed, 0),
+        sorts: sorts_of(0),
+    };
+    for store in 0..STORES {
+        dice.sorts = sorts_of(store);
+        live_alike(rt, &mut dice, EVENTS[store % 2])?;
+    }
+    Ok(())
+}
+
+#[test]
+fn commands_are_answered_as_by_lists(rt: HostRuntime) -> Result<(), Fail> {
+    for seed in 0..SEEDS {
+        are_alike(&rt, seed)?;
+    }
+    Ok(())
+}

@@ -1,0 +1,98 @@
+//! A store of a stranger's objects, which run their logs anew for each view: it answers as a store of the
+//! library's.
+
+use super::objects_of;
+use super::scripts::{Happened, Row, answers, are_closed, are_events, store_of};
+use crate::tests::any_objects::replayed::Replayed;
+use object_trait::{EventKind, Recovery};
+use reference_store::asked::{Ask, Told};
+use std::alloc::Global;
+use std::process::Abort;
+use std::test::Fail;
+use table_checker::check;
+use test_support::type_texts::COUNTER_OF_FOUR;
+use type_table::Kind;
+use type_text::read_type;
+
+/// Two transactions count up from 1 to 4, side by side. One takes its second up back, and then the first
+/// out of the middle, and the other counts down again.
+const ROWS: &[Row] = &[
+    (0, Ask::Begin, Told::Begun(0)),
+    (1, Ask::Begin, Told::Begun(1)),
+    (0, Ask::Call(0, 0, "inc:1"), Told::Reply(0)),
+    (1, Ask::Call(1, 0, "inc:1"), Told::Reply(0)),
+    (0, Ask::Call(0, 0, "inc:1"), Told::Reply(0)),
+    (1, Ask::Call(1, 0, "inc:1"), Told::None),
+    (0, Ask::Rollback(0, 1), Told::Done),
+    (1, Ask::Kept(0), Told::Kept(Some(3))),
+    (1, Ask::Call(1, 0, "dec:1"), Told::Busy(0)),
+    (0, Ask::Abort(0), Told::Done),
+    (1, Ask::Kept(0), Told::Kept(Some(2))),
+    (1, Ask::Call(1, 0, "dec:1"), Told::Reply(1)),
+    (1, Ask::Commit(1), Told::Done),
+    (1, Ask::Kept(0), Told::Kept(Some(1))),
+    (2, Ask::Begin, Told::Begun(2)),
+    (2, Ask::Call(2, 0, "dec:1"), Told::Reply(1)),
+    (2, Ask::Call(2, 0, "dec:1"), Told::None),
+    (2, Ask::Rollback(2, 1), Told::Done),
+    (2, Ask::Commit(2), Told::Done),
+    (2, Ask::Kept(0), Told::Kept(Some(1))),
+];
+
+/// What happened.
+const HISTORY: &[Happened] = &[
+    (0, EventKind::Begin { t: 0 }),
+    (1, EventKind::Begin { t: 1 }),
+    (0, EventKind::Op { t: 0, x: 0, k: 0 }),
+    (1, EventKind::Op { t: 1, x: 0, k: 0 }),
+    (0, EventKind::Op { t: 0, x: 0, k: 0 }),
+    (1, EventKind::None { c: 0, t: 1, x: 0 }),
+    (0, EventKind::Rollback { t: 0, n: 1 }),
+    (
+        1,
+        EventKind::Busy {
+            c: 1,
+            t: 1,
+            x: 0,
+            u: 0,
+        },
+    ),
+    (0, EventKind::Abort { t: 0 }),
+    (1, EventKind::Op { t: 1, x: 0, k: 1 }),
+    (1, EventKind::Commit { t: 1 }),
+    (2, EventKind::Begin { t: 2 }),
+    (2, EventKind::Op { t: 2, x: 0, k: 1 }),
+    (2, EventKind::None { c: 1, t: 2, x: 0 }),
+    (2, EventKind::Rollback { t: 2, n: 1 }),
+    (2, EventKind::Commit { t: 2 }),
+];
+
+/// A new counter of four, whose log is run anew.
+fn replayed(alloc: Global) -> Result<Vec<Replayed>, Fail> {
+    let file = read_type(alloc, COUNTER_OF_FOUR.as_bytes())
+        .ok()
+        .ok_or("no type")?;
+    match check(file, Kind::Undo) {
+        Ok(checked) => Ok(vec![in alloc; Replayed::new(alloc, checked)]?),
+        Err(_) => Err("not for update in place")?,
+    }
+}
+
+/// That a store of this object does what the rows say.
+fn is_played<R: Recovery>(rt: &(impl Abort + AllocGlobal), objects: Vec<R>) -> Result<(), Fail> {
+    let mut store = store_of(rt, objects, 20)?;
+    answers(rt, &mut store, ROWS);
+    let (history, objects) = store.close();
+    are_events(rt, &history, HISTORY);
+    are_closed(rt, &objects);
+    Ok(())
+}
+
+#[test]
+fn a_log_that_is_run_anew_answers(rt: HostRuntime) -> Result<(), Fail> {
+    is_played(&rt, replayed(rt.alloc())?)?;
+    is_played(
+        &rt,
+        objects_of(rt.alloc(), &[(Kind::Undo, COUNTER_OF_FOUR)])?,
+    )
+}

@@ -1,0 +1,140 @@
+//! Calls of a store, one after another, and what each answers.
+
+use super::objects_of;
+use object_trait::{Event, EventKind, Recovery};
+use reference_store::asked::{Ask, Told, answered};
+use reference_store::checked_types::Sort;
+use serial_order::Refusal;
+use std::process::Abort;
+use std::test::Fail;
+use store::{Answer, NewRefusal, Store};
+
+/// The worker that calls, its call, and what comes of it.
+pub type Row = (u8, Ask, Told);
+
+/// An event, by its worker and its kind.
+pub type Happened = (u8, EventKind);
+
+/// A store, calls of it, and the history at its end.
+pub struct Script {
+    pub objects: &'static [Sort],
+    pub max: u32,
+    pub rows: &'static [Row],
+    pub history: &'static [Happened],
+}
+
+fn begin<R: Recovery>(store: &mut Store<R>, w: u8) -> Told {
+    match store.begin(w) {
+        Ok(t) => Told::Begun(t),
+        Err(refusal) => Told::Refused(refusal),
+    }
+}
+
+fn called(answer: Result<Answer, Refusal>) -> Told {
+    match answer {
+        Ok(answer) => answered(answer),
+        Err(refusal) => Told::Refused(refusal),
+    }
+}
+
+fn ended(end: Result<(), Refusal>) -> Told {
+    match end {
+        Ok(()) => Told::Done,
+        Err(refusal) => Told::Refused(refusal),
+    }
+}
+
+/// What comes of a call.
+pub fn outcome<R: Recovery>(store: &mut Store<R>, w: u8, ask: Ask) -> Told {
+    match ask {
+        Ask::Begin => begin(store, w),
+        Ask::Call(t, x, name) => called(store.call(w, t, x, name)),
+        Ask::Number(t, x, c) => called(store.call_op(w, t, x, c)),
+        Ask::Commit(t) => ended(store.commit(w, t)),
+        Ask::Abort(t) => ended(store.abort(w, t)),
+        Ask::Rollback(t, n) => ended(store.rollback(w, t, n)),
+        Ask::Kept(x) => Told::Kept(store.kept(x)),
+        Ask::NumberOf(x, name) => Told::NumberOf(store.call_of(x, name)),
+    }
+}
+
+/// What a caller sees of a store at a glance: how long its history is, and what the first two objects
+/// keep.
+fn glance<R: Recovery>(store: &Store<R>) -> (usize, Option<u16>, Option<u16>) {
+    (store.history().len(), store.kept(0), store.kept(1))
+}
+
+/// What comes of a call where one allocation may be refused: then nothing has changed, and the next
+/// try has its memory.
+fn at_last<R: Recovery>(rt: &impl Abort, store: &mut Store<R>, w: u8, ask: Ask) -> Told {
+    let before = glance(store);
+    let first = outcome(store, w, ask);
+    if first != Told::Refused(Refusal::NoMemory) {
+        return first;
+    }
+    assert!(rt; glance(store) == before);
+    outcome(store, w, ask)
+}
+
+/// That a store answers so.
+pub fn answers<R: Recovery>(rt: &impl Abort, store: &mut Store<R>, rows: &[Row]) {
+    for (i, (w, ask, wanted)) in rows.iter().enumerate() {
+        let got = at_last(rt, store, *w, *ask);
+        assert!(rt; got == *wanted, "row {i}: {got:?}");
+    }
+}
+
+/// A store of these objects. Where one allocation is refused, the next try has it.
+pub fn store_of<R: Recovery>(
+    rt: &(impl Abort + AllocGlobal),
+    objects: Vec<R>,
+    max: u32,
+) -> Result<Store<R>, NewRefusal> {
+    let back = match Store::new(rt.alloc(), objects, max) {
+        Ok(store) => return Ok(store),
+        Err((back, refusal)) => {
+            assert!(rt; refusal == NewRefusal::NoMemory);
+            back
+        }
+    };
+    match Store::new(rt.alloc(), back, max) {
+        Ok(store) => Ok(store),
+        Err((_, refusal)) => Err(refusal),
+    }
+}
+
+/// That a history has these events.
+pub fn are_events(rt: &impl Abort, history: &[Event], wanted: &[Happened]) {
+    assert!(rt; history.len() == wanted.len());
+    for (event, (worker, kind)) in history.iter().zip(wanted) {
+        assert!(rt; event.worker == *worker);
+        assert!(rt; event.kind == *kind);
+    }
+}
+
+/// That no transaction is open at any of these objects.
+pub fn are_closed<R: Recovery>(rt: &impl Abort, objects: &[R]) {
+    for object in objects {
+        assert!(rt; object.open_count() == 0);
+    }
+}
+
+/// Plays a script at a new store, and closes that.
+pub fn plays(rt: &(impl Abort + AllocGlobal), script: &Script) -> Result<(), Fail> {
+    let objects = objects_of(rt.alloc(), script.objects)?;
+    let mut store = store_of(rt, objects, script.max)?;
+    answers(rt, &mut store, script.rows);
+    let (history, objects) = store.close();
+    are_events(rt, &history, script.history);
+    assert!(rt; objects.len() == script.objects.len());
+    are_closed(rt, &objects);
+    Ok(())
+}
+
+/// Plays each script.
+pub fn are_played(rt: &(impl Abort + AllocGlobal), scripts: &[Script]) -> Result<(), Fail> {
+    for script in scripts {
+        plays(rt, script)?;
+    }
+    Ok(())
+}

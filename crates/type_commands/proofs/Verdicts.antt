@@ -1,0 +1,30 @@
+-- The text of an answer says what the answer does.
+use Rattle.std.proofs.Common.{◌≡◌, ◌↔◌, ◌∙◌, ℕ, List, Bool, true, Option, None, Some, Ok}
+use Rattle.command_files.specs.Answers.{IsThis}
+use Rattle.command_files.specs.declared.status.Verdict.{Verdict}
+use Rattle.command_files.specs.declared.status.Verdict.TheVariants.{Yes, No}
+use Rattle.table_checker.specs.Checked.{IsStrong}
+use Rattle.table_checker.specs.Laws.{CoversType}
+use Rattle.type_table.specs.declared.kind.Kind.{Kind}
+use Rattle.type_text.specs.Canonical.{canonical_text}
+use Rattle.type_text.specs.declared.type_file.TypeFile.{TypeFile}
+use Rattle.type_commands.specs.Made.{IsMadeOf, MakesFamily, MakesFor, MakesTables}
+use Rattle.type_commands.specs.Request.{Wanted}
+use Rattle.type_commands.specs.Verdict.{SaysOf, yes_line}
+
+-- the line of a yes
+pub line_says : (kind : Kind) (file : TypeFile) (strong : Bool) (line : List ℕ) → ((strong ≡ true) ↔ IsStrong (record { kind = kind; file = file })) → CoversType kind file
+    → line ≡ yes_line strong → (v : Verdict) (text : List ℕ) → IsThis Yes line v text → SaysOf kind file v text
+line_says kind file strong line exact covers is Yes text this = record { strong = strong; is_strong = exact; covers = covers; line = this.1 ∙ is }
+line_says kind file strong line exact covers is No text this = absurd (let clash = this.0 in cc)
+
+-- the text of a family's file
+pub family_says : (wanted : Option Wanted) (file : TypeFile) → MakesFor wanted (Ok file) → (v : Verdict) (text : List ℕ) → IsThis Yes (canonical_text file) v text → MakesFamily wanted v text
+family_says None file makes v text this = absurd makes
+family_says (Some wanted) file makes Yes text this = (file, makes, this.1)
+family_says (Some wanted) file makes No text this = absurd (let clash = this.0 in cc)
+
+-- the text of a file with made tables
+pub tables_say : (given file : TypeFile) → IsMadeOf given file → (v : Verdict) (text : List ℕ) → IsThis Yes (canonical_text file) v text → MakesTables given v text
+tables_say given file made Yes text this = (file, made, this.1)
+tables_say given file made No text this = absurd (let clash = this.0 in cc)

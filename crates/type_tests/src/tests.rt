@@ -1,0 +1,8 @@
+//! The tests of types, and of the lines and outputs of their texts.
+
+mod checked;
+mod lines;
+mod relations;
+mod sinks;
+mod type_files;
+mod types;

@@ -1,0 +1,124 @@
+//! What `check` and `check_parallel` hand back besides their verdict, and how faults are printed.
+
+use std::process::Abort;
+use std::test::Fail;
+use table_checker::{
+    CheckRefusal, CheckedType, check, check_parallel, one_answer, strong_yes_covers, yes_covers,
+};
+use table_maker::MakeError;
+use test_support::printed::are_printed;
+use test_support::texts::changed;
+use test_support::type_texts::COUNTER;
+use type_table::{ConflictTable, Kind};
+use type_text::{Sink, TypeFile, read_type, write_type};
+
+/// That this is the file of a text.
+fn is_file<R: Abort + AllocGlobal>(rt: &R, file: &TypeFile, text: &[u8]) {
+    let mut out = Sink::new(Vec::new(rt.alloc()));
+    assert!(rt; write_type(file, &mut out).is_ok());
+    assert!(rt; out.into_inner().as_slice() == text);
+}
+
+/// Whether these are the conflicts of two operations, of which each conflicts with itself alone.
+fn are_of_two_alone(conflicts: &ConflictTable) -> bool {
+    conflicts.ops() == 2
+        && conflicts.conflicts(0, 0)
+        && !conflicts.conflicts(0, 1)
+        && !conflicts.conflicts(1, 0)
+        && conflicts.conflicts(1, 1)
+}
+
+/// That this is the counter, accepted for deferred update.
+fn is_counter<R: Abort + AllocGlobal>(rt: &R, checked: &CheckedType) {
+    assert!(rt; checked.kind() == Kind::Intentions);
+    assert!(rt; checked.is_strong());
+    assert!(rt; checked.table().name().as_bytes() == b"counter".as_slice());
+    assert!(rt; are_of_two_alone(checked.conflicts()));
+    is_file(rt, checked.file(), COUNTER.as_bytes());
+}
+
+#[test]
+fn accepted_counter_has_its_parts(rt: HostRuntime) -> Result<(), Fail> {
+    let file = read_type(rt.alloc(), COUNTER.as_bytes())?;
+    match check(file, Kind::Intentions) {
+        Ok(checked) => is_counter(&rt, &checked),
+        Err(_) => Err("refused")?,
+    }
+    Ok(())
+}
+
+/// The conflicts of the counter.
+const PAIRS: &str =
+    "conflict undo 0 1\nconflict undo 1 0\nconflict intentions 0 0\nconflict intentions 1 1\n";
+
+/// That a text comes back with this refusal.
+fn comes_back<R: Abort + AllocGlobal>(
+    rt: &R,
+    text: &[u8],
+    checked: Result<CheckedType, (TypeFile, CheckRefusal)>,
+    wanted: CheckRefusal,
+) -> Result<(), Fail> {
+    let Err((file, refusal)) = checked else {
+        return Err("accepted")?;
+    };
+    assert!(rt; refusal == wanted);
+    is_file(rt, &file, text);
+    Ok(())
+}
+
+#[test]
+fn refused_counter_comes_back(rt: HostRuntime) -> Result<(), Fail> {
+    let text = changed(rt.alloc(), COUNTER, PAIRS, b"conflict intentions 1 1\n")?;
+    let checked = check(read_type(rt.alloc(), &text)?, Kind::Intentions);
+    let wanted = CheckRefusal::NotCommuting { p: 0, q: 0, s: 1 };
+    comes_back(&rt, &text, checked, wanted)
+}
+
+#[test]
+fn counter_refused_in_parallel_comes_back(rt: HostRuntime) -> Result<(), Fail> {
+    let text = changed(rt.alloc(), COUNTER, PAIRS, b"conflict undo 1 0\n")?;
+    let checked = check_parallel(&rt, read_type(rt.alloc(), &text)?, Kind::Undo);
+    let wanted = CheckRefusal::NotCommuting { p: 0, q: 1, s: 2 };
+    comes_back(&rt, &text, checked, wanted)
+}
+
+/// Refusals, and how they are printed.
+static REFUSALS: [(CheckRefusal, &str); 4] = [
+    (CheckRefusal::InitialOutside, "InitialOutside"),
+    (
+        CheckRefusal::NotClosed { s: 1023, k: 7 },
+        "NotClosed 1023 7",
+    ),
+    (
+        CheckRefusal::NotSimulation { s: 4, t: 3, k: 2 },
+        "NotSimulation 4 3 2",
+    ),
+    (
+        CheckRefusal::NotCommuting {
+            p: 0,
+            q: 63,
+            s: 1023,
+        },
+        "NotCommuting 0 63 1023",
+    ),
+];
+
+/// Faults of making, and how they are printed.
+static ERRORS: [(MakeError, &str); 3] = [
+    (MakeError::BadParameter, "BadParameter"),
+    (MakeError::TooLarge, "TooLarge"),
+    (MakeError::NoMemory, "no memory"),
+];
+
+#[test]
+fn faults_are_printed(rt: HostRuntime) -> Result<(), Fail> {
+    are_printed(rt.alloc(), &REFUSALS)?;
+    are_printed(rt.alloc(), &ERRORS)
+}
+
+#[test]
+fn laws_are_called() {
+    yes_covers();
+    strong_yes_covers();
+    one_answer();
+}
