@@ -1,33 +1,13 @@
 -- What the law of canonical texts asks of the counter of two.
-use Rattle.std.proofs.Common.{◌≡◌, ℕ, ◌<◌, true, get_or, refl, arith, below_none, below_more}
+use Rattle.std.proofs.Common.{◌≡◌, ℕ, ◌<◌, true, get_or, refl, arith}
 use Rattle.type_table.specs.declared.op.Op.{Op}
 use Rattle.type_table.specs.Name.{is_name}
-use Rattle.type_table.specs.Table.{IsTable}
 use Rattle.type_table.specs.Examples.{counter}
 use Rattle.type_text.specs.Canonical.{HasNames, IsTypeFile}
 use Rattle.table_checker.specs.Examples.{counter_file}
+use Rattle.table_checker.proofs.Examples.{at_two, at_three, counter-table}
 
--- what holds at each of two numbers
-at_two : (P : ℕ → Type 0) → P 0 → P 1 → (k : ℕ) → k < 2 → P k
-at_two P zeroth first = below_more P 1 (below_more P 0 (below_none P) zeroth) first
-
--- and at each of three
-at_three : (P : ℕ → Type 0) → P 0 → P 1 → P 2 → (s : ℕ) → s < 3 → P s
-at_three P zeroth first second = below_more P 2 (at_two P zeroth first) second
-
-counter-table : IsTable counter
-counter-table = record {
-  some_states = omega arith;
-  states_fit = omega arith;
-  some_ops = omega arith;
-  ops_fit = omega arith;
-  whole = refl;
-  initial_inside = omega arith;
-  steps_inside = refl;
-  no_twin = refl;
-}
-
--- its parts are those of a file
+-- the counter's parts are those of a file
 pub counter-is_file : IsTypeFile counter_file
 counter-is_file = record {
   table = counter-table;

@@ -3,7 +3,7 @@ use Rattle.std.proofs.Common.{◌≡◌, ◌∙◌, ◌||◌, ap, not, refl, tru
 use Rattle.std.specs.Prelude.{codes, fold, is_some, Option, Some, None, if◌then◌else◌}
 use Rattle.std.specs.Option.{option_map_or}
 use Rattle.std.specs.Str.{bytes_eq}
-use Rattle.std.proofs.lemmas.Bool.{or_parts}
+use Rattle.std.proofs.lemmas.Bool.{or_parts, not-false}
 use Rattle.clap.specs.Facts.{explicit_source}
 use Rattle.clap.specs.Takes.{is_given}
 use Rattle.clap.specs.Walk.{Held, Row, Rule, finished, has_row, settled, with_default}
@@ -218,17 +218,12 @@ none_missing : (b : Bool) → missing b ≡ [] → b ≡ false
 none_missing true none = absurd (never MissingRequiredArgument [] none)
 none_missing false none = refl
 
--- what is given is not missing
-given : (b : Bool) → not b ≡ false → b ≡ true
-given true none = refl
-given false none = absurd cc
-
 -- so what lacks nothing is complete
 pub complete : (seeded : Bool) (t : Tally) → missing (lacks seeded t) ≡ [] → IsComplete seeded t
 complete seeded t none = by_operands t.operands refl (none_missing (lacks seeded t) none)
   where
     seed_given : (b : Bool) → lacks_seed b (some_given (t.values seed)) ≡ false → b ≡ true → some_given (t.values seed) ≡ true
-    seed_given true none is = given (some_given (t.values seed)) (or_parts (not (some_given (t.values seed))) false none).0
+    seed_given true none is = not-false (some_given (t.values seed)) (or_parts (not (some_given (t.values seed))) false none).0
     seed_given false none is = absurd cc
 
     by_operands : (operands : List Text) → t.operands ≡ operands
@@ -242,7 +237,7 @@ complete seeded t none = by_operands t.operands refl (none_missing (lacks seeded
           type = type;
           types = types;
           operands = are;
-          workers = given (some_given (t.values workers)) rest.0;
+          workers = not-false (some_given (t.values workers)) rest.0;
           seed = seed_given seeded rest.1;
         }
 

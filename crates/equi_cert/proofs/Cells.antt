@@ -1,7 +1,7 @@
 -- Relations in words of 64 bits.
-use Rattle.std.proofs.Common.{◌≡◌, ℕ, ◌+◌, ◌*◌, ◌/◌, ◌%◌, ◌<◌, ◌≤◌, Bool, true, eqb, ltb, ◌&&◌, ◌||◌, List, length, refl, sym, ap, ◌∙◌, inl, inr, arith}
+use Rattle.std.proofs.Common.{◌≡◌, ℕ, ◌+◌, ◌*◌, ◌/◌, ◌<◌, ◌≤◌, Bool, true, eqb, ltb, ◌&&◌, ◌||◌, List, length, refl, sym, ap, ◌∙◌, inl, inr, arith}
 use Rattle.std.proofs.lemmas.Bool.{cases_eq, cases_lt, eq-eqb, ne_eqb, lt-ltb, le-ltb, and_from, and_left, and_right, or_from, or_left}
-use Rattle.std.proofs.lemmas.Nat.{mul-add-lt, div-mul-add, mod-mul-add}
+use Rattle.std.proofs.lemmas.Nat.{mul-add-lt, same_from_place}
 use Rattle.type_table.specs.ConflictTable.{IsSquare}
 use Rattle.equi_cert.specs.Relation.{relates, IsRelation}
 use Rattle.equi_cert.specs.Bits.{has_bit, HasRoom, cell_of, rows_of}
@@ -17,22 +17,15 @@ place_fits states s t words room s_in t_in = omega (arith, room, mul-add-lt s st
 pub room-kept : (states : ℕ) (words more : List ℕ) → HasRoom states words → length more ≡ length words → HasRoom states more
 room-kept states words more room e = omega (arith, room, e)
 
--- a place tells its two states
-same-place : (states a b s t : ℕ) → b < states → t < states → a * states + b ≡ s * states + t → (a ≡ s) × (b ≡ t)
-same-place states a b s t b_in t_in e = (
-  sym (div-mul-add a states b b_in) ∙ ap (λ n. n / states) e ∙ div-mul-add s states t t_in,
-  sym (mod-mul-add a states b b_in) ∙ ap (λ n. n % states) e ∙ mod-mul-add s states t t_in,
-)
-
 -- two places are one where the states are
 eqb-place : (states a b s t : ℕ) → b < states → t < states → eqb (a * states + b) (s * states + t) ≡ (eqb a s && eqb b t)
 eqb-place states a b s t b_in t_in =
     elim (cases_eq a s) [
       | inl same ↦ elim (cases_eq b t) [
         | inl here ↦ eq-eqb (a * states + b) (s * states + t) (rw (same, here) refl) ∙ sym (and_from _ _ (eq-eqb a s same) (eq-eqb b t here))
-        | inr other ↦ ne_eqb (a * states + b) (s * states + t) (λ e. other (same-place states a b s t b_in t_in e).1) ∙ sym (and_right _ _ (ne_eqb b t other))
+        | inr other ↦ ne_eqb (a * states + b) (s * states + t) (λ e. other (same_from_place a b s t states b_in t_in e).1) ∙ sym (and_right _ _ (ne_eqb b t other))
       ]
-      | inr other ↦ ne_eqb (a * states + b) (s * states + t) (λ e. other (same-place states a b s t b_in t_in e).0) ∙ sym (and_left _ _ (ne_eqb a s other))
+      | inr other ↦ ne_eqb (a * states + b) (s * states + t) (λ e. other (same_from_place a b s t states b_in t_in e).0) ∙ sym (and_left _ _ (ne_eqb a s other))
     ]
 
 -- ---- the diagonal

@@ -1,18 +1,15 @@
 -- Bits in words of 64 bits.
-use Rattle.std.proofs.Common.{◌≡◌, ℕ, ◌*◌, ◌^◌, ◌%◌, ◌/◌, ◌<◌, Bool, true, false, eqb, ◌||◌, List, length, get_or, set, bit_or, w64, refl, sym, ap, ◌∙◌, inl, inr, arith}
+use Rattle.std.proofs.Common.{◌≡◌, ℕ, ◌*◌, ◌^◌, ◌%◌, ◌/◌, ◌<◌, Bool, eqb, ◌||◌, List, length, get_or, set, bit_or, w64, sym, ap, ◌∙◌, inl, inr, arith}
 use Rattle.std.specs.Int.{bit_at}
 use Rattle.std.proofs.lemmas.Bool.{cases_eq, eq-eqb, ne_eqb, or_right}
 use Rattle.std.proofs.lemmas.List.{get_or-set_same, get_or-set_other}
 use Rattle.std.proofs.lemmas.Nat.Bits.{bit_at_set_same, bit_at_set_other}
+use Rattle.std.proofs.Math.Bool.{or-false}
 use Rattle.equi_cert.specs.Bits.{has_bit}
-
-or_false : (b : Bool) → b ≡ (b || false)
-or_false true = refl
-or_false false = refl
 
 -- what is elsewhere stays
 kept : (old : Bool) (i place : ℕ) → (i ≡ place → ⊥) → old ≡ (old || eqb i place)
-kept old i place ne = or_false old ∙ ap (λ x. old || x) (sym (ne_eqb i place ne))
+kept old i place ne = sym (or-false old) ∙ ap (λ x. old || x) (sym (ne_eqb i place ne))
 
 -- a word with one more bit
 pub has_bit-set : (words : List ℕ) (place i : ℕ) → place / 64 < length words →

@@ -5,6 +5,7 @@ use Rattle.std.proofs.lemmas.Option.{none-some, same_Some, slice_get-get_or}
 use Rattle.type_table.specs.Table.{Table}
 use Rattle.type_table.specs.Run.{run}
 use Rattle.type_table.specs.Laws.{RunsAlong}
+use Rattle.type_table.proofs.Elements.{each-map, each-filter, take-found}
 use Rattle.object_trait.specs.declared.event.Event.{Event}
 use Rattle.object_trait.specs.declared.event.EventKind.{EventKind}
 use Rattle.object_trait.specs.declared.event.EventKind.TheVariants as kind
@@ -31,7 +32,6 @@ use Rattle.history_audit.specs.declared.outcome.AuditFault.{AuditFault}
 use Rattle.history_audit.specs.declared.outcome.AuditFault.TheVariants.{IllegalOp, NoMemory}
 use Rattle.history_audit.proofs.Committed.{committed-so_far}
 use Rattle.history_audit.proofs.Kept.{goes-more, there-after, KeepsCommitted, keeps-committed, serial-more, first-kept}
-use Rattle.history_audit.proofs.Lists.{each-filter, each-map, take-one_more}
 
 -- ---- before the first event
 
@@ -156,7 +156,7 @@ pub other-taken : SeenAfter → OwnAfter → RunsAlong → (tables : List Table)
 other-taken seen_after own_after along tables events at a rows its inside known is judged =
     let P : Option (List Operation) → Type 0 = λ o. Judges tables a.judge (get_or events at start).kind (Ok o) rows in
     let Q : List Event → Type 0 = λ H. IsAuditing tables H (record a { judge = rows }) in
-    subst Q (sym (take-one_more events at (get_or events at start) (slice_get-get_or events at start inside)))
+    subst Q (sym (take-found events at (get_or events at start) (slice_get-get_or events at start inside)))
     (other-audited seen_after own_after along tables (take at events) (get_or events at start) a rows known (subst P is judged))
 
 -- its transaction's operations are of objects that are there
@@ -182,7 +182,7 @@ commit-taken seen_after own_after along tables events at a new rows maybe its re
     let P : Option (List Operation) → Type 0 = λ o. Judges tables a.judge (get_or events at start).kind (Ok o) rows in
     let Q : List Event → Type 0 = λ H. IsAuditing tables H new in
     leads-on tables events result (Commits tables (get_or events at start).kind its (record a { judge = rows }) new) (IsAuditing tables (take (at + 1) events) new)
-    (λ commits. subst Q (sym (take-one_more events at (get_or events at start) (slice_get-get_or events at start inside)))
+    (λ commits. subst Q (sym (take-found events at (get_or events at start) (slice_get-get_or events at start inside)))
     (commit-audited seen_after own_after along tables (take at events) (get_or events at start) a new rows its known (subst P is judged) judge ready commits))
     said
 

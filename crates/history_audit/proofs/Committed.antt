@@ -8,6 +8,7 @@ use Rattle.std.proofs.lemmas.Option.{same_Some}
 use Rattle.type_table.specs.Table.{Table}
 use Rattle.type_table.specs.Run.{run, IsLegal}
 use Rattle.type_table.specs.Laws.{RunsAlong}
+use Rattle.type_table.proofs.Elements.{found-last}
 use Rattle.object_trait.specs.declared.event.Event.{Event}
 use Rattle.serial_order.specs.Operations.{ops, of, serial}
 use Rattle.serial_order.specs.History.{commits, standing}
@@ -20,7 +21,7 @@ use Rattle.history_audit.specs.Replay.{ops_at, AreStates, is_stopped_at, IsStopp
 use Rattle.history_audit.specs.Auditor.{AuditsSoFar, illegal_at}
 use Rattle.history_audit.specs.declared.replay.Stop.{Stop}
 use Rattle.history_audit.proofs.Kept.{KeepsCommitted, serial-more, serial-kept, front-kept, illegal-back}
-use Rattle.history_audit.proofs.Lists.{slice_get-last, take-and_next, own-ops, ops_at-split}
+use Rattle.history_audit.proofs.Lists.{take-and_next, own-ops, ops_at-split}
 use Rattle.history_audit.proofs.Serials.{found, stuck-along, audited-serial, serial-each}
 
 module _ (along : RunsAlong) (tables : List Table) (H K : List Event) (t : ℕ) (its : List Operation)
@@ -53,7 +54,7 @@ module _ (along : RunsAlong) (tables : List Table) (H K : List Event) (t : ℕ) 
 
   -- its place in commit order
   at-last : slice_get (commits K) (length order) ≡ Some t
-  at-last = ap (λ C. slice_get C (length order)) kept.commits_are ∙ ap (λ o. slice_get (commits H ++ t ∷ []) (length o)) known.order_is ∙ slice_get-last (commits H) t
+  at-last = ap (λ C. slice_get C (length order)) kept.commits_are ∙ ap (λ o. slice_get (commits H ++ t ∷ []) (length o)) known.order_is ∙ found-last (commits H) t
 
   -- ---- each operation is legal
 

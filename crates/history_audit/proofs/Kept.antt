@@ -7,10 +7,12 @@ use Rattle.std.proofs.lemmas.List.{take-append-le}
 use Rattle.std.proofs.lemmas.Option.{slice_get_within}
 use Rattle.type_table.specs.Table.{Table}
 use Rattle.type_table.specs.Run.{run}
+use Rattle.type_table.proofs.Elements.{each-append, slice_get-front, filter-turned}
 use Rattle.object_trait.specs.declared.event.Event.{Event}
 use Rattle.object_trait.specs.declared.event.EventKind.{EventKind}
 use Rattle.object_trait.specs.declared.event.EventKind.TheVariants as kind
 use Rattle.object_trait.specs.declared.event.EventKind.TheVariants.{Begin, Op, Busy, Commit, Abort, Rollback}
+use Rattle.object_trait.proofs.Striking.{each-keep_first}
 use Rattle.serial_order.specs.Operations.{is_among, ops, at_object, is_by, of, serial}
 use Rattle.serial_order.specs.History.{Seen, seen, is_open, commits, committed_by, standing, IsOperation, MayStand, GoesOn}
 use Rattle.serial_order.specs.Serial.{standing_at, serial_at}
@@ -18,7 +20,7 @@ use Rattle.serial_order.specs.After.{after, SeenAfter}
 use Rattle.serial_order.specs.Held.{OwnAfter}
 use Rattle.serial_order.specs.declared.entry.Entry.{Entry}
 use Rattle.history_audit.specs.Audit.{IsIllegalAt, IsFirstIllegal, serial_up_to}
-use Rattle.history_audit.proofs.Lists.{slice_get-front, filter-turned, among-at, among-take, serial-same, each-append, each-keep_first}
+use Rattle.history_audit.proofs.Lists.{among-at, among-take, serial-same}
 
 -- ---- one more event
 

@@ -3,7 +3,6 @@ mod SlotsEnded
 mod SlotsRows
 pub mod Rows
 pub mod Judged
-pub mod Turns
 pub mod Lines
 pub mod Serials
 pub mod Said

@@ -1,12 +1,10 @@
 -- Lists: what is at a place, and the operations of a transaction at an object.
-use Rattle.std.proofs.Common.{◌≡◌, ◌≢◌, ℕ, zero, suc, ◌+◌, ◌<◌, ◌≤◌, Bool, true, false, cond, ◌⊎◌, ◌||◌, ◌==◌, List, [], ◌∷◌, ◌++◌, length, map, filter, take, set, Some, slice_get, refl, sym, ap, subst, ◌∙◌, inl, inr, append-nil, arith}
-use Rattle.std.specs.List.{AllByRecursion}
+use Rattle.std.proofs.Common.{◌≡◌, ◌≢◌, ℕ, zero, suc, ◌+◌, ◌≤◌, Bool, true, false, cond, ◌||◌, ◌==◌, List, [], ◌∷◌, ◌++◌, length, map, filter, take, set, Some, slice_get, refl, sym, ap, subst, ◌∙◌, inl, inr, append-nil, arith}
 use Rattle.std.proofs.lemmas.Bool.{cases_Bool, eq-eqb, false≢true}
-use Rattle.std.proofs.lemmas.Bool.Decides.{nat_tests}
-use Rattle.std.proofs.lemmas.List.{map-append, take_more}
+use Rattle.std.proofs.lemmas.List.{map-append}
 use Rattle.std.proofs.lemmas.List.Elements.{filter-append}
-use Rattle.std.proofs.lemmas.Option.{none-some, same_Some, get_or_from_slice_get, slice_get_within}
-use Rattle.object_trait.specs.Strike.{keep_first}
+use Rattle.std.proofs.lemmas.Option.{none-some, same_Some}
+use Rattle.type_table.proofs.Elements.{filter-turned}
 use Rattle.serial_order.specs.Operations.{is_among, ops, at_object, is_by, of, serial}
 use Rattle.serial_order.specs.declared.entry.Entry.{Entry}
 use Rattle.history_audit.specs.Rows.{plain}
@@ -15,35 +13,13 @@ use Rattle.history_audit.specs.Replay.{ops_at}
 
 -- ---- what is at a place
 
--- after a write, at the place
-pub slice_get-set_here : {X : Type 0} (xs : List X) (i : ℕ) (v : X) → i < length xs → slice_get (set xs i v) i ≡ Some v
-slice_get-set_here [] i v inside = absurd (omega (arith, inside))
-slice_get-set_here (x ∷ xs) zero v inside = refl
-slice_get-set_here (x ∷ xs) (suc i) v inside = slice_get-set_here xs i v (omega (arith, inside))
-
--- and elsewhere
+-- what was written at another place changes nothing here
 pub slice_get-set_other : {X : Type 0} (xs : List X) (i j : ℕ) (v : X) → i ≢ j → slice_get (set xs i v) j ≡ slice_get xs j
 slice_get-set_other [] i j v other = refl
 slice_get-set_other (x ∷ xs) zero zero v other = absurd (other refl)
 slice_get-set_other (x ∷ xs) zero (suc j) v other = refl
 slice_get-set_other (x ∷ xs) (suc i) zero v other = refl
 slice_get-set_other (x ∷ xs) (suc i) (suc j) v other = slice_get-set_other xs i j v (λ e. other (ap suc e))
-
--- in front of more
-pub slice_get-front : {X : Type 0} (xs ys : List X) (i : ℕ) → i < length xs → slice_get (xs ++ ys) i ≡ slice_get xs i
-slice_get-front [] ys i inside = absurd (omega (arith, inside))
-slice_get-front (x ∷ xs) ys zero inside = refl
-slice_get-front (x ∷ xs) ys (suc i) inside = slice_get-front xs ys i (omega (arith, inside))
-
--- at the end
-pub slice_get-last : {X : Type 0} (xs : List X) (v : X) → slice_get (xs ++ v ∷ []) (length xs) ≡ Some v
-slice_get-last [] v = refl
-slice_get-last (x ∷ xs) v = slice_get-last xs v
-
--- one more of the first ones
-pub take-one_more : {X : Type 0} (xs : List X) (n : ℕ) (x : X) → slice_get xs n ≡ Some x → take (n + 1) xs ≡ take n xs ++ x ∷ []
-take-one_more xs n x at =
-    take_more xs n x (slice_get_within xs n x at) ∙ ap (λ y. take n xs ++ y ∷ []) (get_or_from_slice_get xs n x x at)
 
 -- the first ones, and one behind them
 pub take-and_next : {X : Type 0} (xs : List X) (y : X) (ys : List X) → take (suc (length xs)) (xs ++ y ∷ ys) ≡ xs ++ y ∷ []
@@ -54,60 +30,7 @@ take-and_next (x ∷ xs) y ys = ap (λ rest. x ∷ rest) (take-and_next xs y ys)
 pub apart : (a b : ℕ) → (a == b) ≡ false → a ≢ b
 apart a b other e = false≢true (sym other ∙ eq-eqb a b e)
 
--- ---- a fact of each element
-
-pub each-at : {X : Type 0} (P : X → Type 0) (xs : List X) (i : ℕ) (x : X) → AllByRecursion P xs → slice_get xs i ≡ Some x → P x
-each-at P [] i x each at = absurd (none-some x at)
-each-at P (y ∷ xs) zero x each at = subst P (same_Some y x at) each.0
-each-at P (y ∷ xs) (suc i) x each at = each-at P xs i x each.1 at
-
-pub each-append : {X : Type 0} (P : X → Type 0) (xs ys : List X) → AllByRecursion P xs → AllByRecursion P ys → AllByRecursion P (xs ++ ys)
-each-append P [] ys first second = second
-each-append P (x ∷ xs) ys first second = (first.0, each-append P xs ys first.1 second)
-
-pub each-filter : {X : Type 0} (P : X → Type 0) (test : X → Bool) (xs : List X) → AllByRecursion P xs → AllByRecursion P (filter test xs)
-each-filter P test [] each = tt
-each-filter P test (x ∷ xs) each =
-    elim (cases_Bool (test x)) [
-      | inl passes ↦ rw passes (each.0, each-filter P test xs each.1)
-      | inr fails ↦ rw fails (each-filter P test xs each.1)
-    ]
-
-pub each-map : {X Y : Type 0} (P : Y → Type 0) (f : X → Y) (xs : List X) → AllByRecursion (λ x. P (f x)) xs → AllByRecursion P (map f xs)
-each-map P f [] each = tt
-each-map P f (x ∷ xs) each = (each.0, each-map P f xs each.1)
-
--- what is so of whatever is kept of the rest, without the first element and with it, is so of what is kept
-kept-next : {X : Type 0} (Q : List X → Type 0) (mine : X → Bool) (n : ℕ) (x : X) (xs : List X) →
-    ((m : ℕ) → Q (keep_first mine m xs)) → ((m : ℕ) → Q (x ∷ keep_first mine m xs)) → Q (keep_first mine n (x ∷ xs))
-kept-next Q mine n x xs without with_it = by_test (mine x) n
-  where
-    by_test : (b : Bool) (k : ℕ) → Q (cond b (elim k [ zero ↦ keep_first mine zero xs | suc m ↦ x ∷ keep_first mine m xs ]) (x ∷ keep_first mine k xs))
-    by_test false k = with_it k
-    by_test true zero = without zero
-    by_test true (suc m) = with_it m
-
-pub each-keep_first : {X : Type 0} (P : X → Type 0) (mine : X → Bool) (n : ℕ) (xs : List X) → AllByRecursion P xs → AllByRecursion P (keep_first mine n xs)
-each-keep_first P mine n [] each = tt
-each-keep_first P mine n (x ∷ xs) each =
-    kept-next (AllByRecursion P) mine n x xs (λ m. each-keep_first P mine m xs each.1) (λ m. (each.0, each-keep_first P mine m xs each.1))
-
 -- ---- transactions and their operations
-
--- two filters, one after the other, either way round
-pub filter-turned : {X : Type 0} (p q : X → Bool) (xs : List X) → filter p (filter q xs) ≡ filter q (filter p xs)
-filter-turned p q [] = refl
-filter-turned p q (x ∷ xs) =
-    elim (cases_Bool (p x)) [
-      | inl a ↦ elim (cases_Bool (q x)) [
-        | inl b ↦ simp (a, b) (ap (λ rest. x ∷ rest) (filter-turned p q xs))
-        | inr b ↦ simp (a, b) (filter-turned p q xs)
-      ]
-      | inr a ↦ elim (cases_Bool (q x)) [
-        | inl b ↦ simp (a, b) (filter-turned p q xs)
-        | inr b ↦ simp (a, b) (filter-turned p q xs)
-      ]
-    ]
 
 -- what is one of the rest is one of all
 pub among-rest : (b c : Bool) → c ≡ true → (b || c) ≡ true
@@ -188,39 +111,3 @@ ops_at-few x (o ∷ its) (suc n) =
       | inl is ↦ rw is (omega (arith, less))
       | inr isnt ↦ rw isnt (omega (arith, less))
     ]
-
--- ---- elements of a list with one more, or of which an element is another
-
--- an element of a list with one more is one of the list, or that one
-pub cases-more : {X : Type 0} (xs : List X) (last : X) (i : ℕ) (y : X) → slice_get (xs ++ last ∷ []) i ≡ Some y → (slice_get xs i ≡ Some y) ⊎ ((i ≡ length xs) × (last ≡ y))
-cases-more [] last zero y there = inr (refl, same_Some last y there)
-cases-more [] last (suc i) y there = absurd (none-some y there)
-cases-more (x ∷ xs) last zero y there = inl there
-cases-more (x ∷ xs) last (suc i) y there =
-    elim (cases-more xs last i y there) [
-      | inl old ↦ inl old
-      | inr new ↦ inr (ap (λ n. suc n) new.0, new.1)
-    ]
-
--- an element of a list whose element at i is x now is that one, or one of the list at another place
-pub cases-set : {X : Type 0} (xs : List X) (i : ℕ) (x : X) (j : ℕ) (y : X) → slice_get (set xs i x) j ≡ Some y →
-    ((j ≡ i) × (x ≡ y)) ⊎ (((j == i) ≡ false) × (slice_get xs j ≡ Some y))
-cases-set [] i x j y there = absurd (none-some y there)
-cases-set (z ∷ xs) zero x zero y there = inl (refl, same_Some x y there)
-cases-set (z ∷ xs) zero x (suc j) y there = inr (grind (arith, nat_tests), there)
-cases-set (z ∷ xs) (suc i) x zero y there = inr (grind (arith, nat_tests), there)
-cases-set (z ∷ xs) (suc i) x (suc j) y there =
-    elim (cases-set xs i x j y there) [
-      | inl here ↦ inl (ap (λ n. suc n) here.0, here.1)
-      | inr elsewhere ↦ inr (let apart = elsewhere.0 in grind (arith, nat_tests, apart), elsewhere.1)
-    ]
-
--- none is left where none passes
-pub filter-none : {X : Type 0} (test : X → Bool) (xs : List X) → AllByRecursion (λ x. test x ≡ false) xs → filter test xs ≡ []
-filter-none test [] each = refl
-filter-none test (x ∷ xs) each = rw (each.0) (filter-none test xs each.1)
-
--- what follows from a fact of each holds of each
-pub each-weaker : {X : Type 0} {P Q : X → Type 0} → ((x : X) → P x → Q x) → (xs : List X) → AllByRecursion P xs → AllByRecursion Q xs
-each-weaker weaker [] each = tt
-each-weaker weaker (x ∷ xs) each = (weaker x each.0, each-weaker weaker xs each.1)

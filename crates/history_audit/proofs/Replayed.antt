@@ -8,12 +8,13 @@ use Rattle.std.proofs.lemmas.Option.{none-some, same_Some, slice_get_within, sli
 use Rattle.type_table.specs.Table.{Table, next}
 use Rattle.type_table.specs.Run.{run, next_of}
 use Rattle.type_table.specs.Laws.{RunsAlong}
+use Rattle.type_table.proofs.Elements.{each-found, found-set, take-found}
 use Rattle.serial_order.specs.History.{IsOperation}
 use Rattle.history_audit.specs.declared.operation.Operation.{Operation}
 use Rattle.history_audit.specs.Replay.{ops_at, AreOperations, AreStates, next_by, next_at, is_stopped_at, with_state, stop_by, states_after, stop_after, IsStopped, AreReplayed}
 use Rattle.history_audit.specs.Auditor.{AreInitial}
 use Rattle.history_audit.specs.declared.replay.Stop.{Stop}
-use Rattle.history_audit.proofs.Lists.{each-at, slice_get-set_here, slice_get-set_other, take-one_more, apart, ops_at-here, ops_at-apart}
+use Rattle.history_audit.proofs.Lists.{slice_get-set_other, apart, ops_at-here, ops_at-apart}
 use Rattle.history_audit.proofs.Serials.{found}
 
 -- ---- where it stops
@@ -56,10 +57,10 @@ module _ (along : RunsAlong) (tables : List Table) (old : List ℕ) (its : List 
     (known : AreReplayed tables old its n states stop) where
   -- it adds nothing at another object
   ops-apart : (x : ℕ) → (o.x == x) ≡ false → ops_at x (take (n + 1) its) ≡ ops_at x (take n its)
-  ops-apart x other = ap (ops_at x) (take-one_more its n o at) ∙ ops_at-apart x (take n its) o other
+  ops-apart x other = ap (ops_at x) (take-found its n o at) ∙ ops_at-apart x (take n its) o other
 
   ops-here : (x : ℕ) → (o.x == x) ≡ true → ops_at x (take (n + 1) its) ≡ ops_at x (take n its) ++ o.k ∷ []
-  ops-here x is = ap (ops_at x) (take-one_more its n o at) ∙ ops_at-here x (take n its) o is
+  ops-here x is = ap (ops_at x) (take-found its n o at) ∙ ops_at-here x (take n its) o is
 
   -- the run at its object comes to the state there, and goes on with it
   run-here : (x : ℕ) (T : Table) (s e : ℕ) → slice_get tables x ≡ Some T → slice_get old x ≡ Some s → is_stopped_at stop x ≡ false → slice_get states x ≡ Some e
@@ -91,7 +92,7 @@ module _ (along : RunsAlong) (tables : List Table) (old : List ℕ) (its : List 
                 ∙ run-here x T s now table from goes here
                 ∙ sym (next-there (slice_get tables x) (slice_get states x) T now o.k table here)
                 ∙ step
-                ∙ sym (subst Q (sym same) (slice_get-set_here states x e (slice_get_within states x now here)))
+                ∙ sym (subst Q (sym same) (found-set states x e (slice_get_within states x now here)))
             | inr other ↦
                 ap (run T (Some s)) (ops-apart x other) ∙ known.states_are x T s table from goes
                 ∙ sym (slice_get-set_other states o.x x e (apart o.x x other))
@@ -149,7 +150,7 @@ nothing = record { x = 0; k = 0 }
 pub there-at : (tables : List Table) (its : List Operation) (n : ℕ) → AreOperations tables its → n < length its
     → IsOperation (slice_get tables (get_or its n nothing).x) (get_or its n nothing).k
 there-at tables its n there inside =
-    each-at (λ (o : Operation). IsOperation (slice_get tables o.x) o.k) its n (get_or its n nothing) there (slice_get-get_or its n nothing inside)
+    each-found (λ (o : Operation). IsOperation (slice_get tables o.x) o.k) its n (get_or its n nothing) there (slice_get-get_or its n nothing inside)
 
 pub replayed-at : RunsAlong → (tables : List Table) (old : List ℕ) (its : List Operation) (n : ℕ) (states : List ℕ) (stop : Option Stop)
     → AreStates tables old → AreStates tables states → AreOperations tables its → n < length its → AreReplayed tables old its n states stop

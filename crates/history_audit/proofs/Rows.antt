@@ -1,12 +1,12 @@
 -- What an event that may come next does to the rows of transactions.
 use Rattle.std.proofs.Common.{◌≡◌, ℕ, ◌-◌, ◌==◌, true, false, not, ◌&&◌, ◌||◌, List, [], ◌∷◌, ◌++◌, length, map, take, Option, Some, None, slice_get, refl, sym, ap, subst, ◌∙◌, inl, inr, arith}
-use Rattle.std.specs.Cmp.{both_ways}
 use Rattle.std.specs.List.{take-map}
-use Rattle.std.proofs.lemmas.Bool.{eqb-true, eq-eqb}
+use Rattle.std.proofs.lemmas.Bool.{eq-eqb}
 use Rattle.std.proofs.lemmas.Bool.Decides.{nat_tests}
 use Rattle.std.proofs.lemmas.List.{length-append, length-map, length-set, map-append}
 use Rattle.std.proofs.lemmas.Option.{none-some, same_Some, slice_get_within}
 use Rattle.type_table.specs.Table.{Table}
+use Rattle.type_table.proofs.Elements.{each-weaker, cases-more, cases-set, filter-none, eqb-sym}
 use Rattle.object_trait.specs.declared.event.EventKind.{EventKind}
 use Rattle.object_trait.specs.declared.event.EventKind.TheVariants as kind
 use Rattle.object_trait.specs.declared.event.EventKind.TheVariants.{Begin, Op, Busy, Commit, Abort, Rollback}
@@ -17,7 +17,6 @@ use Rattle.serial_order.specs.Held.{own_after, OwnAfter}
 use Rattle.history_audit.specs.declared.operation.Operation.{Operation}
 use Rattle.history_audit.specs.Rows.{plain, operations_of, IsRow, AreRows}
 use Rattle.history_audit.specs.Moves.{IsRowMoved, RowsMove, MovedRowsAgree}
-use Rattle.history_audit.proofs.Lists.{cases-more, cases-set, filter-none, each-weaker}
 
 -- ---- one row
 
@@ -43,10 +42,6 @@ same-row row t s now opens own known = record {
 }
 
 -- ---- one row moved
-
--- two numbers are equal in either order
-eqb-sym : (a b : ℕ) → (a == b) ≡ (b == a)
-eqb-sym a b = both_ways (a == b) (b == a) (λ is. eq-eqb b a (sym (eqb-true a b is))) (λ is. eq-eqb a b (sym (eqb-true b a is)))
 
 module _ (old new : List (Option (List Operation))) (s now : Seen) (known : AreRows old s) (in_run : AreInRun now) where
   -- where the moved row is right, and nothing happened to other transactions

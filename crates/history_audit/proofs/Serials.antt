@@ -6,6 +6,7 @@ use Rattle.std.proofs.lemmas.Option.{none-some, same_Some, slice_get-map}
 use Rattle.type_table.specs.Table.{Table}
 use Rattle.type_table.specs.Run.{run, IsLegal}
 use Rattle.type_table.specs.Laws.{RunsAlong}
+use Rattle.type_table.proofs.Legal.{run_from_none}
 use Rattle.object_trait.specs.Object.{Object}
 use Rattle.object_trait.specs.declared.event.Event.{Event}
 use Rattle.serial_order.specs.Operations.{ops, of, serial}
@@ -68,14 +69,9 @@ serial-front C V i t n at =
           ∙ sym (append_assoc (serial (take i C) V) (take n (of t V)) (drop n (of t V) ++ rest)),
     )
 
--- from no state nothing is legal
-pub run-stuck : (T : Table) (w : List ℕ) → run T None w ≡ None
-run-stuck T [] = refl
-run-stuck T (k ∷ w) = run-stuck T w
-
 -- a list of which a beginning isn't legal isn't legal
 pub stuck-along : RunsAlong → (T : Table) (from : Option ℕ) (v w : List ℕ) → run T from v ≡ None → IsLegal T from (v ++ w) → ⊥
-stuck-along along T from v w stuck legal = false≢true (rw (along T from v w, stuck, run-stuck T w) at legal)
+stuck-along along T from v w stuck legal = false≢true (rw (along T from v w, stuck, run_from_none T w) at legal)
 
 -- where the serial order is legal, so is each operation behind what is serially before it
 pub serial-each : RunsAlong → (tables : List Table) (H : List Event) (i x j : ℕ) → AreSerial tables H → IsIllegalAt tables H i x j → ⊥

@@ -3,6 +3,7 @@ use Rattle.std.proofs.Common.{◌≡◌, ℕ, ◌+◌, ◌<◌, ◌≤◌, true,
 use Rattle.std.specs.List.{AllByRecursion}
 use Rattle.std.proofs.lemmas.Bool.{lt-ltb, lt-leb, le-leb}
 use Rattle.std.proofs.lemmas.List.Sums.{sum_by-append, sum_by-cons}
+use Rattle.type_table.proofs.Elements.{each-append}
 use Rattle.line_text.specs.Rules.{has_stood}
 use Rattle.line_text.specs.Accepted.{HasPassed, IsAccepted}
 use Rattle.object_trait.specs.declared.event.Event.{Event}
@@ -11,7 +12,7 @@ use Rattle.store_text.specs.declared.line.Line.TheVariants.{End}
 use Rattle.store_text.specs.declared.line.ObjectLine.{ObjectLine}
 use Rattle.history_text.specs.Events.{events, line_of, is_in_range}
 use Rattle.history_text.specs.Canonical.{object_line, event_line, canonical_lines, AreInRange}
-use Rattle.history_text.proofs.Taken.{all_append, never}
+use Rattle.history_text.proofs.Taken.{never}
 use Rattle.history_text.proofs.Follows.{HistoryLine, count, AreUpTo, Follow, follow_append, accepted_with_end, not_late, not_late_single, ascending}
 
 -- one more line behind others
@@ -48,7 +49,7 @@ objects_follow before (o ∷ objects) low room fit =
     let next = before ++ object_line o ∷ [] in
     let more : count 1 next ≡ count 1 before + 1 = count-push 1 before (object_line o) in (
       object_passes before o low (omega (arith, room)) fit.0,
-      objects_follow next objects (all_append (λ x. rank_of x ≤ 1) before (object_line o ∷ []) low (omega arith, tt)) (omega (arith, more, room)) fit.1,
+      objects_follow next objects (each-append (λ x. rank_of x ≤ 1) before (object_line o ∷ []) low (omega arith, tt)) (omega (arith, more, room)) fit.1,
     )
 
 -- ---- events
@@ -74,7 +75,7 @@ events_follow before (e ∷ happened) low stood room fit =
     let next = before ++ event_line e ∷ [] in
     let more : count 2 next ≡ count 2 before + 1 = count-push 2 before (event_line e) in (
       event_passes before e low (lt-ltb 0 (count 1 before) stood) (omega (arith, room)) fit.0,
-      events_follow next happened (all_append (λ x. rank_of x ≤ 2) before (event_line e ∷ []) low (omega arith, tt)) (omega (arith, stood, count-more 1 before (event_line e))) (omega (arith, more, room)) fit.1,
+      events_follow next happened (each-append (λ x. rank_of x ≤ 2) before (event_line e ∷ []) low (omega arith, tt)) (omega (arith, stood, count-more 1 before (event_line e))) (omega (arith, more, room)) fit.1,
     )
 
 -- ---- `end`
@@ -129,7 +130,7 @@ canonical_accepted objects happened h =
     let front : List HistoryLine = map object_line objects in
     let body : List HistoryLine = map event_line happened in
     let front_low : AreUpTo 2 front = up_to_more front (objects_up_to objects) in
-    let low : AreUpTo 2 (front ++ body) = all_append (λ x. rank_of x ≤ 2) front body front_low (events_up_to happened) in
+    let low : AreUpTo 2 (front ++ body) = each-append (λ x. rank_of x ≤ 2) front body front_low (events_up_to happened) in
     let some : 0 < count 1 front = omega (arith, object_count objects, h.some_object) in
     let still : count 1 (front ++ body) ≡ count 1 front + count 1 body = sum_by-append (λ x. cond (eqb (rank_of x) 1) 1 0) front body in
     let first : Follow [] front = objects_follow [] objects tt (omega (arith, h.objects_fit)) h.files_fit in

@@ -1,6 +1,7 @@
 -- The canonical text of a history is read as that history.
 use Rattle.std.proofs.Common.{◌≡◌, ℕ, ◌<◌, ◌≤◌, ◌^◌, true, List, [], ◌∷◌, ◌++◌, map, sym, ap, ◌∙◌}
 use Rattle.std.specs.List.{AllByRecursion}
+use Rattle.type_table.proofs.Elements.{each-append}
 use Rattle.line_text.specs.Rules.{Rules}
 use Rattle.line_text.specs.Spelling.{Spells, IsReadAgain, NumberIsReadAgain}
 use Rattle.object_trait.specs.declared.event.Event.{Event}
@@ -10,7 +11,6 @@ use Rattle.store_text.specs.declared.line.Line.TheVariants.{End}
 use Rattle.store_text.specs.declared.line.ObjectLine.{ObjectLine}
 use Rattle.history_text.specs.Events.{events, event_of, line_of, is_in_range}
 use Rattle.history_text.specs.Canonical.{words_of, object_line, event_line, canonical_lines, CanonicalIsRead, WrittenIsRead}
-use Rattle.history_text.proofs.Taken.{all_append}
 use Rattle.history_text.proofs.Follows.{HistoryLine}
 use Rattle.history_text.proofs.Accepted.{canonical_accepted}
 use Rattle.history_text.proofs.Spelled.{object_line_spells, event_line_spells, end_spells}
@@ -35,8 +35,8 @@ module _ (again : (g : Rules HistoryLine) (words : HistoryLine → List (List �
   -- the text is read as its lines, and they say the history
   pub canonical_read : CanonicalIsRead
   canonical_read objects happened h =
-      let body = all_append IsSpelled (map event_line happened) (End ∷ []) (events_spelled happened h.numbers_fit) (end_spells numbers, tt) in
-      let spelled = all_append IsSpelled (map object_line objects) (map event_line happened ++ End ∷ []) (objects_spelled objects h.files_fit) body in
+      let body = each-append IsSpelled (map event_line happened) (End ∷ []) (events_spelled happened h.numbers_fit) (end_spells numbers, tt) in
+      let spelled = each-append IsSpelled (map object_line objects) (map event_line happened ++ End ∷ []) (objects_spelled objects h.files_fit) body in
       record {
         read = again (store_rules events) words_of (canonical_lines objects happened) spelled (canonical_accepted objects happened h);
         objects_said = objects_said objects happened;

@@ -5,6 +5,7 @@ use Rattle.std.proofs.lemmas.Bool.{lt-ltb, le-ltb, ne_eqb, or_from, or_right, an
 use Rattle.std.proofs.lemmas.List.{append-nil, length-append, take-append-le}
 use Rattle.std.proofs.lemmas.List.Sums.{sum_by-append, sum_by-cons}
 use Rattle.std.proofs.lemmas.Option.{none-some, same_Some}
+use Rattle.type_table.proofs.Elements.{each-found}
 use Rattle.line_text.specs.Rules.{has_stood, last_item}
 use Rattle.line_text.specs.LineTests.{item_fault, is_late, is_single, ascends}
 use Rattle.line_text.specs.Accepted.{HasPassed, IsAccepted}
@@ -13,7 +14,7 @@ use Rattle.store_text.specs.declared.line.Line.{Line}
 use Rattle.store_text.specs.declared.line.Line.TheVariants.{End}
 use Rattle.history_text.specs.declared.event_line.EventLine.{EventLine}
 use Rattle.history_text.specs.Events.{events}
-use Rattle.history_text.proofs.Taken.{all_found, all_take}
+use Rattle.history_text.proofs.Taken.{all_take}
 
 -- a line of a history
 abbrev pub HistoryLine : Type 0
@@ -71,7 +72,7 @@ accepted_with_end lines low h = record {
 
 -- the last of lines of no rank above this one
 last_low : (rank : ℕ) (before : List HistoryLine) (y : HistoryLine) → AreUpTo rank before → last_item before ≡ Some y → rank_of y ≤ rank
-last_low rank before y h at = all_found (λ x. rank_of x ≤ rank) before _ y h at
+last_low rank before y h at = each-found (λ x. rank_of x ≤ rank) before _ y h at
 
 -- a line behind lines of no higher rank isn't late, where its section may have several lines
 pub not_late : (before : List HistoryLine) (x : HistoryLine) → AreUpTo (rank_of x) before → is_single (slice_get (sections false) (rank_of x)) ≡ false

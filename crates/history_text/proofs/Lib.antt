@@ -1,5 +1,4 @@
 pub mod Taken
-pub mod Turns
 pub mod Writing
 pub mod Follows
 pub mod Accepted

@@ -3,11 +3,11 @@ use Rattle.std.proofs.Common.{ℕ, List, [], ◌∷◌, ◌++◌, refl, arith}
 use Rattle.std.specs.Prelude.{codes}
 use Rattle.line_text.specs.Shapes.{exactly, number_at, is_key}
 use Rattle.line_text.specs.Plain.{SaysPlainly, IsNumberBefore}
+use Rattle.line_text.proofs.Items.{keyword}
 use Rattle.store_text.specs.Body.{line_of}
 use Rattle.store_text.specs.declared.line.Line.TheVariants.{Entry}
 use Rattle.history_text.specs.declared.event_line.EventLine.TheVariants.{Begin, Op, Busy, Nothing, Commit, Abort, Rollback}
 use Rattle.history_text.specs.Events.{events, event_line_of, begin_of, op_of, busy_of, nothing_of, commit_of, abort_of, rollback_of}
-use Rattle.history_text.proofs.Spelled.{keyword}
 
 pub begin_plainly : (w t : ℕ) (rest first behind : List ℕ) → IsNumberBefore 32 rest w first → IsNumberBefore 10 first t behind
     → SaysPlainly (line_of events) (codes "begin " ++ rest) (Entry (Begin w t)) behind

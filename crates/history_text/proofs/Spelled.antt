@@ -1,42 +1,20 @@
 -- The words of a line say it.
-use Rattle.std.proofs.Common.{◌≡◌, ℕ, ◌+◌, ◌*◌, ◌<◌, ◌≤◌, ◌^◌, Bool, true, ◌&&◌, leb, List, [], ◌∷◌, length, map, refl, arith}
+use Rattle.std.proofs.Common.{◌≡◌, ℕ, ◌+◌, ◌*◌, ◌<◌, ◌≤◌, ◌^◌, true, ◌&&◌, leb, List, [], ◌∷◌, length, map, refl, arith}
 use Rattle.std.specs.Prelude.{codes}
 use Rattle.std.specs.Fmt.{decimal}
-use Rattle.std.specs.List.{AllByRecursion, list_all}
+use Rattle.std.specs.List.{AllByRecursion}
 use Rattle.std.proofs.lemmas.Bool.{leb-true, and_parts}
-use Rattle.std.proofs.lemmas.List.{length-append}
 use Rattle.type_table.specs.declared.kind.Kind.{Kind}
 use Rattle.type_table.specs.declared.kind.Kind.TheVariants.{Undo, Intentions}
 use Rattle.line_text.specs.Shapes.{exactly, number_at, kind_at, is_key}
 use Rattle.line_text.specs.Spelling.{spaced, IsWord, Spells, NumberIsReadAgain}
+use Rattle.line_text.proofs.Items.{keyword, length-spaced}
 use Rattle.store_text.specs.Body.{store_rules, line_of, object_of_words, end_of_words}
 use Rattle.store_text.specs.declared.line.Line.TheVariants.{Object, Entry, End}
 use Rattle.history_text.specs.declared.event_line.EventLine.{EventLine}
 use Rattle.history_text.specs.declared.event_line.EventLine.TheVariants.{Begin, Op, Busy, Nothing, Commit, Abort, Rollback}
 use Rattle.history_text.specs.Events.{events, event_line_of, begin_of, op_of, busy_of, nothing_of, commit_of, abort_of, rollback_of, is_in_range, is_worker, is_transaction, is_object, is_operation}
 use Rattle.history_text.specs.Canonical.{words_of}
-
--- ---- words
-
--- a byte that a word may have, as a test
-abbrev is_word_byte : ℕ → Bool
-is_word_byte b = leb 33 b && leb b 126
-
--- bytes that pass the test
-word_bytes : (w : List ℕ) → list_all is_word_byte w ≡ true → AllByRecursion (λ b. (33 ≤ b) × (b ≤ 126)) w
-word_bytes [] h = tt
-word_bytes (b ∷ w) h =
-    let parts = and_parts (is_word_byte b) (list_all is_word_byte w) h in
-    let ends = and_parts (leb 33 b) (leb b 126) parts.0 in
-    ((leb-true 33 b ends.0, leb-true b 126 ends.1), word_bytes w parts.1)
-
--- a keyword is a word
-pub keyword : (w : List ℕ) → leb 1 (length w) ≡ true → list_all is_word_byte w ≡ true → IsWord w
-keyword w some each = (omega (arith, leb-true 1 (length w) some), word_bytes w each)
-
--- the length of a line with one more word in front
-length-spaced : (w v : List ℕ) (ws : List (List ℕ)) → length (spaced (w ∷ v ∷ ws)) ≡ length w + 1 + length (spaced (v ∷ ws))
-length-spaced w v ws = omega (arith, length-append w (32 ∷ spaced (v ∷ ws)))
 
 -- ---- ranges
 

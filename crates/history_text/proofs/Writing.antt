@@ -8,12 +8,12 @@ use Rattle.line_text.specs.Spelling.{spaced, text_of}
 use Rattle.object_trait.specs.declared.event.Event.{Event}
 use Rattle.outputs.specs.Out.{Puts, PutsItems}
 use Rattle.outputs.specs.declared.out.OutFault.{OutFault}
+use Rattle.outputs.proofs.Turns.{Puts-exit_at}
 use Rattle.store_text.specs.declared.line.Line.{Line}
 use Rattle.store_text.specs.declared.line.Line.TheVariants.{End}
 use Rattle.store_text.specs.declared.line.ObjectLine.{ObjectLine}
 use Rattle.history_text.specs.declared.event_line.EventLine.{EventLine}
 use Rattle.history_text.specs.Canonical.{words_of, object_line, event_line, canonical_text}
-use Rattle.history_text.proofs.Turns.{Puts-exit_at}
 
 -- the text of a line
 abbrev pub line_text : Line EventLine → List ℕ

@@ -1,9 +1,11 @@
 -- The canonical text of a history: its objects and its events in order, one line for each, and `end`.
 use Rattle.std.specs.Prelude.{◌≡◌, ℕ, ◌<◌, ◌≤◌, true, List, [], ◌∷◌, ◌++◌, length, map, Ok, codes}
+use Rattle.type_table.specs.Limits.{most_events, most_objects}
 use Rattle.std.specs.Fmt.{decimal}
 use Rattle.std.specs.List.{AllByRecursion}
 use Rattle.type_table.specs.Kind.{kind_word}
 use Rattle.object_trait.specs.declared.event.Event.{Event}
+use Rattle.line_text.specs.Comments.{AreSkipped}
 use Rattle.line_text.specs.Outcome.{outcome_of}
 use Rattle.line_text.specs.Spelling.{text_of}
 use Rattle.store_text.specs.Body.{store_rules}
@@ -58,9 +60,9 @@ canonical_text objects happened = text_of words_of (canonical_lines objects happ
 -- every number and count is in its range
 pub record AreInRange (objects : List ObjectLine) (happened : List Event) : Type 0 where
   pub some_object : 0 < length objects
-  pub objects_fit : length objects ≤ 256
+  pub objects_fit : length objects ≤ most_objects
   pub files_fit : AllByRecursion (λ (o : ObjectLine). o.file ≤ 255) objects
-  pub events_fit : length happened ≤ 1000000
+  pub events_fit : length happened ≤ most_events
   pub numbers_fit : AllByRecursion (λ e. is_in_range (line_of e) ≡ true) happened
 
 -- the text is read, and its lines say these objects and events
@@ -85,3 +87,7 @@ abbrev pub WrittenIsRead : Type 0
 WrittenIsRead =
     (objects : List ObjectLine) (happened : List Event) (back : HistoryFile) → AreInRange objects happened
     → Reads events IsHistoryOf (Ok back) (canonical_text objects happened) → IsFileWith objects happened back
+
+-- a text of a history is read as the one without its comments
+abbrev pub CommentsAreSkipped : Type 0
+CommentsAreSkipped = (lines : List (List ℕ)) → AreSkipped (store_rules events) lines

@@ -11,7 +11,7 @@ mod read;
 mod write;
 
 pub use history_file::HistoryFile;
-pub use laws::{canonical_is_read, written_is_read};
+pub use laws::{canonical_is_read, comments_tell_nothing, written_is_read};
 pub use line_text::{FaultKind, TextFault};
 pub use outputs::{Out, OutFault};
 pub use read::read_history;

@@ -6,6 +6,8 @@ use Rattle.std.proofs.lemmas.List.{nil_from_length}
 use Rattle.type_table.specs.Table.{Table}
 use Rattle.type_table.specs.Run.{run, IsLegal, AreEqui}
 use Rattle.type_table.specs.Laws.{RunsAlong, EquiExtends, EndsInside, EndsWithin}
+use Rattle.type_table.proofs.Elements.{each-filter}
+use Rattle.type_table.proofs.Legal.{equi-turned}
 use Rattle.object_trait.specs.Orders.{Pairs}
 use Rattle.object_trait.specs.Strike.{keep_first}
 use Rattle.object_trait.specs.Meaning.{Meaning, object, ops_of, is_open_of, open_of, run_log}
@@ -17,7 +19,7 @@ use Rattle.intentions_manager.specs.Walk.{walked, carried, FitsTable}
 use Rattle.intentions_manager.specs.Kept.{IsView, IsKept}
 use Rattle.intentions_manager.specs.declared.views.View.{View}
 use Rattle.intentions_manager.proofs.Cutting.{cut-kept, behind_all, length-keep_first}
-use Rattle.intentions_manager.proofs.Seeing.{seen-dropped_other, each-filter, each-map, ordered-dropped}
+use Rattle.intentions_manager.proofs.Seeing.{seen-dropped_other, each-map, ordered-dropped}
 use Rattle.intentions_manager.proofs.Walking.{walk_view, walk-run, carried-map}
 use Rattle.intentions_manager.proofs.Keeping.{equi-same, view-bare, seen-count}
 use Rattle.intentions_manager.proofs.Leaving.{others-stay, own-left, ops-left}
@@ -36,10 +38,6 @@ pub record CommitLaws : Type 0 where
   pub sound_after : SoundAfterCommit
 
 -- ---- another's view
-
--- equieffective, the other way round
-equi-turned : (T : Table) (a b : Option ℕ) → AreEqui T a b → AreEqui T b a
-equi-turned T a b h = (h.1, h.0)
 
 -- carried on by t's operations, it is equieffective to the run of its own from t's view
 equi-carried : CommitLaws → {m : Meaning} {views : List View} (t u : ℕ) → IsKept m views → eqb t u ≡ false →

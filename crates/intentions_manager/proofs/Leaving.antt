@@ -1,25 +1,18 @@
 -- Entries that leave the log, at a commit, a strike or an abort.
-use Rattle.std.proofs.Common.{◌≡◌, ℕ, ◌<◌, ◌≤◌, true, false, not, eqb, List, length, take, All, sym, ap, subst, ◌∙◌}
-use Rattle.std.proofs.lemmas.Bool.{eqb-true, and_parts, and_left}
+use Rattle.std.proofs.Common.{◌≡◌, ℕ, ◌<◌, ◌≤◌, false, eqb, List, length, take, All, sym, ap, subst, ◌∙◌}
 use Rattle.std.proofs.lemmas.List.{length-take-le}
 use Rattle.std.proofs.lemmas.List.Elements.{All-from_recursion, recursion_from_All}
 use Rattle.object_trait.specs.Strike.{keep_first}
 use Rattle.object_trait.specs.Meaning.{is_open_of, open_of}
 use Rattle.object_trait.specs.Laws.{KeepsFirst, KeepsOthers}
 use Rattle.object_trait.specs.declared.log_entry.LogEntry.{LogEntry}
+use Rattle.object_trait.proofs.Runs.{open-apart}
 use Rattle.intentions_manager.specs.Kept.{AreOpen}
 use Rattle.intentions_manager.proofs.Cutting.{each-keep_first}
-use Rattle.intentions_manager.proofs.Seeing.{differ-turned}
-
--- an entry of another isn't t's
-apart : (t u : ℕ) → eqb t u ≡ false → (e : LogEntry) → is_open_of u e ≡ true → is_open_of t e ≡ false
-apart t u differ e theirs =
-    let by : e.by ≡ u = eqb-true e.by u (and_parts (eqb e.by u) (not e.done) theirs).0 in
-    and_left (eqb e.by t) (not e.done) (subst (λ n. eqb n t ≡ false) (sym by) (differ-turned t u differ))
 
 -- another's entries stay
 pub others-stay : KeepsOthers LogEntry → (t u n : ℕ) (old new : List LogEntry) → new ≡ keep_first (is_open_of t) n old → eqb t u ≡ false → open_of u new ≡ open_of u old
-others-stay others t u n old new left differ = ap (open_of u) left ∙ others (is_open_of t) (is_open_of u) n old (apart t u differ)
+others-stay others t u n old new left differ = ap (open_of u) left ∙ others (is_open_of t) (is_open_of u) n old (open-apart u t differ)
 
 -- the first of t's stay
 pub own-left : KeepsFirst LogEntry → (t n : ℕ) (old new : List LogEntry) → new ≡ keep_first (is_open_of t) n old → open_of t new ≡ take n (open_of t old)

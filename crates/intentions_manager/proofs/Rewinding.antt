@@ -5,6 +5,7 @@ use Rattle.std.proofs.lemmas.Bool.{cases_Bool, eqb-true}
 use Rattle.std.proofs.lemmas.List.Elements.{All-filter, All-from_recursion, recursion_from_All}
 use Rattle.type_table.specs.Run.{run, IsLegal, AreEqui}
 use Rattle.type_table.specs.Laws.{EndsInside, EndsWithin}
+use Rattle.type_table.proofs.Elements.{each-filter}
 use Rattle.object_trait.specs.Strike.{keep_first}
 use Rattle.object_trait.specs.Meaning.{Meaning, object, ops_of, is_open_of, open_of}
 use Rattle.object_trait.specs.Steps.{IsStrikeBy, Keeps}
@@ -15,7 +16,7 @@ use Rattle.intentions_manager.specs.Walk.{walked, FitsTable}
 use Rattle.intentions_manager.specs.Kept.{IsView, IsKept}
 use Rattle.intentions_manager.specs.declared.views.View.{View}
 use Rattle.intentions_manager.proofs.Cutting.{behind_all, length-keep_first}
-use Rattle.intentions_manager.proofs.Seeing.{seen-put, seen-put_other, seen-dropped, seen-dropped_other, each-put, each-filter, ordered-put, ordered-dropped}
+use Rattle.intentions_manager.proofs.Seeing.{seen-put, seen-put_other, seen-dropped, seen-dropped_other, each-put, ordered-put, ordered-dropped}
 use Rattle.intentions_manager.proofs.Walking.{walk-run}
 use Rattle.intentions_manager.proofs.Keeping.{deferred-sound, view-same, view-bare}
 use Rattle.intentions_manager.proofs.Leaving.{others-stay, own-left, own-count, ops-left}

@@ -5,12 +5,9 @@ use Rattle.std.specs.List.Sorted.{IsPartitionedBy, IsPartitionPoint}
 use Rattle.std.proofs.lemmas.Bool.{cases_Bool, cases_lt, eqb-true, eqb-false, ne_eqb, eq-eqb, ltb-true, ltb-false, lt-ltb}
 use Rattle.std.proofs.lemmas.List.{length-map, get_or-map}
 use Rattle.std.proofs.lemmas.List.Elements.{All-from_recursion}
+use Rattle.type_table.proofs.Elements.{differ_turned}
 use Rattle.intentions_manager.specs.Views.{owners, AreOrdered, by_at, place_of, IsAt, bare, seen_by, with_view, without_view}
 use Rattle.intentions_manager.specs.declared.views.View.{View}
-
--- two numbers differ, whichever stands first
-pub differ-turned : (t u : ℕ) → eqb t u ≡ false → eqb u t ≡ false
-differ-turned t u h = ne_eqb u t (λ e. eqb-false t u h (sym e))
 
 -- ---- the order
 
@@ -83,7 +80,7 @@ place-found t (v ∷ views) (suc i) few point =
 -- behind its place are later ones alone
 seen-later : (t base : ℕ) (views : List View) → AllByRecursion (λ y. t < y) (owners views) → seen_by t base views ≡ bare t base
 seen-later t base [] later = refl
-seen-later t base (v ∷ views) later = rw (differ-turned t v.by (not-same t v.by later.0)) (seen-later t base views later.1)
+seen-later t base (v ∷ views) later = rw (differ_turned v.by t (not-same t v.by later.0)) (seen-later t base views later.1)
 
 -- in its place is what the transaction sees, if that is its own
 pub seen_there : (t base : ℕ) (views : List View) (d : View) → IsAt t (place_of t views) views → get_or views (place_of t views) d ≡ seen_by t base views
@@ -143,7 +140,7 @@ put_before w (v ∷ views) none =
 -- where all are of later transactions, none is taken out
 stay-later : (t : ℕ) (views : List View) → AllByRecursion (λ y. t < y) (owners views) → without_view t views ≡ views
 stay-later t [] later = refl
-stay-later t (v ∷ views) later = rw (differ-turned t v.by (not-same t v.by later.0)) (ap (λ rest. v ∷ rest) (stay-later t views later.1))
+stay-later t (v ∷ views) later = rw (differ_turned v.by t (not-same t v.by later.0)) (ap (λ rest. v ∷ rest) (stay-later t views later.1))
 
 -- the place taken out
 pub drop_there : (t : ℕ) (views : List View) → AreOrdered views → IsAt t (place_of t views) views → remove views (place_of t views) ≡ without_view t views
@@ -245,15 +242,6 @@ each-put P w (v ∷ views) here each =
         | inl before ↦ rw (isnt, before) (here, each)
         | inr behind ↦ rw (isnt, behind) (each.0, each-put P w views here each.1)
       ]
-    ]
-
--- of those that a filter keeps
-pub each-filter : {E : Type 0} (P : E → Type 0) (test : E → Bool) (V : List E) → AllByRecursion P V → AllByRecursion P (filter test V)
-each-filter P test [] each = tt
-each-filter P test (v ∷ V) each =
-    elim (cases_Bool (test v)) [
-      | inl is ↦ rw is (each.0, each-filter P test V each.1)
-      | inr isnt ↦ rw isnt (each-filter P test V each.1)
     ]
 
 -- and of those to which a function leads

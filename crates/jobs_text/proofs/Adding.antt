@@ -6,11 +6,12 @@ use Rattle.std.specs.declared.alloc.Global.{Global}
 use Rattle.std.proofs.lemmas.Bool.{ne_eqb, eq-eqb}
 use Rattle.std.proofs.lemmas.List.{map-append, length-set}
 use Rattle.std.proofs.lemmas.Option.{slice_get_read}
+use Rattle.type_table.proofs.Elements.{each-found}
 use Rattle.jobs_text.specs.declared.job_line.JobLine.{JobLine}
 use Rattle.jobs_text.specs.declared.job_line.JobLine.TheVariants as line
 use Rattle.jobs_text.specs.declared.jobs_file.Job.{Job}
 use Rattle.jobs_text.specs.Jobs.{Call, calls_of, calls_in, job_of, job_at, jobs_of, Adds, AreJobsOf}
-use Rattle.jobs_text.proofs.Taken.{drop-next, all_found, set_found}
+use Rattle.jobs_text.proofs.Taken.{drop-next, set_found}
 
 -- no job
 pub adds_none : (lists : List (Vec Job Global)) → Adds lists lists (λ w. [])
@@ -58,7 +59,7 @@ pub none_so_far : (workers : ℕ) (lines : List JobLine) (lists : List (Vec Job 
     → AllByRecursion (λ (list : Vec Job Global). list.items ≡ []) lists → AreSoFar workers lines 0 lists
 none_so_far workers lines lists count empty = record {
   count = count;
-  each = λ w list at. let none : list.items ≡ [] = all_found (λ (l : Vec Job Global). l.items ≡ []) lists w list empty at in rw none refl;
+  each = λ w list at. let none : list.items ≡ [] = each-found (λ (l : Vec Job Global). l.items ≡ []) lists w list empty at in rw none refl;
 }
 
 -- one more line

@@ -1,11 +1,11 @@
 -- Lists that are read from their front, and elements that are replaced.
 use Rattle.std.proofs.Common.{◌≡◌, ◌⊎◌, ℕ, zero, suc, ◌+◌, ◌-◌, ◌<◌, ◌≤◌, List, [], ◌∷◌, length, take, drop, get_or, Some, refl, sym, ap, ◌∙◌, inl, inr, arith}
-use Rattle.std.specs.List.{AllByRecursion, slice_get}
+use Rattle.std.specs.List.{slice_get}
 use Rattle.std.specs.Prelude.{slice_set}
 use Rattle.std.proofs.Math.Seq.{drop-cons}
 use Rattle.std.proofs.lemmas.Bool.{cases_order}
 use Rattle.std.proofs.lemmas.List.{get_or-set_same, get_or-set_other, length-set, take_all, length-drop}
-use Rattle.std.proofs.lemmas.Option.{none-some, same_Some, slice_get_within, slice_get-get_or, get_or_from_slice_get}
+use Rattle.std.proofs.lemmas.Option.{slice_get_within, slice_get-get_or, get_or_from_slice_get}
 
 -- what is left begins with the element at the place
 pub drop-next : {X : Type 0} (xs : List X) (i : ℕ) (x : X) → i < length xs → x ≡ get_or xs i x → drop i xs ≡ x ∷ drop (i + 1) xs
@@ -23,12 +23,6 @@ drop_past (x ∷ xs) (suc i) h = drop_past xs i (omega (arith, h))
 -- a slice up to the end is what is left
 pub slice_behind : {X : Type 0} (xs : List X) (i : ℕ) → take (length xs - i) (drop i xs) ≡ drop i xs
 slice_behind xs i = take_all (length xs - i) (drop i xs) (omega (arith, length-drop i xs))
-
--- a fact of each element holds of one that is found
-pub all_found : {X : Type 0} (P : X → Type 0) (xs : List X) (i : ℕ) (x : X) → AllByRecursion P xs → slice_get xs i ≡ Some x → P x
-all_found P [] i x h at = absurd (none-some x at)
-all_found P (y ∷ xs) zero x h at = rw (← same_Some y x at) h.0
-all_found P (y ∷ xs) (suc i) x h at = all_found P xs i x h.1 at
 
 -- what is found where one element was replaced is that one, or was there before
 pub set_found : {X : Type 0} (xs : List X) (v w : ℕ) (y z : X) → v < length xs → slice_get (slice_set xs v y) w ≡ Some z

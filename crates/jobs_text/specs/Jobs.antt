@@ -1,8 +1,11 @@
 -- The jobs that the lines of a text describe.
 use Rattle.std.specs.Prelude.{◌≡◌, ℕ, ◌<◌, ◌≤◌, ◌==◌, if◌then◌else◌, List, [], ◌∷◌, ◌++◌, length, map, slice_get, Some, Vec}
+use Rattle.type_table.specs.Limits.{most_events, most_objects}
 use Rattle.std.specs.declared.alloc.Global.{Global}
+use Rattle.std.specs.List.{AllByRecursion}
 use Rattle.store_text.specs.declared.line.Line.{Line}
 use Rattle.store_text.specs.declared.line.Line.TheVariants.{Max}
+use Rattle.store_text.specs.declared.line.ObjectLine.{ObjectLine}
 use Rattle.store_text.specs.Said.{objects_of, entries_of}
 use Rattle.jobs_text.specs.declared.job_line.JobLine.{JobLine}
 use Rattle.jobs_text.specs.declared.job_line.JobLine.TheVariants as line
@@ -57,6 +60,8 @@ pub record IsJobsOf (workers : ℕ) (lines : List (Line JobLine)) (file : JobsFi
 -- its numbers and counts are in their ranges
 pub record IsFit (file : JobsFile) : Type 0 where
   pub low : 2 ≤ file.max
-  pub high : file.max ≤ 1000000
+  pub high : file.max ≤ most_events
   pub some_object : 0 < length file.objects.items
-  pub objects_fit : length file.objects.items ≤ 256
+  pub objects_fit : length file.objects.items ≤ most_objects
+  pub files_fit : AllByRecursion (λ (o : ObjectLine). o.file ≤ 255) file.objects.items
+  pub jobs_fit : (w : ℕ) (list : Vec Job Global) → slice_get file.jobs.items w ≡ Some list → length list.items ≤ most_events

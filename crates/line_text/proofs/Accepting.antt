@@ -1,11 +1,12 @@
 -- The items of a text with a value are accepted.
-use Rattle.std.proofs.Common.{◌≡◌, ℕ, zero, suc, ◌<◌, ◌≤◌, Bool, true, false, cond, eqb, List, [], ◌∷◌, ◌++◌, length, take, Option, Some, None, Result, Ok, Err, refl, sym, ap, ◌∙◌, inl, inr, arith, append_assoc}
+use Rattle.std.proofs.Common.{◌≡◌, ℕ, ◌<◌, ◌≤◌, Bool, true, false, cond, eqb, List, [], ◌∷◌, ◌++◌, length, take, Option, Some, None, Result, Ok, Err, refl, sym, ap, ◌∙◌, inl, inr, arith, append_assoc}
 use Rattle.std.specs.Option.{option_to_list, option_or}
 use Rattle.std.specs.Result.{result_ok}
 use Rattle.std.specs.List.{slice_get}
 use Rattle.std.proofs.lemmas.Bool.{cases_lt}
 use Rattle.std.proofs.lemmas.List.{append-nil, length-append, take_at, take-append-le}
 use Rattle.std.proofs.lemmas.Option.{slice_get_within}
+use Rattle.type_table.proofs.Elements.{slice_get-front}
 use Rattle.line_text.specs.Text.{TextLine, lines_of, content_of}
 use Rattle.line_text.specs.Rules.{Rules, item_in, items_of, has_stood, end_rank}
 use Rattle.line_text.specs.LineTests.{item_fault, parsed_fault, words_fault, form_fault, line_fault}
@@ -21,12 +22,6 @@ pub record Follow {Item : Type 0} (g : Rules Item) (items : List Item) : Type 0 
   pub each : (n : ℕ) (x : Item) → slice_get items n ≡ Some x → item_fault g (take n items) x ≡ None
   pub before_end : (n : ℕ) → n < length items → has_stood g (take n items) (end_rank g) ≡ false
 
--- the elements of a front
-pub slice_get_left : {X : Type 0} (front back : List X) (n : ℕ) → n < length front → slice_get (front ++ back) n ≡ slice_get front n
-slice_get_left [] back n below = absurd (omega arith)
-slice_get_left (x ∷ front) back zero below = refl
-slice_get_left (x ∷ front) back (suc n) below = slice_get_left front back n (omega arith)
-
 -- the last place of a list with one more
 last_place : {X : Type 0} (xs : List X) (x y : X) (n : ℕ) → length xs ≤ n → slice_get (xs ++ x ∷ []) n ≡ Some y → (n ≡ length xs) × (x ≡ y)
 last_place xs x y n past e =
@@ -39,7 +34,7 @@ Follow-push : {Item : Type 0} (g : Rules Item) (items : List Item) (x : Item) �
 Follow-push g items x h unended none = record {
   each = λ n y at.
       elim (cases_lt n (length items)) [
-        | inl below ↦ rw (take-append-le n items (x ∷ []) (omega arith)) (h.each n y (sym (slice_get_left items (x ∷ []) n below) ∙ at))
+        | inl below ↦ rw (take-append-le n items (x ∷ []) (omega arith)) (h.each n y (sym (slice_get-front items (x ∷ []) n below) ∙ at))
         | inr past ↦
             let last = last_place items x y n past at in
             rw (take_at items (x ∷ []) n (sym last.0), ← last.1) none

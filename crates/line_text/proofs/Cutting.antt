@@ -5,11 +5,12 @@ use Rattle.std.proofs.lemmas.Bool.{and_from, le-leb, le-ltb}
 use Rattle.std.proofs.lemmas.List.{length-append}
 use Rattle.std.proofs.lemmas.List.Elements.{filter-append}
 use Rattle.std.proofs.lemmas.List.Splits.{slice_split_at, slice_split_none}
+use Rattle.type_table.proofs.Elements.{each-append}
 use Rattle.line_text.specs.Text.{has_bytes, words_of, lines_of, is_comment}
 use Rattle.line_text.specs.LineTests.{is_text_byte}
 use Rattle.line_text.specs.Steps.{ended, IsCut}
 use Rattle.line_text.proofs.Words.{content_of-plain}
-use Rattle.line_text.proofs.Spelled.{each_weaker, each_append, all_pass, InWord, InLine, no_space, first_line}
+use Rattle.line_text.proofs.Spelled.{each_weaker, all_pass, InWord, InLine, no_space, first_line}
 
 -- a front's bytes are bytes of words, where each is
 pub front_in_word : (xs : List ℕ) (n : ℕ) → n ≤ length xs → ((k : ℕ) → k < n → InWord (get_or xs k 0)) → AllByRecursion InWord (take n xs)
@@ -54,7 +55,7 @@ module _ (text rest w behind : List ℕ) (words after : List (List ℕ)) (stop :
   HasCut-more space = record {
     front = cut.front ++ (w ++ stop ∷ []);
     split = whole ∙ sym (joined behind);
-    formed = each_append InLine cut.front (w ++ stop ∷ []) cut.formed (each_append InLine w (stop ∷ []) (word_in_line w each) ((omega arith, omega arith), tt));
+    formed = each-append InLine cut.front (w ++ stop ∷ []) cut.formed (each-append InLine w (stop ∷ []) (word_in_line w each) ((omega arith, omega arith), tt));
     said = λ z.
         ap words_of (joined z) ∙ cut.said (w ++ stop ∷ z)
         ∙ ap (λ ws. words ++ ws) (ap (λ s. words_of (w ++ s ∷ z)) space ∙ words_of-space w z each)
@@ -69,7 +70,7 @@ module _ (text rest w behind : List ℕ) (words after : List (List ℕ)) (stop :
   -- its bytes
   line_formed : AllByRecursion InLine line
   unfolding line
-  line_formed = each_append InLine cut.front w cut.formed (word_in_line w each)
+  line_formed = each-append InLine cut.front w cut.formed (word_in_line w each)
 
   -- a line whose text isn't a comment isn't one
   no_comment : (bytes more : List ℕ) → is_comment (bytes ++ more) ≡ false → is_comment bytes ≡ false

@@ -2,13 +2,12 @@
 use Rattle.std.proofs.Common.{◌≡◌, ℕ, zero, suc, ◌+◌, ◌-◌, ◌<◌, ◌≤◌, Bool, true, false, not, ◌&&◌, List, [], ◌∷◌, ◌++◌, length, set, get_or, Option, Some, refl, ap, inl, inr, arith}
 use Rattle.std.specs.List.{slice_get}
 use Rattle.std.proofs.lemmas.Bool.{cases_eq, or_parts, ltb-true, lt-ltb}
-use Rattle.std.proofs.lemmas.List.{length-append}
-use Rattle.line_text.specs.Rules.{Rules, count_at, has_stood, last_item}
+use Rattle.line_text.specs.Rules.{Rules, count_at, has_stood}
 use Rattle.line_text.specs.Steps.{IsKnown, place_of}
 use Rattle.line_text.specs.declared.stood.Place.{Place}
 use Rattle.line_text.specs.LineTests.{lacks, is_needed}
 use Rattle.line_text.proofs.Counts.{count_at_push, IsCounted-push}
-use Rattle.line_text.proofs.Places.{slice_get_at}
+use Rattle.line_text.proofs.Items.{last_item_push}
 
 -- where no section is missing below a rank, none is below a lower one
 pub lacks-lower : {Item : Type 0} (g : Rules Item) (items : List Item) (low high : ℕ) → low ≤ high → lacks g items high ≡ false → lacks g items low ≡ false
@@ -34,10 +33,6 @@ lacks_push g items x (suc rank) none =
     go false has e f = refl
     go true true e f = rw (has_stood_push g items x rank e) refl
     go true false e f = absurd cc
-
--- the last of items with one more
-last_item_push : {Item : Type 0} (items : List Item) (x : Item) → last_item (items ++ x ∷ []) ≡ Some x
-last_item_push items x = let at : length (items ++ x ∷ []) - 1 ≡ length items = omega (arith, length-append items (x ∷ [])) in rw at (slice_get_at items x [])
 
 -- what is known of items with one more
 pub IsKnown-push : {Item : Type 0} (g : Rules Item) (items after : List Item) (counts : List ℕ) (last : Option Place) (clear : ℕ) (x : Item) (p : Place) (n : ℕ) → IsKnown g items counts last clear → p ≡ place_of g x → p.rank < length g.sections → n ≡ get_or counts p.rank 0 + 1 → lacks g items (g.rank_of x) ≡ false → after ≡ items ++ x ∷ [] → IsKnown g after (set counts p.rank n) (Some p) p.rank

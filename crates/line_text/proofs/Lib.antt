@@ -9,6 +9,9 @@ pub mod Reading
 pub mod Accepting
 pub mod Order
 pub mod Spelled
+pub mod Skipping
+pub mod CommentLines
 pub mod Decimals
 pub mod WorkedTexts
 pub mod PlainLines
+pub mod Items

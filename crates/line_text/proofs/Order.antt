@@ -1,5 +1,5 @@
 -- How the items of an accepted text stand.
-use Rattle.std.proofs.Common.{◌≡◌, ◌≢◌, ℕ, zero, suc, ◌+◌, ◌-◌, ◌<◌, ◌≤◌, Bool, true, false, not, ◌&&◌, ◌||◌, cond, eqb, leb, ltb, List, [], ◌∷◌, ◌++◌, length, take, Option, Some, None, refl, sym, ap, ◌∙◌, inl, inr, arith}
+use Rattle.std.proofs.Common.{◌≡◌, ◌≢◌, ℕ, zero, suc, ◌+◌, ◌-◌, ◌<◌, ◌≤◌, Bool, true, false, not, ◌&&◌, ◌||◌, cond, eqb, leb, ltb, List, [], ◌∷◌, length, take, Option, Some, None, refl, sym, ap, ◌∙◌, inl, inr, arith}
 use Rattle.std.specs.Prelude.{IsSome}
 use Rattle.std.specs.List.{slice_get, list_any}
 use Rattle.std.proofs.lemmas.Bool.{cases_order, cases_eq, cases_lt, or_parts, not-false, and_cases, eqb-true, eqb-false, eq-eqb, ne_eqb, ltb-true, ltb-false, lt-ltb, leb-false}
@@ -7,6 +7,7 @@ use Rattle.std.proofs.lemmas.Bool.Decides.{nat_tests}
 use Rattle.std.proofs.lemmas.List.{length-take, length-take-le, take_all}
 use Rattle.std.proofs.lemmas.List.Sums.{sum_by-append}
 use Rattle.std.proofs.lemmas.Option.{slice_get_within, same_Some}
+use Rattle.type_table.proofs.Elements.{take-suc_found, element_at}
 use Rattle.line_text.specs.Rules.{Rules, count_at, has_stood, end_rank, last_item}
 use Rattle.line_text.specs.LineTests.{item_fault, is_late, lacks, is_full, is_single, is_needed, ascends, pair_below}
 use Rattle.line_text.specs.Accepted.{IsAccepted, HasPassed, HavePassed, AreAt, HaveNoTwins, HaveRisingRanks, HasKeys, HaveRisingKeys, HaveSinglesOnce, Stands, HaveNeeded, KeepLimits, HaveOneEnd, HaveSinglesInFront, AreInOrder}
@@ -16,12 +17,6 @@ use Rattle.line_text.specs.declared.section.Section.{Section}
 use Rattle.line_text.proofs.Counts.{count_at_push}
 
 -- ---- lists
-
--- a place of a list has an element
-pub element_at : {X : Type 0} (xs : List X) (n : ℕ) → n < length xs → (x : X) × (slice_get xs n ≡ Some x)
-element_at [] n below = absurd (omega arith)
-element_at (x ∷ xs) zero below = (x, refl)
-element_at (x ∷ xs) (suc n) below = element_at xs n (omega arith)
 
 -- a front has the elements of the list
 slice_get-take : {X : Type 0} (n : ℕ) (xs : List X) (i : ℕ) → i < n → slice_get (take n xs) i ≡ slice_get xs i
@@ -35,12 +30,6 @@ from_front : {X : Type 0} (n : ℕ) (xs : List X) (i : ℕ) (x : X) → slice_ge
 from_front n xs i x e =
     let below : i < n = omega (arith, slice_get_within (take n xs) i x e, length-take n xs) in
     (below, sym (slice_get-take n xs i below) ∙ e)
-
--- a front with one more
-take-suc_at : {X : Type 0} (xs : List X) (n : ℕ) (x : X) → slice_get xs n ≡ Some x → take (suc n) xs ≡ take n xs ++ x ∷ []
-take-suc_at [] n x e = absurd cc
-take-suc_at (y ∷ xs) zero x e = ap (λ z. z ∷ []) (same_Some y x e)
-take-suc_at (y ∷ xs) (suc n) x e = ap (λ zs. y ∷ zs) (take-suc_at xs n x e)
 
 -- the last element of a front
 last_item-take : {X : Type 0} (xs : List X) (n : ℕ) (x : X) → slice_get xs n ≡ Some x → last_item (take (suc n) xs) ≡ Some x
@@ -255,7 +244,7 @@ module _ {Item : Type 0} (g : Rules Item) (items : List Item) (h : IsAccepted g 
   limit_kept (suc n) rank most s e m within =
       let x = element_at items n (omega arith) in
       let before = limit_kept n rank most s e m (omega arith) in
-      let counted : count_at g (take (suc n) items) rank ≡ count_at g (take n items) rank + cond (eqb (g.rank_of x.0) rank) 1 0 = ap (λ xs. count_at g xs rank) (take-suc_at items n x.0 x.1) ∙ count_at_push g (take n items) x.0 rank in
+      let counted : count_at g (take (suc n) items) rank ≡ count_at g (take n items) rank + cond (eqb (g.rank_of x.0) rank) 1 0 = ap (λ xs. count_at g xs rank) (take-suc_found items n x.0 x.1) ∙ count_at_push g (take n items) x.0 rank in
       elim (cases_eq (g.rank_of x.0) rank) [
         | inl is ↦
             let room : is_full (slice_get g.sections rank) (count_at g (take n items) rank) ≡ false = rw is at (have_passed n x.0 x.1).has_room in

@@ -6,7 +6,7 @@ use Rattle.std.proofs.lemmas.Option.{same_Some}
 use Rattle.std.proofs.lemmas.Bool.{and_from, and_parts, ne_eqb, le-leb, le-ltb}
 use Rattle.std.proofs.lemmas.List.{length-append, length-take-le, length-drop, take-append-drop}
 use Rattle.line_text.specs.Text.{is_digit, number_value}
-use Rattle.line_text.specs.LineTests.{is_text_byte, item_fault, words_fault, line_fault}
+use Rattle.line_text.specs.LineTests.{is_text_byte, words_fault, line_fault}
 use Rattle.line_text.specs.Plain.{IsPlainLine, IsNumberBefore, KeepsPlainly}
 use Rattle.line_text.specs.Rules.{Rules, count_at, has_stood, end_rank, last_item, item_in}
 use Rattle.line_text.specs.Spelling.{spaced, IsWord}
@@ -16,6 +16,7 @@ use Rattle.line_text.specs.declared.stood.Place.{Place}
 use Rattle.line_text.proofs.Order.{count_from_at}
 use Rattle.line_text.proofs.Numbers.{digit_range, number_of-digits}
 use Rattle.line_text.proofs.Spelled.{InWord, each_weaker, all_pass, InLine, content_again, spaced_bytes, first_line}
+use Rattle.line_text.proofs.Items.{no_fault}
 
 -- a plain line has words
 pub plain_some : (words : List (List ℕ)) (text behind : List ℕ) → IsPlainLine words text behind → 0 < length words
@@ -66,11 +67,6 @@ IsCut-plain words text behind h no_comment short =
       said = sym (content_again words some each (λ e. no_comment (front ∙ e)));
       shorter = omega (arith, long);
     }
-
--- an item that has passed each test has no fault
-no_fault : {Item : Type 0} (g : Rules Item) (before : List Item) (x : Item) → HasPassed g before x → item_fault g before x ≡ None
-unfolding item_fault
-no_fault g before x h = rw (h.in_order, h.lacks_none, h.misses_none, h.in_range, h.has_room, h.ascending, h.no_twin) refl
 
 -- words that say an item which has passed are not refused
 no_words_fault : {Item : Type 0} (g : Rules Item) (before : List Item) (words : List (List ℕ)) (x : Item) → 0 < length words → has_stood g before (end_rank g) ≡ false

@@ -1,12 +1,13 @@
 -- The canonical text of items is read as these items.
-use Rattle.std.proofs.Common.{◌≡◌, ◌≢◌, ℕ, zero, suc, ◌<◌, ◌≤◌, Bool, true, false, eqb, leb, ltb, List, [], ◌∷◌, ◌++◌, length, get_or, take, map, filter, Some, None, Ok, refl, sym, ap, subst, ◌∙◌, append_assoc, arith}
+use Rattle.std.proofs.Common.{◌≡◌, ◌≢◌, ℕ, zero, suc, ◌<◌, ◌≤◌, Bool, true, false, eqb, leb, ltb, List, [], ◌∷◌, ◌++◌, length, get_or, take, map, filter, Some, None, Ok, refl, sym, ap, ◌∙◌, append_assoc, arith}
 use Rattle.std.specs.Option.{option_map}
 use Rattle.std.specs.List.{All, AllByRecursion, list_all, slice_get, slice_split}
 use Rattle.std.proofs.lemmas.Bool.{ne_eqb, le-leb, le-ltb, and_from}
 use Rattle.std.proofs.lemmas.List.{take-map, length-map}
 use Rattle.std.proofs.lemmas.List.Elements.{All-from_recursion}
 use Rattle.std.proofs.lemmas.List.Splits.{slice_split_at, slice_split_none, length-slice_split}
-use Rattle.std.proofs.lemmas.Option.{slice_get-map, same_Some}
+use Rattle.std.proofs.lemmas.Option.{slice_get-map}
+use Rattle.type_table.proofs.Elements.{each-append, each-found, element_at}
 use Rattle.line_text.specs.Text.{TextLine, has_bytes, lines_of, lines_of_pieces, is_comment, content_of}
 use Rattle.line_text.specs.Rules.{Rules, item_in, items_of, has_stood, end_rank}
 use Rattle.line_text.specs.LineTests.{is_text_byte, item_fault, words_fault, line_fault}
@@ -16,7 +17,6 @@ use Rattle.line_text.specs.Spelling.{spaced, text_of, IsWord, Spells, IsReadAgai
 use Rattle.line_text.proofs.Lines.{lines_of_pieces-ended}
 use Rattle.line_text.proofs.Words.{content_of-plain}
 use Rattle.line_text.proofs.Places.{outcome_from}
-use Rattle.line_text.proofs.Order.{element_at}
 
 -- ---- facts of each element
 
@@ -25,22 +25,11 @@ pub each_weaker : {X : Type 0} (P Q : X → Type 0) → ((x : X) → P x → Q x
 each_weaker P Q f [] h = tt
 each_weaker P Q f (x ∷ xs) h = (f x h.0, each_weaker P Q f xs h.1)
 
--- of two lists joined
-pub each_append : {X : Type 0} (P : X → Type 0) (xs ys : List X) → AllByRecursion P xs → AllByRecursion P ys → AllByRecursion P (xs ++ ys)
-each_append P [] ys h k = k
-each_append P (x ∷ xs) ys h k = (h.0, each_append P xs ys h.1 k)
-
 -- of a front
 each_take : {X : Type 0} (P : X → Type 0) (n : ℕ) (xs : List X) → AllByRecursion P xs → AllByRecursion P (take n xs)
 each_take P zero xs h = tt
 each_take P (suc n) [] h = tt
 each_take P (suc n) (x ∷ xs) h = (h.0, each_take P n xs h.1)
-
--- at a place
-each_at : {X : Type 0} (P : X → Type 0) (xs : List X) (n : ℕ) (x : X) → AllByRecursion P xs → slice_get xs n ≡ Some x → P x
-each_at P [] n x h e = absurd cc
-each_at P (y ∷ xs) zero x h e = subst P (same_Some y x e) h.0
-each_at P (y ∷ xs) (suc n) x h e = each_at P xs n x h.1 e
 
 -- as a test
 pub all_pass : (p : ℕ → Bool) (xs : List ℕ) → AllByRecursion (λ b. p b ≡ true) xs → list_all p xs ≡ true
@@ -86,7 +75,7 @@ content_again (w ∷ ws) some each plain = sym (content_of-plain (spaced (w ∷ 
 pub spaced_bytes : (ws : List (List ℕ)) → AllByRecursion IsWord ws → AllByRecursion InLine (spaced ws)
 spaced_bytes [] h = tt
 spaced_bytes (w ∷ []) h = each_weaker InWord InLine (λ b k. (omega arith, k.1)) w h.0.1
-spaced_bytes (w ∷ v ∷ ws) h = each_append InLine w (32 ∷ spaced (v ∷ ws)) (each_weaker InWord InLine (λ b k. (omega arith, k.1)) w h.0.1) ((omega arith, omega arith), spaced_bytes (v ∷ ws) h.1)
+spaced_bytes (w ∷ v ∷ ws) h = each-append InLine w (32 ∷ spaced (v ∷ ws)) (each_weaker InWord InLine (λ b k. (omega arith, k.1)) w h.0.1) ((omega arith, omega arith), spaced_bytes (v ∷ ws) h.1)
 
 -- a line and its LF, in front of more text
 pub first_line : (bytes rest : List ℕ) → AllByRecursion InLine bytes → lines_of ((bytes ++ 10 ∷ []) ++ rest) ≡ record { bytes = bytes; is_ended = true } ∷ lines_of rest
@@ -137,7 +126,7 @@ module _ {Item : Type 0} (g : Rules Item) (words : Item → List (List ℕ)) whe
       let x = element_at items k below in
       let line : slice_get (map line_of items) k ≡ Some (line_of x.0) = slice_get-map line_of items k ∙ ap (option_map line_of) x.1 in
       let front : items_of g (take k (map line_of items)) ≡ take k items = ap (items_of g) (take-map line_of k items) ∙ items_again (take k items) (each_take IsSpelled k items h) in
-      rw (line, front) (line_passes (take k items) x.0 (each_at IsSpelled items k x.0 h x.1) (accepted.before_end k below) (accepted.each k x.0 x.1))
+      rw (line, front) (line_passes (take k items) x.0 (each-found IsSpelled items k x.0 h x.1) (accepted.before_end k below) (accepted.each k x.0 x.1))
 
   -- so the text is read as the items
   pub IsReadAgain-always : (items : List Item) → IsReadAgain g words items

@@ -5,6 +5,7 @@ pub mod Outcome
 pub mod Steps
 pub mod Accepted
 pub mod Spelling
+pub mod Comments
 pub mod Shapes
 pub mod Plain
 pub mod Example

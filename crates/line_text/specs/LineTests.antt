@@ -2,6 +2,7 @@
 use Rattle.std.specs.Prelude.{ℕ, zero, suc, Bool, true, false, not, ◌&&◌, ◌||◌, List, [], ◌∷◌, length, nat_le, nat_lt, ◌==◌, if◌then◌else◌, slice_get, Option, Some, None, Result, Ok, Err}
 use Rattle.std.specs.List.{list_all, list_any}
 use Rattle.std.specs.Option.{option_or}
+use Rattle.type_table.specs.Limits.{longest_line}
 use Rattle.line_text.specs.Text.{TextLine, content_of}
 use Rattle.line_text.specs.Rules.{Rules, items_of, count_at, has_stood, end_rank, last_item}
 use Rattle.line_text.specs.declared.fault.FaultKind.{FaultKind}
@@ -87,7 +88,7 @@ words_fault g before words =
 abbrev pub form_fault : TextLine → Option FaultKind
 form_fault l =
     first_kind ((not (list_all is_text_byte l.bytes), NotAscii)
-    ∷ (nat_lt 200 (length l.bytes), LineTooLong)
+    ∷ (nat_lt longest_line (length l.bytes), LineTooLong)
     ∷ (not l.is_ended, Unterminated)
     ∷ [])
 

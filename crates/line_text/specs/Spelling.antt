@@ -2,6 +2,7 @@
 use Rattle.std.specs.Prelude.{◌≡◌, ◌≢◌, ℕ, ◌<◌, ◌≤◌, List, [], ◌∷◌, ◌++◌, length, slice_index, true, Some, Ok}
 use Rattle.std.specs.Fmt.{decimal}
 use Rattle.std.specs.List.{join_with_byte, flat_map, AllByRecursion}
+use Rattle.type_table.specs.Limits.{longest_line}
 use Rattle.type_table.specs.Name.{is_name}
 use Rattle.line_text.specs.Text.{number_of}
 use Rattle.line_text.specs.Rules.{Rules}
@@ -25,7 +26,7 @@ pub record Spells {Item : Type 0} (g : Rules Item) (x : Item) (words : List (Lis
   pub some : 0 < length words
   pub each : AllByRecursion IsWord words
   pub no_comment : slice_index (spaced words) 0 ≢ 35
-  pub short : length (spaced words) ≤ 200
+  pub short : length (spaced words) ≤ longest_line
   pub said : g.item_of words ≡ Ok x
 
 -- the canonical text of items that may follow each other so is read as these items

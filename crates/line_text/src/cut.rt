@@ -9,9 +9,7 @@ ghost use Rattle.line_text.specs.Steps.{IsCut, IsRefusedFirst};
 use crate::fault::FaultKind;
 use crate::line::{Line, is_comment, split_words, take_line};
 use std::alloc::AllocError;
-
-/// The most bytes of a line, without its LF.
-const MOST_BYTES: usize = 200;
+use type_table::LONGEST_LINE;
 
 /// Puts the words of a text's first line in place of those in `words`, and gives what is behind the
 /// line; else the first of tests 1 to 3 that refuses it. There has to be a line.
@@ -42,14 +40,14 @@ fn cut_plain_line<'a>(
         return Ok(None);
     }
     let mut rest = text;
-    while words.len() <= MOST_BYTES {
+    while words.len() <= LONGEST_LINE {
         let Some((word, stop, behind)) = take_word(rest) else {
             return Ok(None);
         };
         push_word(words, word)?;
         match stop {
             b' ' => rest = behind,
-            b'\n' if text.len() - behind.len() <= MOST_BYTES + 1 => return Ok(Some(behind)),
+            b'\n' if text.len() - behind.len() <= LONGEST_LINE + 1 => return Ok(Some(behind)),
             _ => return Ok(None),
         }
     }
@@ -118,7 +116,7 @@ fn form_fault(line: Line<'_>) -> Option<FaultKind>
 {
     if !is_text(line.bytes) {
         Some(FaultKind::NotAscii)
-    } else if line.bytes.len() > MOST_BYTES {
+    } else if line.bytes.len() > LONGEST_LINE {
         Some(FaultKind::LineTooLong)
     } else if !line.is_ended {
         Some(FaultKind::Unterminated)

@@ -4,6 +4,7 @@ ghost use Rattle.line_text.specs.Rules.{Rules};
 ghost use Rattle.line_text.specs.Outcome.{IsOutcome};
 ghost use Rattle.line_text.specs.Accepted.{IsAccepted, AreInOrder};
 ghost use Rattle.line_text.specs.Spelling.{IsReadAgain, NameIsWord, NumberIsReadAgain};
+ghost use Rattle.line_text.specs.Comments.{AreSkipped};
 
 /// A text's fault is that of the first refused line, by the first test that refuses it from the
 /// lines before, or that `end` hasn't come; it has a value exactly where no line is refused and
@@ -23,6 +24,11 @@ pub fn accepted_in_order<Item>()
 /// is read as these items.
 pub fn canonical_reads_again<Item>()
     ensures { (g : Rules Item) (words : Item → List (List ℕ)) (items : List Item) → IsReadAgain g words items }
+{}
+
+/// Comments say nothing, wherever they are: lines are read as those of them that aren't comments.
+pub fn comments_are_skipped<Item>()
+    ensures { (g : Rules Item) (lines : List (List ℕ)) → AreSkipped g lines }
 {}
 
 /// The decimal text of a number below 10,000,000, as `Display` writes it, is a word of a line and is

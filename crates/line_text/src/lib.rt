@@ -19,7 +19,8 @@ mod stood;
 pub use fault::{FaultKind, TextFault};
 pub use grammar::Grammar;
 pub use laws::{
-    accepted_in_order, canonical_reads_again, names_are_words, numbers_read_again, outcome_by_lines,
+    accepted_in_order, canonical_reads_again, comments_are_skipped, names_are_words,
+    numbers_read_again, outcome_by_lines,
 };
 pub use number::number_of;
 pub use plain::{bytes_before, number_before};

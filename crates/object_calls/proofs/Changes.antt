@@ -1,17 +1,15 @@
 -- What was changed at the places that were visited, and at no other.
-use Rattle.std.proofs.Common.{◌≡◌, ℕ, zero, suc, ◌+◌, ◌<◌, List, [], ◌∷◌, length, map, set, take, get_or, Some, ◌≢◌, refl, sym, ap, subst, ◌∙◌, inl, inr, length-set, get_or-set_same, arith}
+use Rattle.std.proofs.Common.{◌≡◌, ℕ, zero, suc, ◌+◌, ◌<◌, List, [], ◌∷◌, length, map, set, take, get_or, Some, ◌≢◌, refl, sym, ap, subst, ◌∙◌, inl, inr, length-set}
 use Rattle.std.specs.Prelude.{slice_get}
 use Rattle.std.specs.Option.{option_map}
 use Rattle.std.proofs.lemmas.Bool.{cases_eq, false≢true}
 use Rattle.std.proofs.lemmas.List.{map-set}
-use Rattle.std.proofs.lemmas.Option.{slice_get-map, slice_get-get_or, same_Some}
+use Rattle.std.proofs.lemmas.Option.{slice_get-map, same_Some}
+use Rattle.type_table.proofs.Elements.{found-set}
 use Rattle.object_calls.specs.Ends.{is_at, ChangesAt}
 use Rattle.object_calls.proofs.Places.{visited_with, visited_now, visited_cases}
 
 -- ---- a list that is written at one place
-
-set_here : {A : Type 0} (xs : List A) (i : ℕ) (b : A) → i < length xs → slice_get (set xs i b) i ≡ Some b
-set_here xs i b i_in = slice_get-get_or (set xs i b) i b (omega (arith, length-set xs i b, i_in)) ∙ ap Some (get_or-set_same xs i b b i_in)
 
 set_elsewhere : {A : Type 0} (xs : List A) (i j : ℕ) (b : A) → j ≢ i → slice_get (set xs i b) j ≡ slice_get xs j
 set_elsewhere [] i j b apart = refl
@@ -48,7 +46,7 @@ module _ (places : List ℕ) (i : ℕ) (i_in : i < length places) {A : Type 0} (
     changed_here x p q same y_in is_p is_q =
         let y : ℕ = get_or places i 0 in
         let was : a ≡ p = same_Some a p (sym is_a ∙ h.others y first ∙ ap (λ z. slice_get old z) (sym same) ∙ is_p) in
-        let now : b ≡ q = same_Some b q (sym (set_here new y b y_in) ∙ ap (λ z. slice_get (set new y b) z) (sym same) ∙ is_q) in
+        let now : b ≡ q = same_Some b q (sym (found-set new y b y_in) ∙ ap (λ z. slice_get (set new y b) z) (sym same) ∙ is_q) in
         subst (λ z. change z p q) (sym same) (subst (λ z. change y p z) now (subst (λ z. change y z b) was done))
 
     pub changes_now : get_or places i 0 < length new → ChangesAt (take (i + 1) places) change old (set new (get_or places i 0) b)

@@ -11,11 +11,12 @@ use Rattle.std.proofs.lemmas.Option.{same_Some, slice_get-get_or}
 use Rattle.std.proofs.lemmas.Slice.Eq.{bytes_eq-Decides}
 use Rattle.type_table.specs.Table.{Table, call_of, first_op}
 use Rattle.type_table.specs.declared.op.Op.{Op}
+use Rattle.type_table.proofs.Elements.{position-map}
 use Rattle.object_calls.specs.declared.call.Call.{Call}
 use Rattle.object_calls.specs.declared.call.NamedCall.{NamedCall}
 use Rattle.object_calls.specs.Calls.{IsCall, IsCallTable}
 use Rattle.object_calls.specs.Collected.{IsCallOf, AreCallsOf}
-use Rattle.object_calls.proofs.FirstPlaces.{place_within, place_passes, find-place, find-missing, find-some, position-map}
+use Rattle.object_calls.proofs.FirstPlaces.{place_within, place_passes, find-place, find-missing, find-some}
 
 -- the names of the operations' calls
 abbrev pub names_of : List Op → List (List ℕ)

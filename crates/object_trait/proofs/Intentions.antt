@@ -1,15 +1,16 @@
 -- Deferred update: what its calls keep.
 use Rattle.std.proofs.Common.{◌≡◌, ℕ, Bool, true, false, not, cond, eqb, List, [], ◌∷◌, ◌++◌, take, drop, Contains, Some, refl, ap, inl, inr}
 use Rattle.std.specs.List.{filter, AllByRecursion}
-use Rattle.std.proofs.lemmas.Bool.{not-true, eqb-true, cases_Bool, and_parts, and_left}
+use Rattle.std.proofs.lemmas.Bool.{not-true, eqb-true, cases_Bool, and_parts}
 use Rattle.std.proofs.lemmas.List.{append-nil, take-append-drop}
 use Rattle.std.proofs.lemmas.List.Elements.{filter-append}
-use Rattle.type_table.specs.Table.{Table}
 use Rattle.type_table.specs.Run.{IsLegal, AreEqui}
 use Rattle.type_table.specs.Commute.{CommuteForward, Covers}
 use Rattle.type_table.specs.Laws.{RunsAlong}
 use Rattle.type_table.specs.declared.kind.Kind.TheVariants.{Intentions}
 use Rattle.type_table.specs.Lists.{ListsForward}
+use Rattle.type_table.proofs.Elements.{each-push, each-filter, differ_turned}
+use Rattle.type_table.proofs.Legal.{legal-front, forward-turned}
 use Rattle.object_trait.specs.Object.{Object}
 use Rattle.object_trait.specs.Orders.{Pairs}
 use Rattle.object_trait.specs.Meaning.{ops_of, is_open_of, open_of, run_log}
@@ -17,18 +18,12 @@ use Rattle.object_trait.specs.Sound.{IsLocked, IsSoundIntentions}
 use Rattle.object_trait.specs.Steps.{IsOfAnotherOpen, IsIntentionsCommit, IsIntentionsStrike}
 use Rattle.object_trait.specs.Laws.{KeepsFirst, CommuteFrom}
 use Rattle.object_trait.specs.declared.log_entry.LogEntry.{LogEntry}
-use Rattle.object_trait.proofs.Lists.{IsBetween, each-push, each-filter, each_two-map, each_two-at, each_between, pairs-weaker, pairs-push, pairs-filter}
-use Rattle.object_trait.proofs.Runs.{ops-append, front-legal, push-legal}
+use Rattle.object_trait.proofs.Lists.{IsBetween, each_two-map, each_two-at, each_between, pairs-weaker, pairs-push, pairs-filter}
+use Rattle.object_trait.proofs.Runs.{ops-append, push-legal, open-apart}
 use Rattle.object_trait.proofs.Striking.{filter-keep_first, each-keep_first, pairs-keep_first}
-use Rattle.object_trait.proofs.Undo.{differ_turned, locked-applied}
+use Rattle.object_trait.proofs.Undo.{locked-applied}
 
 -- ---- entries of two transactions
-
--- an open entry of t isn't one of u
-apart : (t u : ℕ) → eqb u t ≡ false → (e : LogEntry) → is_open_of t e ≡ true → is_open_of u e ≡ false
-apart t u differ e mine =
-    let by : e.by ≡ t = eqb-true e.by t (and_parts (eqb e.by t) (not e.done) mine).0 in
-    and_left (eqb e.by u) (not e.done) (rw by (differ_turned t u differ))
 
 -- leaving out mine changes nothing of what a filter keeps that none of mine passes
 filter-without : {E : Type 0} (mine theirs : E → Bool) → ((e : E) → mine e ≡ true → theirs e ≡ false) → (V : List E) → filter theirs (filter (λ e. not (mine e)) V) ≡ filter theirs V
@@ -79,12 +74,6 @@ intentions-applied along o base log t k sound legal free =
 
 -- ---- commit
 
--- forward commutativity is symmetric
-forward-turned : (T : Table) (set : ℕ → Bool) (p q : ℕ) → CommuteForward T set p q → CommuteForward T set q p
-forward-turned T set p q h = λ s member q_legal p_legal.
-    let both = h s member p_legal q_legal in
-    (both.1, both.0, (both.2.1, both.2.0))
-
 -- open entries of two transactions commute forward, whichever stands first
 between : (o : Object) → Covers Intentions o.table o.set o.conflicts → (t u : ℕ) → eqb u t ≡ false → (a b : LogEntry) → IsLocked o a b →
     IsBetween (is_open_of t) (is_open_of u) (λ x y. CommuteForward o.table o.set x.op y.op) a b
@@ -106,7 +95,7 @@ ops_between : (o : Object) → Covers Intentions o.table o.set o.conflicts → (
 ops_between o covers t u differ log locked p q p_in q_in =
     let C : ℕ → ℕ → Type 0 = CommuteForward o.table o.set in
     let pairs : Pairs (IsBetween (is_open_of t) (is_open_of u) (λ x y. C x.op y.op)) log = pairs-weaker (between o covers t u differ) log locked in
-    let entries = each_between (λ x y. C x.op y.op) (is_open_of t) (is_open_of u) (apart t u differ) log pairs in
+    let entries = each_between (λ x y. C x.op y.op) (is_open_of t) (is_open_of u) (open-apart t u differ) log pairs in
     each_two-at C (ops_of (open_of t log)) (ops_of (open_of u log)) (each_two-map C (λ (e : LogEntry). e.op) (open_of t log) (open_of u log) entries) p q p_in q_in
 
 -- the open operations of two transactions, in either order
@@ -133,7 +122,7 @@ intentions-committed along forward o covers base log t new_base new_log sound co
       legal =
           λ u. elim (cases_Bool (eqb u t)) [
             | inl same ↦ rw (eqb-true u t same, filter-itself (is_open_of t) log) refl
-            | inr other ↦ rw (filter-without (is_open_of t) (is_open_of u) (apart t u other) log) (behind-commit along forward o covers base log t u new_base other sound commit.reached)
+            | inr other ↦ rw (filter-without (is_open_of t) (is_open_of u) (open-apart t u other) log) (behind-commit along forward o covers base log t u new_base other sound commit.reached)
           ];
       locked = pairs-filter (IsLocked o) (λ e. not (is_open_of t e)) log sound.locked;
     })
@@ -143,7 +132,7 @@ intentions-committed along forward o covers base log t new_base new_log sound co
 -- the front of t's operations
 front_of : RunsAlong → (o : Object) (base : ℕ) (V : List LogEntry) (n : ℕ) → IsLegal o.table (Some base) (ops_of V) → IsLegal o.table (Some base) (ops_of (take n V))
 front_of along o base V n legal =
-    front-legal along o.table (Some base) (ops_of (take n V)) (ops_of (drop n V)) (rw (← ops-append (take n V) (drop n V), take-append-drop n V) legal)
+    legal-front along o.table (Some base) (ops_of (take n V)) (ops_of (drop n V)) (rw (← ops-append (take n V) (drop n V), take-append-drop n V) legal)
 
 -- deferred update stays sound by a strike
 pub intentions-struck : RunsAlong → KeepsFirst LogEntry → (o : Object) (base : ℕ) (log : List LogEntry) (t n new_base : ℕ) (new_log : List LogEntry) → IsSoundIntentions o base log →
@@ -156,7 +145,7 @@ intentions-struck along keeps o base log t n new_base new_log sound strike =
       legal =
           λ u. elim (cases_Bool (eqb u t)) [
             | inl same ↦ rw (eqb-true u t same, (keeps (is_open_of t) n log).0) (front_of along o base (open_of t log) n (sound.legal t))
-            | inr other ↦ rw (filter-keep_first (is_open_of t) (is_open_of u) (apart t u other) n log) (sound.legal u)
+            | inr other ↦ rw (filter-keep_first (is_open_of t) (is_open_of u) (open-apart t u other) n log) (sound.legal u)
           ];
       locked = pairs-keep_first (IsLocked o) (is_open_of t) n log sound.locked;
     })

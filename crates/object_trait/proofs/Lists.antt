@@ -2,42 +2,10 @@
 use Rattle.std.proofs.Common.{◌≡◌, ℕ, zero, suc, ◌<◌, Bool, true, false, List, [], ◌∷◌, ◌++◌, map, length, get_or, Contains, inl, inr, arith}
 use Rattle.std.specs.List.{filter, AllByRecursion}
 use Rattle.std.proofs.lemmas.Bool.{cases_Bool}
+use Rattle.type_table.proofs.Elements.{each-weaker, each-both, each-push, each-map, each-passes, each-filter}
 use Rattle.object_trait.specs.Orders.{Pairs}
 
 -- ---- each element
-
--- two facts of each element give a third
-pub each-both : {E : Type 0} {P Q S : E → Type 0} → ((x : E) → P x → Q x → S x) → (V : List E) → AllByRecursion P V → AllByRecursion Q V → AllByRecursion S V
-each-both f [] p q = tt
-each-both f (x ∷ V) p q = (f x p.0 q.0, each-both f V p.1 q.1)
-
--- a fact of each element gives another
-pub each-weaker : {E : Type 0} {P Q : E → Type 0} → ((x : E) → P x → Q x) → (V : List E) → AllByRecursion P V → AllByRecursion Q V
-each-weaker f [] p = tt
-each-weaker f (x ∷ V) p = (f x p.0, each-weaker f V p.1)
-
--- of each element of a list, and of one more
-pub each-push : {E : Type 0} (P : E → Type 0) (V : List E) (e : E) → AllByRecursion P V → P e → AllByRecursion P (V ++ (e ∷ []))
-each-push P [] e p here = (here, tt)
-each-push P (x ∷ V) e p here = (p.0, each-push P V e p.1 here)
-
--- of each element to which a function leads
-each-map : {A B : Type 0} (P : B → Type 0) (f : A → B) (V : List A) → AllByRecursion (λ a. P (f a)) V → AllByRecursion P (map f V)
-each-map P f [] p = tt
-each-map P f (x ∷ V) p = (p.0, each-map P f V p.1)
-
--- what holds of each element that passes a test holds of each that a filter keeps
-pub each-passes : {E : Type 0} (P : E → Type 0) (test : E → Bool) (V : List E) → AllByRecursion (λ x. test x ≡ true → P x) V → AllByRecursion P (filter test V)
-each-passes P test [] p = tt
-each-passes P test (x ∷ V) p =
-    elim (cases_Bool (test x)) [
-      | inl passes ↦ rw passes (p.0 passes, each-passes P test V p.1)
-      | inr fails ↦ rw fails (each-passes P test V p.1)
-    ]
-
--- of each element that a filter keeps
-pub each-filter : {E : Type 0} (P : E → Type 0) (test : E → Bool) (V : List E) → AllByRecursion P V → AllByRecursion P (filter test V)
-each-filter P test V p = each-passes P test V (each-weaker (λ x h _. h) V p)
 
 -- of an element of the list
 each-at : (P : ℕ → Type 0) (V : List ℕ) (x : ℕ) → AllByRecursion P V → Contains V x → P x

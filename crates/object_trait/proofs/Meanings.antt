@@ -8,6 +8,7 @@ use Rattle.type_table.specs.declared.kind.Kind.{Kind}
 use Rattle.type_table.specs.declared.kind.Kind.TheVariants.{Undo, Intentions}
 use Rattle.table_checker.specs.Checked.{Checked}
 use Rattle.type_table.specs.Lists.{ListsForward}
+use Rattle.type_table.proofs.Elements.{differ_turned}
 use Rattle.object_trait.specs.Object.{Object, object_of}
 use Rattle.object_trait.specs.Strike.{keep_first}
 use Rattle.object_trait.specs.Meaning.{object, ops_of, is_open_of, open_of, view_by}
@@ -15,7 +16,7 @@ use Rattle.object_trait.specs.Sound.{IsSoundBy}
 use Rattle.object_trait.specs.Steps.{IsOfAnotherOpen, IsCommitBy, IsStrikeBy}
 use Rattle.object_trait.specs.Laws.{PartsSort, KeepsFirst, StruckPart, SortsLook, StruckLogIsLegal, CommuteFrom, OpensCommute, FreshIsSound, SoundAfterApply, SoundAfterCommit, SoundAfterStrike}
 use Rattle.object_trait.specs.declared.log_entry.LogEntry.{LogEntry}
-use Rattle.object_trait.proofs.Undo.{differ_turned, undo-applied, undo-committed, struck-legal, undo-struck}
+use Rattle.object_trait.proofs.Undo.{undo-applied, undo-committed, struck-legal, undo-struck}
 use Rattle.object_trait.proofs.Intentions.{intentions-applied, opens-commute, intentions-committed, intentions-struck}
 
 -- the struck log is legal: the kind is update in place

@@ -5,9 +5,9 @@ use Rattle.type_table.specs.Table.{Table, next}
 use Rattle.type_table.specs.Run.{run, IsLegal, Looks, AreEqui}
 use Rattle.type_table.specs.StateSet.{IsClosed}
 use Rattle.type_table.specs.Laws.{IsExtended, LooksExtends, EquiExtends}
+use Rattle.type_table.proofs.Legal.{from_state, is_there, legal_there, legal_here, related_here}
 use Rattle.object_trait.specs.Orders.{Sorts, same, swap, under, chain, Parts, none, stay, goes}
 use Rattle.object_trait.specs.Laws.{PartsSort, SortsLook, SortsEqui}
-use Rattle.object_trait.proofs.Runs.{from_state, is_there, legal_there, legal_here, related_here}
 
 -- ---- two parts
 

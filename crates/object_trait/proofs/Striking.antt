@@ -1,11 +1,32 @@
 -- What a strike keeps of a list, and what it takes out.
-use Rattle.std.proofs.Common.{◌≡◌, ℕ, zero, suc, Bool, true, false, not, cond, List, [], ◌∷◌, take, drop, refl, ap, inl, inr}
+use Rattle.std.proofs.Common.{◌≡◌, ℕ, zero, suc, Bool, true, false, not, cond, List, [], ◌∷◌, take, drop, refl, ap, inl, inr, length}
 use Rattle.std.specs.List.{filter, AllByRecursion}
 use Rattle.std.proofs.lemmas.Bool.{cases_Bool}
+use Rattle.type_table.proofs.Elements.{each-weaker}
 use Rattle.object_trait.specs.Orders.{Pairs, Parts, none, stay, goes}
 use Rattle.object_trait.specs.Strike.{keep_first}
 use Rattle.object_trait.specs.Laws.{KeepsFirst, StruckPart}
-use Rattle.object_trait.proofs.Lists.{each-weaker}
+
+-- ---- a strike of one element more
+
+-- what is so of whatever is kept of the rest, without the first element and with it, is so of what is kept
+pub keep_first-next : {E : Type 0} (Q : List E → Type 0) (mine : E → Bool) (n : ℕ) (x : E) (V : List E) →
+    ((m : ℕ) → Q (keep_first mine m V)) → ((m : ℕ) → Q (x ∷ keep_first mine m V)) → Q (keep_first mine n (x ∷ V))
+keep_first-next Q mine n x V without with_it = by_test (mine x) n
+  where
+    by_test : (b : Bool) (k : ℕ) → Q (cond b (elim k [ zero ↦ keep_first mine zero V | suc m ↦ x ∷ keep_first mine m V ]) (x ∷ keep_first mine k V))
+    by_test false k = with_it k
+    by_test true zero = without zero
+    by_test true (suc m) = with_it m
+
+-- a strike that keeps all of mine keeps the list
+pub keep_first-all : {E : Type 0} (mine : E → Bool) (V : List E) → keep_first mine (length (filter mine V)) V ≡ V
+keep_first-all mine [] = refl
+keep_first-all mine (e ∷ V) =
+    elim (cases_Bool (mine e)) [
+      | inl is ↦ rw is (ap (λ rest. e ∷ rest) (keep_first-all mine V))
+      | inr isnt ↦ rw isnt (ap (λ rest. e ∷ rest) (keep_first-all mine V))
+    ]
 
 -- ---- a strike, entry by entry
 

@@ -1,11 +1,13 @@
 -- Update in place: what its calls keep.
-use Rattle.std.proofs.Common.{◌≡◌, ℕ, Bool, true, false, not, eqb, List, [], ◌∷◌, ◌++◌, map, drop, Some, refl, sym, ap, inl, inr}
+use Rattle.std.proofs.Common.{◌≡◌, ℕ, Bool, true, false, not, eqb, List, [], ◌∷◌, ◌++◌, map, drop, Some, refl, ap, inl, inr}
 use Rattle.std.specs.List.{filter, AllByRecursion}
-use Rattle.std.proofs.lemmas.Bool.{both_ways, not-true, eqb-true, eq-eqb, cases_Bool, and_parts, and_from, or_parts, or_from, not_from_false}
+use Rattle.std.proofs.lemmas.Bool.{both_ways, not-true, eqb-true, cases_Bool, and_parts, and_from, or_parts, or_from, not_from_false}
 use Rattle.type_table.specs.Run.{IsLegal}
 use Rattle.type_table.specs.Commute.{CommutesBackward, Covers}
 use Rattle.type_table.specs.Laws.{RunsAlong, EndsInside}
 use Rattle.type_table.specs.declared.kind.Kind.TheVariants.{Undo}
+use Rattle.type_table.proofs.Elements.{each-weaker, differ_turned}
+use Rattle.type_table.proofs.Legal.{legal-front}
 use Rattle.object_trait.specs.Object.{Object}
 use Rattle.object_trait.specs.Strike.{keep_first}
 use Rattle.object_trait.specs.Meaning.{ops_of, is_open_of, run_log}
@@ -13,19 +15,11 @@ use Rattle.object_trait.specs.Sound.{IsLocked, IsInOrder, IsSoundUndo}
 use Rattle.object_trait.specs.Steps.{IsOfAnotherOpen, IsSettled, marked}
 use Rattle.object_trait.specs.Laws.{PartsSort, StruckPart, SortsLook}
 use Rattle.object_trait.specs.declared.log_entry.LogEntry.{LogEntry}
-use Rattle.object_trait.proofs.Lists.{each-weaker, pairs-both, pairs-push, pairs-behind, pairs-map}
-use Rattle.object_trait.proofs.Runs.{ops-append, front-legal, rest-legal, push-legal}
+use Rattle.object_trait.proofs.Lists.{pairs-both, pairs-push, pairs-behind, pairs-map}
+use Rattle.object_trait.proofs.Runs.{ops-append, rest-legal, push-legal}
 use Rattle.object_trait.proofs.Striking.{pairs-keep_first}
 
 -- ---- a further operation
-
--- numbers that differ one way round differ the other way round
-pub differ_turned : (a t : ℕ) → eqb t a ≡ false → eqb a t ≡ false
-differ_turned a t other =
-    elim (cases_Bool (eqb a t)) [
-      | inl same ↦ absurd (both_ways (eqb t a) other (eq-eqb t a (sym (eqb-true a t same))))
-      | inr differ ↦ differ
-    ]
 
 -- what the caller saw free of conflicts is locked by the new entry
 pub locked-applied : (o : Object) (t k : ℕ) (log : List LogEntry) → AllByRecursion (λ e. IsOfAnotherOpen t e → o.conflicts k e.op ≡ false) log →
@@ -114,7 +108,7 @@ struck-legal along parts strike sorts o covers base log t n sound =
     let gone : List LogEntry = drop n (filter mine log) in
     let sorted = parts (passes o) log left gone (strike (passes o) mine n log (pairs-both (mine-passes o t) log sound.locked sound.in_order)) in
     let looks = sorts o.table o.set (λ e. e.op) (passes o) base log (left ++ gone) covers.closed sound.inside (passes-commute o covers) sorted sound.legal in
-    front-legal along o.table (Some base) (ops_of left) (ops_of gone) (rw (ops-append left gone) at looks.0)
+    legal-front along o.table (Some base) (ops_of left) (ops_of gone) (rw (ops-append left gone) at looks.0)
 
 -- update in place stays sound by a strike
 pub undo-struck : RunsAlong → EndsInside → PartsSort LogEntry → StruckPart LogEntry → SortsLook LogEntry → (o : Object) → Covers Undo o.table o.set o.conflicts →

@@ -1,5 +1,5 @@
 -- Calls of a transaction without open entries: they may leave a meaning as it is, and show the same whatever they leave.
-use Rattle.std.proofs.Common.{◌≡◌, ℕ, zero, Bool, true, false, not, eqb, ◌||◌, ◌&&◌, List, [], ◌∷◌, ◌++◌, map, Some, refl, sym, ap, ◌∙◌}
+use Rattle.std.proofs.Common.{◌≡◌, ℕ, zero, Bool, true, false, not, eqb, ◌&&◌, List, [], ◌∷◌, ◌++◌, map, Some, refl, sym, ap, ◌∙◌}
 use Rattle.std.specs.List.{AllByRecursion}
 use Rattle.type_table.specs.Run.{run}
 use Rattle.type_table.specs.Laws.{RunsAlong}
@@ -12,16 +12,10 @@ use Rattle.object_trait.specs.Sound.{IsSoundBy}
 use Rattle.object_trait.specs.Steps.{IsSettled, marked, IsCommitBy, IsStrikeBy, ShowsTheSame}
 use Rattle.object_trait.specs.Laws.{UntouchedStays, UntouchedShowsTheSame}
 use Rattle.object_trait.specs.declared.log_entry.LogEntry.{LogEntry}
-use Rattle.object_trait.proofs.Runs.{ops-append}
+use Rattle.object_trait.proofs.Runs.{ops-append, same_mark}
 use Rattle.object_trait.proofs.Kept.{none_of_mine, without_mine, keep_first-untouched}
 
 -- ---- commit
-
--- a mark changes no entry that is done or another's
-same_mark : (done by_t : Bool) → (by_t && not done) ≡ false → (done || by_t) ≡ done
-same_mark true by_t isnt = refl
-same_mark false true isnt = isnt
-same_mark false false isnt = refl
 
 -- where no entry of t is open, its marks change nothing
 unmarked : (t : ℕ) (log : List LogEntry) → open_of t log ≡ [] → map (marked t) log ≡ log

@@ -2,3 +2,4 @@ pub mod Puts
 pub mod Takes
 pub mod Numbers
 pub mod GatheredLemmas
+pub mod Turns

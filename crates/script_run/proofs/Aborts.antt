@@ -1,12 +1,12 @@
 -- The aborts of open transactions, one after another.
-use Rattle.std.proofs.Common.{◌≡◌, ℕ, zero, suc, ◌+◌, ◌<◌, ◌≤◌, ◌==◌, true, false, not, ◌&&◌, cond, List, [], ◌∷◌, ◌++◌, map, filter, take, drop, inl, inr, Option, Some, None, is_some, Result, Ok, Err, refl, sym, ap, ◌∙◌, subst, append_assoc, append-nil, zero-add, add-one, arith}
-use Rattle.std.specs.Prelude.{if◌then◌else◌}
+use Rattle.std.proofs.Common.{◌≡◌, if◌then◌else◌, ℕ, zero, suc, ◌+◌, ◌<◌, ◌≤◌, ◌==◌, true, false, not, ◌&&◌, cond, List, [], ◌∷◌, ◌++◌, map, filter, take, drop, inl, inr, Option, Some, None, is_some, Result, Ok, Err, refl, sym, ap, ◌∙◌, subst, append_assoc, append-nil, add-one, arith}
 use Rattle.std.specs.List.{range_with_len}
 use Rattle.std.proofs.lemmas.Bool.{cases_Bool, cases_eq, cases_lt, le-ltb, ne_eqb, and_left, not_from_true, eq-eqb}
 use Rattle.std.proofs.lemmas.List.{map-id, take-append-drop}
 use Rattle.std.proofs.lemmas.List.Elements.{filter-append}
-use Rattle.std.proofs.lemmas.List.FromFn.{map-range_with_len_more, take-map-range_with_len}
+use Rattle.std.proofs.lemmas.List.FromFn.{take-map-range_with_len}
 use Rattle.std.proofs.lemmas.Option.{none-some}
+use Rattle.type_table.proofs.Elements.{range-more}
 use Rattle.object_trait.specs.Object.{Object}
 use Rattle.object_trait.specs.declared.event.Event.{Event}
 use Rattle.object_trait.specs.declared.event.EventKind.TheVariants.{Abort}
@@ -52,11 +52,6 @@ closing-aborts = λ H i turn at.
 
 abbrev pub open_below : List Event → ℕ → List ℕ
 open_below H n = filter (is_open (seen H)) (range_with_len 0 n)
-
--- one number more
-range-more : (n : ℕ) → range_with_len 0 (n + 1) ≡ range_with_len 0 n ++ n ∷ []
-range-more n =
-    sym (map-id (range_with_len 0 (n + 1))) ∙ map-range_with_len_more (λ x. x) 0 n n (zero-add n) ∙ ap (λ l. l ++ n ∷ []) (map-id (range_with_len 0 n))
 
 open-more : (H : List Event) (n : ℕ) → open_below H (n + 1) ≡ open_below H n ++ filter (is_open (seen H)) (n ∷ [])
 open-more H n = ap (filter (is_open (seen H))) (range-more n) ∙ filter-append (is_open (seen H)) (range_with_len 0 n) (n ∷ [])

@@ -3,6 +3,7 @@ use Rattle.std.proofs.Common.{◌≡◌, ℕ, suc, ◌+◌, ◌<◌, false, nat_
 use Rattle.std.proofs.lemmas.Bool.{cases_lt, true≢false, lt-ltb}
 use Rattle.std.proofs.lemmas.List.{length-map}
 use Rattle.std.proofs.lemmas.Option.{none-some, same_Some, slice_get_within, slice_get-get_or}
+use Rattle.type_table.proofs.Elements.{found-front}
 use Rattle.object_trait.specs.declared.event.Event.{Event}
 use Rattle.outputs.specs.Out.{Puts}
 use Rattle.outputs.specs.declared.out.OutFault.{OutFault}
@@ -10,7 +11,7 @@ use Rattle.store_laws.specs.Stored.{Stored, objects}
 use Rattle.store.specs.KeptState.{IsKeptState}
 use Rattle.script_run.specs.Turns.{line_of, kept_turn, kept_turns}
 use Rattle.script_run.specs.Running.{Writes, AreKept, WritesState, WritesKept}
-use Rattle.script_run.proofs.Turns.{there_first, there_second, no_turns, join, one_turn}
+use Rattle.script_run.proofs.Turns.{there_second, no_turns, join, one_turn}
 
 -- one object more
 kept_turns-more : (H : List Event) (x y : ℕ) (states : List ℕ) (state : ℕ) → x + length states ≡ y
@@ -29,7 +30,7 @@ kept-more s kept n state many are its x found at =
       | inl low ↦
           let old = get_or kept x 0 in
           let there = slice_get-get_or kept x 0 low in
-          let same : old ≡ found = same_Some old found (sym (there_first kept (state ∷ []) x old there) ∙ at) in
+          let same : old ≡ found = same_Some old found (sym (found-front kept (state ∷ []) x old there) ∙ at) in
           subst (IsKeptState s x) same (are x old there)
       | inr high ↦
           let last : x ≡ length kept + 0 =

@@ -7,3 +7,5 @@ pub mod KeptLines
 pub mod Scripts
 pub mod Histories
 pub mod Told
+pub mod Reading
+pub mod Ranges

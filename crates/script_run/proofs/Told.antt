@@ -108,7 +108,7 @@ kept-told : (H : List Event) (x : ℕ) (kept : List ℕ) → text_of (filter tel
 kept-told H x [] = refl
 kept-told H x (s ∷ kept) = kept-told H (suc x) kept
 
-kept-stays : (H : List Event) (x : ℕ) (kept : List ℕ) → history_after H (kept_turns H x kept) ≡ H
+pub kept-stays : (H : List Event) (x : ℕ) (kept : List ℕ) → history_after H (kept_turns H x kept) ≡ H
 kept-stays H x [] = refl
 kept-stays H x (s ∷ kept) = kept-stays H (suc x) kept
 
@@ -118,7 +118,7 @@ objects-told : (H : List Event) (lines : List ObjectLine) → text_of (filter te
 objects-told H [] = refl
 objects-told H (o ∷ lines) = ap (λ l. line_of (object_turn H o) ++ l) (objects-told H lines)
 
-objects-stay : (H : List Event) (lines : List ObjectLine) → history_after H (object_turns H lines) ≡ H
+pub objects-stay : (H : List Event) (lines : List ObjectLine) → history_after H (object_turns H lines) ≡ H
 objects-stay H [] = refl
 objects-stay H (o ∷ lines) = objects-stay H lines
 

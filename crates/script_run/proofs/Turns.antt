@@ -5,6 +5,7 @@ use Rattle.std.proofs.lemmas.List.{take-append-le}
 use Rattle.std.proofs.lemmas.Option.{none-some, same_Some, slice_get_within}
 use Rattle.std.proofs.KnownBytes.{Appends-nil, Appends-trans}
 use Rattle.std.specs.Io.KnownBytes.{Appends}
+use Rattle.type_table.proofs.Elements.{found-front}
 use Rattle.object_trait.specs.declared.event.Event.{Event}
 use Rattle.outputs.specs.Out.{Puts}
 use Rattle.outputs.specs.declared.out.OutFault.{OutFault}
@@ -29,13 +30,7 @@ history_at H (x ∷ turns) (suc i) turn at = history_at x.history turns i turn a
 pub text_of-append : (xs ys : List Turn) → text_of (xs ++ ys) ≡ text_of xs ++ text_of ys
 text_of-append xs ys = flat_map-append line_of xs ys
 
--- a place in the first is one in both
-pub there_first : {X : Type 0} (xs ys : List X) (i : ℕ) (x : X) → slice_get xs i ≡ Some x → slice_get (xs ++ ys) i ≡ Some x
-there_first [] ys i x at = absurd (none-some x at)
-there_first (y ∷ xs) ys zero x at = at
-there_first (y ∷ xs) ys (suc i) x at = there_first xs ys i x at
-
--- and so is one in the second, so much further on
+-- a place in the second is one in both, so much further on
 pub there_second : {X : Type 0} (xs ys : List X) (n i : ℕ) → n ≡ length xs + i → slice_get (xs ++ ys) n ≡ slice_get ys i
 there_second [] ys n i e = ap (slice_get ys) (e ∙ zero-add i)
 there_second (x ∷ xs) ys zero i e = absurd (omega arith)
@@ -56,7 +51,7 @@ stops_first s new xs ys a b h =
     record {
       place = h.place;
       turn = h.turn;
-      there = there_first xs ys h.place h.turn h.there;
+      there = found-front xs ys h.place h.turn h.there;
       taken = h.taken;
       short = h.short;
       bytes = subst (λ l. Appends a b (text_of l ++ take h.taken (line_of h.turn))) (sym (take-append-le h.place xs ys within)) h.bytes;

@@ -1,6 +1,10 @@
 -- Statements of laws of a script's turns.
-use Rattle.std.specs.Prelude.{◌≡◌, ℕ, suc, List, [], ◌++◌, map, filter, take, Bool, false, not, Some, slice_get}
-use Rattle.line_text.specs.Text.{is_comment}
+use Rattle.std.specs.Prelude.{◌≡◌, ℕ, suc, ◌<◌, ◌≤◌, ◌^◌, List, [], ◌++◌, length, map, filter, take, Bool, false, Some, Ok, slice_get}
+use Rattle.std.specs.List.{AllByRecursion}
+use Rattle.type_table.specs.Limits.{most_events, most_objects, most_ops}
+use Rattle.line_text.specs.Comments.{IsComment, lines_text, tells as tells_line}
+use Rattle.line_text.specs.Outcome.{outcome_of}
+use Rattle.line_text.specs.Spelling.{spaced}
 use Rattle.object_trait.specs.Object.{Object}
 use Rattle.object_trait.specs.declared.event.Event.{Event}
 use Rattle.object_trait.specs.declared.event.EventKind.TheVariants.{Abort}
@@ -9,8 +13,10 @@ use Rattle.serial_order.specs.Machine.{IsRun}
 use Rattle.serial_order.specs.Replay.{replay}
 use Rattle.serial_order.specs.declared.command.Command.{Command}
 use Rattle.store_text.specs.declared.line.ObjectLine.{ObjectLine}
-use Rattle.history_text.specs.Canonical.{canonical_text}
-use Rattle.script_run.specs.Turns.{Turn, line_of, text_of, history_after, command_turns, closing_turns, open_in, by_script, script_turns}
+use Rattle.store_text.specs.Body.{store_rules}
+use Rattle.history_text.specs.Canonical.{AreInRange, canonical_lines, canonical_text}
+use Rattle.history_text.specs.Events.{events}
+use Rattle.script_run.specs.Turns.{Turn, text_of, history_after, command_turns, closing_turns, open_in, by_script, script_turns}
 
 -- the history after the commands' turns is that of their replay
 abbrev pub AllReplayed : Type 0
@@ -42,7 +48,7 @@ NoneStaysOpen =
 
 -- a turn whose line is no comment
 abbrev pub tells : Turn → Bool
-tells turn = not (is_comment (line_of turn))
+tells turn = tells_line (spaced turn.words)
 
 -- a script's lines but for the comments are the canonical text of its history
 abbrev pub TextTellsHistory : Type 0
@@ -50,3 +56,34 @@ TextTellsHistory =
     (objects : List Object) (most : ℕ) (wanting : ℕ → Bool) (kept : List ℕ) (lines : List ObjectLine) (commands : List Command)
     → let turns = script_turns objects most wanting kept [] lines commands in
     text_of (filter tells turns) ≡ canonical_text lines (history_after [] turns)
+
+-- a script's lines, and comments behind them, are read as its history, where that is in range and kept states have at most seven digits
+abbrev pub ScriptIsRead : Type 0
+ScriptIsRead =
+    (objects : List Object) (most : ℕ) (wanting : ℕ → Bool) (kept : List ℕ) (lines : List ObjectLine) (commands : List Command) (behind : List (List ℕ))
+    → let turns = script_turns objects most wanting kept [] lines commands in
+    let H = history_after [] turns in
+    AreInRange lines H → length kept < 10 ^ 7 → AllByRecursion (λ state. state < 10 ^ 7) kept → AllByRecursion IsComment behind
+    → outcome_of (store_rules events) (text_of turns ++ lines_text behind) ≡ Ok (canonical_lines lines H)
+
+-- its events are worker 0's
+abbrev pub ScriptIsByOne : Type 0
+ScriptIsByOne =
+    (objects : List Object) (most : ℕ) (wanting : ℕ → Bool) (kept : List ℕ) (lines : List ObjectLine) (commands : List Command)
+    → AllByRecursion (λ (e : Event). e.worker ≡ 0) (history_after [] (script_turns objects most wanting kept [] lines commands))
+
+-- what is known of the history of a run that a text may have: over objects of tables, each named by a line, by workers whose numbers
+-- a byte holds
+pub record MayBeTold (lines : List ObjectLine) (objects : List Object) (H : List Event) : Type 0 where
+  pub run : IsRun objects H
+  pub ops_fit : (x : ℕ) (o : Object) → slice_get objects x ≡ Some o → length o.table.ops ≤ most_ops
+  pub as_many : length objects ≡ length lines
+  pub some_object : 0 < length lines
+  pub objects_fit : length lines ≤ most_objects
+  pub files_fit : AllByRecursion (λ (o : ObjectLine). o.file ≤ 255) lines
+  pub events_fit : length H ≤ most_events
+  pub workers_fit : AllByRecursion (λ (e : Event). e.worker ≤ 255) H
+
+-- its numbers and counts are in the ranges of a history's text
+abbrev pub RunIsInRange : Type 0
+RunIsInRange = (lines : List ObjectLine) (objects : List Object) (H : List Event) → MayBeTold lines objects H → AreInRange lines H

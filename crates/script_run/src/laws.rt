@@ -1,9 +1,12 @@
 //! Laws of the turns of a script: each is a function that does nothing, whose contract is the law. It
 //! calls the laws on which it depends.
 
-ghost use Rattle.script_run.specs.Laws.{AllReplayed, EachReplayed, AllAborted, EachAborted, NoneStaysOpen, TextTellsHistory};
+ghost use Rattle.script_run.specs.Laws.{AllReplayed, EachReplayed, AllAborted, EachAborted, NoneStaysOpen, TextTellsHistory, ScriptIsRead, ScriptIsByOne, RunIsInRange};
 
-use serial_order::{command_appends, opens_after, run_goes_on, seen_after, transactions_in_run};
+use history_text::{canonical_is_read, comments_tell_nothing};
+use serial_order::{
+    command_appends, numbers_in_run, opens_after, run_goes_on, seen_after, transactions_in_run,
+};
 
 /// The turns of the commands have the histories that `serial_order` defines: after all of them the
 /// replay of all, and at each the replay of the commands up to its own.
@@ -35,4 +38,26 @@ pub fn text_tells_history()
     ensures { TextTellsHistory }
 {
     command_appends();
+}
+
+/// The lines of a script are read as its history, with comments between them and behind them.
+pub fn script_is_read()
+    ensures { ScriptIsRead }
+{
+    comments_tell_nothing();
+    canonical_is_read();
+    text_tells_history();
+}
+
+/// Each event of a script's history is worker 0's.
+pub fn script_is_by_one()
+    ensures { ScriptIsByOne }
+{}
+
+/// The history of a run is in the ranges of a history's text: with at most 256 objects over tables of
+/// at most 64 operations, and at most 1,000,000 events.
+pub fn run_is_in_range()
+    ensures { RunIsInRange }
+{
+    numbers_in_run();
 }

@@ -11,7 +11,10 @@ mod objects;
 mod running;
 
 pub use kept::write_states;
-pub use laws::{closing_aborts, closing_ends, commands_replay, text_tells_history};
+pub use laws::{
+    closing_aborts, closing_ends, commands_replay, run_is_in_range, script_is_by_one,
+    script_is_read, text_tells_history,
+};
 pub use lines::{name_of, number_of};
 pub use outputs::{Out, OutFault};
 pub use running::run_script;

@@ -15,5 +15,6 @@ is_fit parts cs same fit =
       high = limit.1;
       some_object = fit.some_object;
       objects_fit = fit.objects;
+      files_fit = fit.files;
       commands_fit = rw same fit.entries;
     }

@@ -1,33 +1,16 @@
 -- The plain line of a command says it.
-use Rattle.std.proofs.Common.{◌≡◌, ℕ, ◌≤◌, Bool, true, ◌&&◌, leb, List, [], ◌∷◌, ◌++◌, length, refl, ap, arith}
+use Rattle.std.proofs.Common.{◌≡◌, ℕ, true, List, [], ◌∷◌, ◌++◌, length, refl, ap, arith}
 use Rattle.std.specs.Prelude.{codes}
-use Rattle.std.specs.List.{AllByRecursion, list_all}
-use Rattle.std.proofs.lemmas.Bool.{leb-true, and_parts}
 use Rattle.std.proofs.lemmas.List.{length-append}
 use Rattle.type_table.specs.Name.{is_name}
 use Rattle.line_text.specs.Shapes.{exactly, name_at, number_at, is_key}
-use Rattle.line_text.specs.Spelling.{IsWord, NameIsWord}
+use Rattle.line_text.specs.Spelling.{NameIsWord}
 use Rattle.line_text.specs.Plain.{SaysPlainly, IsNumberBefore}
+use Rattle.line_text.proofs.Items.{keyword}
 use Rattle.store_text.specs.Body.{line_of}
 use Rattle.store_text.specs.declared.line.Line.TheVariants.{Entry}
 use Rattle.serial_order.specs.declared.command.Command.TheVariants.{Begin, Call, Commit, Abort, Rollback}
 use Rattle.script_text.specs.Commands.{commands, command_of, begin_of, call_of, commit_of, abort_of, rollback_of}
-
--- a byte that a word may have, as a test
-abbrev is_word_byte : ℕ → Bool
-is_word_byte b = leb 33 b && leb b 126
-
--- bytes that pass the test
-word_bytes : (w : List ℕ) → list_all is_word_byte w ≡ true → AllByRecursion (λ b. (33 ≤ b) × (b ≤ 126)) w
-word_bytes [] h = tt
-word_bytes (b ∷ w) h =
-    let parts = and_parts (is_word_byte b) (list_all is_word_byte w) h in
-    let ends = and_parts (leb 33 b) (leb b 126) parts.0 in
-    ((leb-true 33 b ends.0, leb-true b 126 ends.1), word_bytes w parts.1)
-
--- a keyword is a word
-keyword : (w : List ℕ) → leb 1 (length w) ≡ true → list_all is_word_byte w ≡ true → IsWord w
-keyword w some each = (omega (arith, leb-true 1 (length w) some), word_bytes w each)
 
 pub begin_plainly : (behind : List ℕ) → SaysPlainly (line_of commands) (codes "begin" ++ 10 ∷ behind) (Entry Begin) behind
 unfolding line_of is_key command_of begin_of exactly

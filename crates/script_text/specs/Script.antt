@@ -1,8 +1,11 @@
 -- The script that the lines of a text describe.
 use Rattle.std.specs.Prelude.{◌≡◌, ◌<◌, ◌≤◌, List, length, slice_get, Some}
+use Rattle.std.specs.List.{AllByRecursion}
+use Rattle.type_table.specs.Limits.{most_events, most_objects}
 use Rattle.serial_order.specs.declared.command.Command.{Command}
 use Rattle.store_text.specs.declared.line.Line.{Line}
 use Rattle.store_text.specs.declared.line.Line.TheVariants.{Max}
+use Rattle.store_text.specs.declared.line.ObjectLine.{ObjectLine}
 use Rattle.store_text.specs.Said.{objects_of, entries_of}
 use Rattle.script_text.specs.declared.script.Script.{Script}
 
@@ -15,7 +18,8 @@ pub record IsScriptOf (lines : List (Line Command)) (script : Script) : Type 0 w
 -- its numbers and counts are in their ranges
 pub record IsFit (script : Script) : Type 0 where
   pub low : 2 ≤ script.max
-  pub high : script.max ≤ 1000000
+  pub high : script.max ≤ most_events
   pub some_object : 0 < length script.objects.items
-  pub objects_fit : length script.objects.items ≤ 256
-  pub commands_fit : length script.commands ≤ 1000000
+  pub objects_fit : length script.objects.items ≤ most_objects
+  pub files_fit : AllByRecursion (λ (o : ObjectLine). o.file ≤ 255) script.objects.items
+  pub commands_fit : length script.commands ≤ most_events

@@ -3,6 +3,7 @@ use Rattle.std.proofs.Common.{◌≡◌, ℕ, suc, ◌<◌, Bool, true, false, n
 use Rattle.std.proofs.lemmas.Bool.{cases_Bool, eqb-true}
 use Rattle.std.proofs.lemmas.Bool.Decides.{nat_tests}
 use Rattle.type_table.specs.Table.{Table}
+use Rattle.type_table.proofs.Elements.{eqb-sym}
 use Rattle.object_trait.specs.Object.{Object}
 use Rattle.object_trait.specs.declared.event.EventKind.{EventKind}
 use Rattle.object_trait.specs.declared.event.EventKind.TheVariants as kind
@@ -12,7 +13,7 @@ use Rattle.serial_order.specs.History.{Seen, is_open, MayStand}
 use Rattle.serial_order.specs.Machine.{May}
 use Rattle.serial_order.specs.After.{after, SeenAfter, AreInRun, TransactionsInRun, is_open_after, HistoryOpensAfter}
 use Rattle.serial_order.proofs.Events.{seen_after, seen-snoc}
-use Rattle.serial_order.proofs.Lists.{eqb-sym, is_among-snoc}
+use Rattle.serial_order.proofs.Lists.{is_among-snoc}
 use Rattle.serial_order.proofs.MayStand.{may_stand}
 use Rattle.serial_order.proofs.Runs.{after_event, transactions_in_run}
 

@@ -6,6 +6,7 @@ use Rattle.type_table.specs.Run.{IsLegal}
 use Rattle.type_table.specs.Laws.{RunsAlong}
 use Rattle.type_table.specs.declared.kind.Kind.{Kind}
 use Rattle.type_table.specs.declared.kind.Kind.TheVariants.{Undo, Intentions}
+use Rattle.type_table.proofs.Elements.{each-weaker, each-both, each-passes, each-filter}
 use Rattle.object_trait.specs.Object.{Object}
 use Rattle.object_trait.specs.Meaning.{object, view_by}
 use Rattle.object_trait.specs.Steps.{IsOfAnotherOpen}
@@ -18,7 +19,7 @@ use Rattle.serial_order.specs.Laws.{AllowsAlike, MachineMayApply}
 use Rattle.serial_order.specs.declared.entry.Entry.{Entry}
 use Rattle.serial_order.specs.After.{AreInRun}
 use Rattle.serial_order.proofs.Runs.{transactions_in_run, pending_is_open, open_is_uncommitted}
-use Rattle.serial_order.proofs.Pairs.{each-weaker, each-both, each-rest, each-from_map, each-passes, each-filter}
+use Rattle.serial_order.proofs.Pairs.{each-rest, each-from_map}
 use Rattle.serial_order.proofs.StandUndo.{undo_stands-run}
 use Rattle.serial_order.proofs.StandDeferred.{deferred_stands-run}
 

@@ -4,6 +4,7 @@ use Rattle.std.specs.List.{AllByRecursion}
 use Rattle.std.proofs.lemmas.Bool.{eqb-true, eq-eqb, cases_Bool}
 use Rattle.std.proofs.lemmas.List.{append-nil}
 use Rattle.std.proofs.lemmas.List.Elements.{filter-append}
+use Rattle.type_table.proofs.Elements.{each-both, each-filter, eqb-sym}
 use Rattle.object_trait.specs.Object.{Object}
 use Rattle.object_trait.specs.Strike.{keep_first}
 use Rattle.object_trait.specs.declared.event.Event.{Event}
@@ -17,8 +18,6 @@ use Rattle.serial_order.specs.Machine.{May, MayDo, IsRun}
 use Rattle.serial_order.specs.declared.entry.Entry.{Entry}
 use Rattle.serial_order.proofs.Strikes.{keep_first-part}
 use Rattle.serial_order.proofs.Facts.{IsFree}
-use Rattle.serial_order.proofs.Pairs.{each-both, each-filter}
-use Rattle.serial_order.proofs.Lists.{eqb-sym}
 use Rattle.serial_order.proofs.Events.{seen_after, seen-snoc}
 use Rattle.serial_order.specs.After.{AreInRun}
 use Rattle.serial_order.proofs.Runs.{in_run, transactions_in_run, pending_is_open, open_is_uncommitted}

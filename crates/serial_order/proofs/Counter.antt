@@ -1,67 +1,18 @@
 -- The counter's file, for which the checker says yes for both kinds of recovery.
-use Rattle.std.proofs.Common.{◌≡◌, ℕ, zero, suc, ◌<◌, Bool, true, false, List, [], ◌∷◌, map, refl, ap, subst, inl, arith, below_none, below_more}
-use Rattle.std.specs.Prelude.{unwrap_or, slice_index_or}
-use Rattle.std.proofs.lemmas.Bool.{false≢true}
+use Rattle.std.proofs.Common.{◌≡◌, ℕ, zero, suc, ◌<◌, Bool, false, List, [], ◌∷◌, map, refl, ap, subst}
+use Rattle.std.specs.Prelude.{unwrap_or}
 use Rattle.std.proofs.lemmas.Option.{none-some}
-use Rattle.type_table.specs.Table.{next, IsTable}
-use Rattle.type_table.specs.ConflictTable.{row}
-use Rattle.type_table.specs.Examples.{counter}
+use Rattle.type_table.specs.Table.{next}
 use Rattle.type_table.specs.declared.kind.Kind.{Kind}
 use Rattle.type_table.specs.declared.kind.Kind.TheVariants.{Undo, Intentions}
 use Rattle.table_checker.specs.Condition.{passes_forward, passes_backward, fails_at, PassesEverywhere}
-use Rattle.table_checker.specs.Reach.{leaves_at, NeverLeaves}
-use Rattle.table_checker.specs.Checked.{Checked, IsChecked, IsCertified, condition_of}
+use Rattle.table_checker.specs.Checked.{Checked, IsChecked, condition_of}
 use Rattle.type_text.specs.TypeFile.{conflicts_of}
 use Rattle.table_checker.specs.Examples.{counter_file}
 use Rattle.table_checker.specs.declared.condition.Condition.{Condition}
 use Rattle.table_checker.specs.declared.condition.Condition.TheVariants.{Forward, Backward}
+use Rattle.table_checker.proofs.Examples.{at_two, at_three, counter-table, counter-certified}
 use Rattle.serial_order.specs.Laws.{AreChecked}
-
--- what is so at 0 and at 1 is so at each number below 2
-at_two : (P : ℕ → Type 0) → P 0 → P 1 → (k : ℕ) → k < 2 → P k
-at_two P zeroth first = below_more P 1 (below_more P 0 (below_none P) zeroth) first
-
--- and at 0, 1 and 2 for those below 3
-at_three : (P : ℕ → Type 0) → P 0 → P 1 → P 2 → (s : ℕ) → s < 3 → P s
-at_three P zeroth first second = below_more P 2 (at_two P zeroth first) second
-
--- the counter is a table
-counter-table : IsTable counter
-counter-table = record {
-  some_states = omega arith;
-  states_fit = omega arith;
-  some_ops = omega arith;
-  ops_fit = omega arith;
-  whole = refl;
-  initial_inside = omega arith;
-  steps_inside = refl;
-  no_twin = refl;
-}
-
--- no step leaves the set of all states
-counter-stays : NeverLeaves counter counter_file.reach
-unfolding next
-counter-stays s k s_in k_in =
-    at_two (λ c. leaves_at counter counter_file.reach s c ≡ false)
-    (at_three (λ r. leaves_at counter counter_file.reach r 0 ≡ false) refl refl refl s s_in)
-    (at_three (λ r. leaves_at counter counter_file.reach r 1 ≡ false) refl refl refl s s_in)
-    k k_in
-
--- each state is related to itself alone, so that the relation is a simulation
-diagonal : (s t : ℕ) → slice_index_or (row counter_file.relation s) t false ≡ true → s ≡ t
-diagonal zero zero h = refl
-diagonal zero (suc zero) h = absurd (false≢true h)
-diagonal zero (suc (suc zero)) h = absurd (false≢true h)
-diagonal zero (suc (suc (suc t))) h = absurd (false≢true h)
-diagonal (suc zero) zero h = absurd (false≢true h)
-diagonal (suc zero) (suc zero) h = refl
-diagonal (suc zero) (suc (suc zero)) h = absurd (false≢true h)
-diagonal (suc zero) (suc (suc (suc t))) h = absurd (false≢true h)
-diagonal (suc (suc zero)) zero h = absurd (false≢true h)
-diagonal (suc (suc zero)) (suc zero) h = absurd (false≢true h)
-diagonal (suc (suc zero)) (suc (suc zero)) h = refl
-diagonal (suc (suc zero)) (suc (suc (suc t))) h = absurd (false≢true h)
-diagonal (suc (suc (suc s))) t h = absurd (false≢true h)
 
 -- no pair of a requested and a held operation fails at a state: up with up, up with down, down with up, down with down
 at_places : (condition : Condition) (table : List (List Bool)) → let At : ℕ → ℕ → Type 0 = λ p q. (s : ℕ) → s < 3 → fails_at condition counter_file table p q s ≡ false in
@@ -77,14 +28,6 @@ counter-passes : (kind : Kind) → PassesEverywhere (condition_of kind) counter_
 unfolding next passes_forward passes_backward
 counter-passes Undo p q s inside = at_places Backward counter_file.undo (at_three _ refl refl refl) (at_three _ refl refl refl) (at_three _ refl refl refl) (at_three _ refl refl refl) p q s inside
 counter-passes Intentions p q s inside = at_places Forward counter_file.intentions (at_three _ refl refl refl) (at_three _ refl refl refl) (at_three _ refl refl refl) (at_three _ refl refl refl) p q s inside
-
--- the set and the relation are in order
-counter-certified : IsCertified counter_file
-counter-certified = record {
-  begins_inside = refl;
-  never_leaves = counter-stays;
-  simulation = λ s t k s2 pair step. (s2, rw (← diagonal s t pair) step, inl refl);
-}
 
 -- the file, and a kind for which it was accepted
 abbrev pub counter_at : Kind → Checked

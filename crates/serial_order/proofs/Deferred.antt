@@ -1,23 +1,26 @@
 -- Deferred update: the serial order and what each open transaction sees are legal; and stay so.
-use Rattle.std.proofs.Common.{◌≡◌, ℕ, Bool, true, false, ◌==◌, List, [], ◌∷◌, ◌++◌, take, drop, Contains, Option, Some, sym, ap, ◌∙◌, inl, inr}
+use Rattle.std.proofs.Common.{◌≡◌, ℕ, true, false, ◌==◌, List, [], ◌∷◌, ◌++◌, take, drop, Contains, Option, Some, sym, ap, ◌∙◌, inl, inr}
 use Rattle.std.proofs.lemmas.Bool.{cases_Bool, false≢true, eqb-true}
 use Rattle.std.proofs.lemmas.List.{append_assoc, take-append-drop}
-use Rattle.type_table.specs.Table.{Table}
 use Rattle.type_table.specs.Commute.{CommuteForward}
 use Rattle.type_table.specs.Laws.{RunsAlong, EndsInside, LegalEnds}
 use Rattle.type_table.specs.declared.kind.Kind.TheVariants.{Intentions}
 use Rattle.type_table.specs.Lists.{ListsForward}
+use Rattle.type_table.proofs.Elements.{eqb-sym}
+use Rattle.type_table.proofs.Legal.{legal-front, forward-turned}
 use Rattle.object_trait.specs.Object.{Object, IsCovered}
 use Rattle.object_trait.specs.Orders.{Pairs}
 use Rattle.object_trait.specs.Strike.{keep_first}
+use Rattle.object_trait.proofs.Lists.{pairs-weaker, pairs-push}
+use Rattle.object_trait.proofs.Striking.{pairs-keep_first}
 use Rattle.serial_order.specs.Operations.{is_among, is_by, ops, of, serial}
 use Rattle.serial_order.specs.declared.entry.Entry.{Entry}
 use Rattle.serial_order.proofs.Strikes.{keep_first-others, keep_first-mine}
 use Rattle.serial_order.proofs.Facts.{IsHeldFree, IsLegalAt, held_free-commit, DeferredFacts, DeferredOp, DeferredStrike, DeferredCommit}
-use Rattle.serial_order.proofs.Lists.{eqb-sym, is_one-apart, is_among-neither, ops-append, serial-snoc, serial-apart, of-apart, of-more, serial-strike}
-use Rattle.serial_order.proofs.Pairs.{pairs-weaker, pairs-push, pairs-keep_first, pairs-at}
+use Rattle.serial_order.proofs.Lists.{is_one-apart, is_among-neither, ops-append, serial-snoc, serial-apart, of-apart, of-more, serial-strike}
+use Rattle.serial_order.proofs.Pairs.{pairs-at}
 use Rattle.serial_order.proofs.Chosen.{from_chosen}
-use Rattle.serial_order.proofs.Legal.{legal-front, legal-behind, legal-after}
+use Rattle.serial_order.proofs.Legal.{legal-behind, legal-after}
 
 -- ---- views
 
@@ -79,10 +82,6 @@ deferred_strike along = λ o C V t n covered kind uncommitted facts. record {
 
 -- ---- a commit
 
--- which of two operations is first doesn't matter to whether they commute forward
-forward_turned : (T : Table) (set : ℕ → Bool) (p q : ℕ) → CommuteForward T set p q → CommuteForward T set q p
-forward_turned T set p q h = λ s member q_legal p_legal. let both = h s member p_legal q_legal in (both.1, both.0, ((both.2).1, (both.2).0))
-
 -- operations that don't conflict commute forward
 free_commute : (o : Object) → IsCovered o → o.kind ≡ Intentions → (p q : ℕ) → o.conflicts p q ≡ false → CommuteForward o.table o.set p q
 free_commute o covered kind p q free = rw kind at (covered.commute p q free)
@@ -102,7 +101,7 @@ module _ (o : Object) (C : List ℕ) (V : List Entry) (covered : IsCovered o) (k
   -- whichever of the two is first
   both_ways : (a b : Entry) → IsHeldFree o C a b → Commuting a b × Commuting b a
   both_ways a b h = (
-    λ a_mine b_mine. forward_turned o.table o.set b.op a.op (held_commute a b t u h a_mine b_mine t_pending (eqb-sym u t ∙ apart)),
+    λ a_mine b_mine. forward-turned o.table o.set b.op a.op (held_commute a b t u h a_mine b_mine t_pending (eqb-sym u t ∙ apart)),
     λ b_mine a_mine. held_commute a b u t h a_mine b_mine u_pending apart,
   )
 

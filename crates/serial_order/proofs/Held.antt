@@ -5,6 +5,7 @@ use Rattle.std.proofs.Math.Bool.{and_comm}
 use Rattle.std.proofs.lemmas.Bool.{cases_Bool, eqb-true, and_parts}
 use Rattle.std.proofs.lemmas.Bool.Decides.{nat_tests}
 use Rattle.std.proofs.lemmas.List.Elements.{filter_agree}
+use Rattle.type_table.proofs.Elements.{each-weaker, each-filter, filter-turned, mine-within}
 use Rattle.object_trait.specs.Object.{Object}
 use Rattle.object_trait.specs.Strike.{keep_first}
 use Rattle.object_trait.specs.declared.event.EventKind.{EventKind}
@@ -20,8 +21,7 @@ use Rattle.serial_order.specs.Held.{held_at, HeldAfter, BlockerIsHeld, OwnAfter}
 use Rattle.serial_order.specs.declared.entry.Entry.{Entry}
 use Rattle.serial_order.proofs.After.{open-after}
 use Rattle.serial_order.proofs.Strikes.{keep_first-mine, keep_first-none, keep_first-others, keep_first-part, keep_first-within}
-use Rattle.serial_order.proofs.Pairs.{each-weaker, each-filter}
-use Rattle.serial_order.proofs.Lists.{is_one-apart, both_filters, mine-within, filter-more, filter-apart, filter-turned, of-more, of-apart}
+use Rattle.serial_order.proofs.Lists.{is_one-apart, both_filters, filter-more, filter-apart, of-more, of-apart}
 use Rattle.serial_order.proofs.Standing.{stay-count}
 
 -- ---- filters

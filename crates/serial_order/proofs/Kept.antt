@@ -8,6 +8,8 @@ use Rattle.type_table.specs.Laws.{RunsAlong, EndsInside, LegalEnds}
 use Rattle.type_table.specs.declared.kind.Kind.{Kind}
 use Rattle.type_table.specs.declared.kind.Kind.TheVariants.{Undo, Intentions}
 use Rattle.type_table.specs.Lists.{ListsForward}
+use Rattle.type_table.proofs.Elements.{each-both, each-filter, filter-none}
+use Rattle.type_table.proofs.Legal.{legal-front}
 use Rattle.object_trait.specs.Object.{Object, IsCoveredStrongly}
 use Rattle.object_trait.specs.Laws.{PartsSort, StruckPart, SortsLook, SortsEqui}
 use Rattle.object_trait.specs.Meaning.{Meaning, object, state_by, run_log}
@@ -20,9 +22,7 @@ use Rattle.serial_order.specs.Serial.{standing_at, serial_at, pending_at, IsSeri
 use Rattle.serial_order.specs.Stand.{StandsBy, StandsFor, IsIdle, KeptAgreesBy, KeptAgrees}
 use Rattle.serial_order.specs.Laws.{may_pass, Headline}
 use Rattle.serial_order.specs.declared.entry.Entry.{Entry}
-use Rattle.serial_order.proofs.Pairs.{each-both, each-filter}
-use Rattle.serial_order.proofs.Lists.{filter-none, ops-append}
-use Rattle.serial_order.proofs.Legal.{legal-front}
+use Rattle.serial_order.proofs.Lists.{ops-append}
 use Rattle.serial_order.proofs.Undo.{covers_undo, passes_parts, passes-commute}
 use Rattle.serial_order.proofs.StandUndo.{undo_stands-run}
 use Rattle.serial_order.proofs.Facts.{IsLegalAt}

@@ -1,5 +1,5 @@
--- Runs from a state: what is legal in front and behind, and what stays so of their ends.
-use Rattle.std.proofs.Common.{◌≡◌, ℕ, List, [], ◌∷◌, ◌++◌, Option, Some, None, IsSome, refl, ap, ◌∙◌}
+-- Runs from a state: what is legal behind a list, and what stays so of their ends.
+use Rattle.std.proofs.Common.{◌≡◌, ℕ, List, ◌++◌, Option, Some, ap, ◌∙◌}
 use Rattle.type_table.specs.Table.{Table}
 use Rattle.type_table.specs.Run.{run, IsLegal, Looks, AreEqui}
 use Rattle.type_table.specs.Laws.{RunsAlong}
@@ -8,16 +8,6 @@ use Rattle.serial_order.specs.declared.entry.Entry.{Entry}
 use Rattle.serial_order.proofs.Lists.{ops-append}
 
 -- ---- what is legal
-
--- where a list is legal, there is a state
-legal-somewhere : (T : Table) (from : Option ℕ) (w : List ℕ) → IsLegal T from w → IsSome from
-legal-somewhere T None [] legal = legal
-legal-somewhere T None (k ∷ w) legal = legal-somewhere T None w legal
-legal-somewhere T (Some s) w legal = refl
-
--- the front of a legal list is legal
-pub legal-front : RunsAlong → (T : Table) (from : Option ℕ) (v w : List ℕ) → IsLegal T from (v ++ w) → IsLegal T from v
-legal-front along T from v w legal = legal-somewhere T (run T from v) w (rw (along T from v w) at legal)
 
 -- what is legal behind a list is legal from the state after it
 pub legal-behind : RunsAlong → (T : Table) (from : Option ℕ) (v w : List ℕ) (s : ℕ) → run T from v ≡ Some s → IsLegal T from (v ++ w) → IsLegal T (Some s) w

@@ -1,23 +1,18 @@
 -- Operations of several transactions: how those of one, the serial order and the pending ones change.
 use Rattle.std.proofs.Common.{◌≡◌, ℕ, Bool, true, false, cond, not, ◌&&◌, ◌||◌, ◌==◌, List, [], ◌∷◌, ◌++◌, filter, refl, sym, ap, ◌∙◌, inl, inr, append-nil}
-use Rattle.std.specs.List.{AllByRecursion}
-use Rattle.std.specs.Cmp.{both_ways}
-use Rattle.std.proofs.Math.Bool.{or-false, and_comm}
-use Rattle.std.proofs.lemmas.Bool.{cases_Bool, or_parts, or_cases, eqb-true, eq-eqb, false≢true}
+use Rattle.std.proofs.Math.Bool.{or-false}
+use Rattle.std.proofs.lemmas.Bool.{cases_Bool, or_parts, or_cases, eqb-true, false≢true}
 use Rattle.std.proofs.lemmas.List.{map-append}
 use Rattle.std.proofs.lemmas.Grind.{flat_map-append}
 use Rattle.std.proofs.lemmas.List.Elements.{filter-append, filter_agree}
 use Rattle.std.proofs.lemmas.List.Folds.{list_any-append}
+use Rattle.type_table.proofs.Elements.{mine-within, eqb-sym}
 use Rattle.object_trait.specs.Strike.{keep_first}
 use Rattle.serial_order.specs.Operations.{is_among, is_by, ops, of, serial, pending}
 use Rattle.serial_order.specs.declared.entry.Entry.{Entry}
 use Rattle.serial_order.proofs.Strikes.{keep_first-others, keep_first-within}
 
 -- ---- tests
-
--- two numbers are equal in either order
-pub eqb-sym : (a b : ℕ) → (a == b) ≡ (b == a)
-eqb-sym a b = both_ways (a == b) (b == a) (λ is. eq-eqb b a (sym (eqb-true a b is))) (λ is. eq-eqb a b (sym (eqb-true b a is)))
 
 -- what is one of two numbers that differ isn't the other
 pub is_one-apart : (a t u : ℕ) → (t == u) ≡ false → (a == t) ≡ true → (a == u) ≡ false
@@ -46,18 +41,6 @@ both_filters first second (e ∷ V) =
       | inr fails ↦ rw fails (both_filters first second V)
     ]
 
--- a part that has all of mine has the same of mine
-pub mine-within : {E : Type 0} (test mine : E → Bool) (V : List E) → ((e : E) → mine e ≡ true → test e ≡ true) → filter mine (filter test V) ≡ filter mine V
-mine-within test mine [] within = refl
-mine-within test mine (e ∷ V) within =
-    elim (cases_Bool (mine e)) [
-      | inl is ↦ simp (is, within e is) (ap (λ rest. e ∷ rest) (mine-within test mine V within))
-      | inr isnt ↦ elim (cases_Bool (test e)) [
-        | inl passes ↦ simp (passes, isnt) (mine-within test mine V within)
-        | inr fails ↦ simp (fails, isnt) (mine-within test mine V within)
-      ]
-    ]
-
 -- a filter goes on with one more that passes
 pub filter-more : {E : Type 0} (test : E → Bool) (V : List E) (e : E) → test e ≡ true → filter test (V ++ e ∷ []) ≡ filter test V ++ e ∷ []
 filter-more test V e passes = filter-append test V (e ∷ []) ∙ ap (λ b. filter test V ++ cond b (e ∷ []) []) passes
@@ -65,18 +48,6 @@ filter-more test V e passes = filter-append test V (e ∷ []) ∙ ap (λ b. filt
 -- and stays the same after one that doesn't
 pub filter-apart : {E : Type 0} (test : E → Bool) (V : List E) (e : E) → test e ≡ false → filter test (V ++ e ∷ []) ≡ filter test V
 filter-apart test V e fails = filter-append test V (e ∷ []) ∙ ap (λ b. filter test V ++ cond b (e ∷ []) []) fails ∙ append-nil (filter test V)
-
--- none is left where none passes
-pub filter-none : {E : Type 0} (test : E → Bool) (V : List E) → AllByRecursion (λ e. test e ≡ false) V → filter test V ≡ []
-filter-none test [] each = refl
-filter-none test (e ∷ V) each = rw (each.0) (filter-none test V each.1)
-
--- two filters, one after the other, either way round
-pub filter-turned : {E : Type 0} (first second : E → Bool) (V : List E) → filter first (filter second V) ≡ filter second (filter first V)
-filter-turned first second V =
-    sym (both_filters second first V)
-    ∙ filter_agree (λ e. second e && first e) (λ e. first e && second e) (λ e. and_comm (second e) (first e)) V
-    ∙ both_filters first second V
 
 -- ---- the operations alone
 

@@ -2,6 +2,7 @@
 use Rattle.std.proofs.Common.{◌≡◌, ℕ, ◌+◌, ◌<◌, ◌≤◌, Bool, true, false, List, [], ◌∷◌, ◌++◌, length, Option, Some, None, slice_get, ◌==◌, refl, sym, subst, length-append, arith}
 use Rattle.std.specs.List.{AllByRecursion}
 use Rattle.std.proofs.lemmas.Option.{slice_get_within}
+use Rattle.type_table.proofs.Elements.{each-weaker, each-append, each-filter, filter-length}
 use Rattle.object_trait.specs.Object.{Object}
 use Rattle.object_trait.specs.declared.event.Event.{Event}
 use Rattle.object_trait.specs.declared.event.EventKind.{EventKind}
@@ -13,9 +14,9 @@ use Rattle.serial_order.specs.Machine.{May, MayDo, MayBeBusy, MayHaveNone, IsRun
 use Rattle.serial_order.specs.After.{AreInRun, AreBelow, NumbersInRun}
 use Rattle.serial_order.specs.declared.entry.Entry.{Entry}
 use Rattle.serial_order.proofs.Events.{begun_after, begins-snoc, standing-snoc}
-use Rattle.serial_order.proofs.Pairs.{each-weaker, each-append, each-filter, each-at}
+use Rattle.serial_order.proofs.Pairs.{each-at}
 use Rattle.serial_order.proofs.Runs.{in_run, of_open, transactions_in_run}
-use Rattle.serial_order.proofs.StandCounts.{filter-length, after-length}
+use Rattle.serial_order.proofs.StandCounts.{after-length}
 
 -- bounds may be raised
 below-more : (objects ops n : ℕ) (happened : EventKind) → AreBelow objects ops n happened → AreBelow objects ops (n + 1) happened

@@ -5,11 +5,13 @@ use Rattle.std.proofs.lemmas.Bool.{cases_Bool, eqb-true, eq-eqb, false≢true}
 use Rattle.std.proofs.lemmas.Bool.Decides.{nat_tests}
 use Rattle.std.proofs.lemmas.Grind.{flat_map-append}
 use Rattle.std.proofs.lemmas.List.Elements.{filter-append}
+use Rattle.type_table.proofs.Elements.{each-append}
 use Rattle.object_trait.specs.Object.{Object}
 use Rattle.object_trait.specs.declared.event.Event.{Event}
 use Rattle.object_trait.specs.declared.event.EventKind.{EventKind}
 use Rattle.object_trait.specs.declared.event.EventKind.TheVariants as kind
 use Rattle.object_trait.specs.declared.event.EventKind.TheVariants.{Begin, Op, Busy, Commit, Abort, Rollback}
+use Rattle.object_trait.proofs.Striking.{each-keep_first}
 use Rattle.serial_order.specs.Operations.{is_by, of}
 use Rattle.serial_order.specs.History.{Seen, seen, is_open, is_begin, begins, IsOperation, stand_after, standing}
 use Rattle.serial_order.specs.Machine.{May}
@@ -19,7 +21,6 @@ use Rattle.serial_order.specs.declared.entry.Entry.{Entry}
 use Rattle.serial_order.proofs.After.{open-after}
 use Rattle.serial_order.proofs.Events.{standing-snoc}
 use Rattle.serial_order.proofs.MayStand.{may_stand}
-use Rattle.serial_order.proofs.Pairs.{each-append, each-keep_first}
 use Rattle.serial_order.proofs.Runs.{in_run, of_open}
 
 -- ---- numbers that pass a test

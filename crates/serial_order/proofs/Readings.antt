@@ -5,6 +5,7 @@ use Rattle.std.proofs.lemmas.Bool.{cases_Bool, cases_lt, or_parts, eqb-true, eq-
 use Rattle.std.proofs.lemmas.Bool.Decides.{nat_tests}
 use Rattle.std.proofs.lemmas.List.Elements.{filter-append}
 use Rattle.std.proofs.lemmas.List.Folds.{list_any-append}
+use Rattle.type_table.proofs.Elements.{eqb-sym}
 use Rattle.object_trait.specs.Strike.{keep_first}
 use Rattle.object_trait.specs.declared.event.Event.{Event}
 use Rattle.object_trait.specs.declared.event.EventKind.{EventKind}
@@ -17,7 +18,7 @@ use Rattle.serial_order.specs.Laws.{StandsAsRead}
 use Rattle.serial_order.specs.declared.entry.Entry.{Entry}
 use Rattle.serial_order.proofs.Strikes.{keep_first-none}
 use Rattle.serial_order.proofs.Events.{aborts-snoc}
-use Rattle.serial_order.proofs.Lists.{eqb-sym, is_among-snoc}
+use Rattle.serial_order.proofs.Lists.{is_among-snoc}
 use Rattle.serial_order.proofs.Reach.{op_count, reach, reach-snoc, rolled_back-reach}
 
 -- ---- what stays, by how far back the rollbacks reach

@@ -2,20 +2,21 @@
 use Rattle.std.proofs.Common.{◌≡◌, ℕ, true, false, not, ◌<◌, List, [], ◌∷◌, ◌++◌, nat_lt, refl, ◌∙◌, append-nil, append_assoc, map, arith, lt-ltb}
 use Rattle.std.proofs.lemmas.Bool.{false≢true, and_parts, not-true, ltb-true}
 use Rattle.type_table.specs.Table.{Table}
+use Rattle.type_table.proofs.Elements.{each-weaker, each-append, each-passes, eqb-sym}
 use Rattle.object_trait.specs.Object.{Object}
 use Rattle.object_trait.specs.declared.event.Event.{Event}
 use Rattle.object_trait.specs.declared.event.EventKind.{EventKind}
 use Rattle.object_trait.specs.declared.event.EventKind.TheVariants as kind
 use Rattle.object_trait.specs.declared.event.EventKind.TheVariants.{Begin, Op, Busy, Commit, Abort, Rollback}
+use Rattle.object_trait.proofs.Striking.{each-keep_first}
 use Rattle.serial_order.specs.Operations.{is_among, is_by}
 use Rattle.serial_order.specs.History.{seen, Seen, is_open, MayStand}
 use Rattle.serial_order.specs.Machine.{MayFollow, RunsOn, IsRun}
 use Rattle.serial_order.specs.After.{AreInRun}
 use Rattle.serial_order.proofs.Strikes.{keep_first-none}
-use Rattle.serial_order.proofs.Pairs.{each-weaker, each-append, each-passes, each-keep_first}
 use Rattle.serial_order.proofs.Events.{seen_after, seen-snoc}
 use Rattle.serial_order.proofs.MayStand.{may_stand}
-use Rattle.serial_order.proofs.Lists.{eqb-sym, is_among-apart, is_among-none_more, is_among-one_more}
+use Rattle.serial_order.proofs.Lists.{is_among-apart, is_among-none_more, is_among-one_more}
 
 -- ---- from event to event
 

@@ -1,9 +1,9 @@
 -- Exchanges of neighbours, in lists that grow at either end, are struck, or are of two parts.
 use Rattle.std.proofs.Common.{◌≡◌, ℕ, zero, suc, Bool, true, false, not, List, [], ◌∷◌, ◌++◌, filter, inl, inr}
 use Rattle.std.proofs.lemmas.Bool.{cases_Bool}
+use Rattle.type_table.proofs.Elements.{each-weaker, each-passes}
 use Rattle.object_trait.specs.Orders.{Pairs, Sorts, same, swap, under, chain, Parts, none, stay, goes}
 use Rattle.object_trait.specs.Strike.{keep_first}
-use Rattle.serial_order.proofs.Pairs.{each-weaker, each-passes}
 
 -- ---- longer lists
 

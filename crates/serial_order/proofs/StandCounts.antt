@@ -1,11 +1,11 @@
 -- Objects that represent a history: how long their logs are, and which entries are open.
-use Rattle.std.proofs.Common.{◌≡◌, ℕ, suc, ◌+◌, ◌-◌, ◌<◌, ◌≤◌, ◌==◌, Bool, true, false, not, List, [], ◌∷◌, map, filter, length, fold, refl, sym, ap, ◌∙◌, inl, inr, length-append, arith}
+use Rattle.std.proofs.Common.{◌≡◌, ℕ, suc, ◌+◌, ◌-◌, ◌<◌, ◌≤◌, ◌==◌, Bool, true, false, not, List, [], ◌∷◌, map, length, fold, refl, sym, ap, ◌∙◌, inl, inr, length-append, arith}
 use Rattle.std.specs.List.{AllByRecursion}
 use Rattle.std.proofs.lemmas.Bool.{cases_Bool, false≢true}
 use Rattle.std.proofs.lemmas.List.{length-map}
-use Rattle.std.proofs.lemmas.List.Sums.{count_by-le-length, length-filter}
 use Rattle.type_table.specs.declared.kind.Kind.{Kind}
 use Rattle.type_table.specs.declared.kind.Kind.TheVariants.{Undo, Intentions}
+use Rattle.type_table.proofs.Elements.{each-weaker, each-both, each-filter, filter-none, filter-length}
 use Rattle.object_trait.specs.Object.{Object}
 use Rattle.object_trait.specs.Strike.{keep_first}
 use Rattle.object_trait.specs.Meaning.{object, open_of}
@@ -15,15 +15,14 @@ use Rattle.object_trait.specs.declared.event.EventKind.{EventKind}
 use Rattle.object_trait.specs.declared.event.EventKind.TheVariants as kind
 use Rattle.object_trait.specs.declared.event.EventKind.TheVariants.{Begin, Op, Busy, Commit, Abort, Rollback}
 use Rattle.object_trait.specs.declared.log_entry.LogEntry.{LogEntry}
+use Rattle.object_trait.proofs.Striking.{keep_first-next}
 use Rattle.serial_order.specs.Operations.{is_among, ops, is_by, of}
 use Rattle.serial_order.specs.History.{Seen, seen, is_open, commits, stand_after, standing}
 use Rattle.serial_order.specs.Serial.{standing_at}
 use Rattle.serial_order.specs.Stand.{plain, StandsBy}
 use Rattle.serial_order.specs.After.{LogsAreCounted, IdleIsClosed}
 use Rattle.serial_order.specs.declared.entry.Entry.{Entry}
-use Rattle.serial_order.proofs.Strikes.{keep_first-next}
-use Rattle.serial_order.proofs.Pairs.{each-weaker, each-both, each-rest, each-from_map, each-filter}
-use Rattle.serial_order.proofs.Lists.{filter-none}
+use Rattle.serial_order.proofs.Pairs.{each-rest, each-from_map}
 use Rattle.serial_order.proofs.Runs.{transactions_in_run, pending_is_open, open_is_uncommitted}
 use Rattle.serial_order.proofs.StandLogs.{ops-plain}
 use Rattle.serial_order.proofs.StandUndo.{undo_of}
@@ -38,10 +37,6 @@ keep_first-length mine n (x ∷ V) =
     keep_first-next (λ W. length W ≤ suc (length V)) mine n x V
     (λ m. let rest = keep_first-length mine m V in omega (arith, rest))
     (λ m. let rest = keep_first-length mine m V in omega (arith, rest))
-
--- nor does a filter
-pub filter-length : {E : Type 0} (test : E → Bool) (V : List E) → length (filter test V) ≤ length V
-filter-length test V = let counted = count_by-le-length test V in omega (arith, length-filter test V, counted)
 
 -- an event adds one operation at most
 pub after-length : (V : List Entry) (happened : EventKind) → length (stand_after V happened) ≤ length V + 1

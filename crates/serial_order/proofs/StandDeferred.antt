@@ -4,15 +4,16 @@ use Rattle.std.specs.List.{AllByRecursion}
 use Rattle.std.proofs.lemmas.List.{map-append, length-map}
 use Rattle.type_table.specs.Run.{run, AreEqui}
 use Rattle.type_table.specs.Laws.{RunsAlong}
+use Rattle.type_table.proofs.Elements.{each-weaker, each-append, each-filter}
 use Rattle.object_trait.specs.Object.{Object}
 use Rattle.object_trait.specs.Strike.{keep_first}
 use Rattle.object_trait.specs.Meaning.{is_open_of, open_of, ops_of, run_log}
 use Rattle.object_trait.specs.Steps.{IsIntentionsCommit}
 use Rattle.object_trait.specs.declared.log_entry.LogEntry.{LogEntry}
+use Rattle.object_trait.proofs.Striking.{each-keep_first}
 use Rattle.serial_order.specs.Operations.{is_among, is_by, ops, of, serial}
 use Rattle.serial_order.specs.Stand.{plain, StandsIntentions}
 use Rattle.serial_order.specs.declared.entry.Entry.{Entry}
-use Rattle.serial_order.proofs.Pairs.{each-weaker, each-append, each-filter, each-keep_first}
 use Rattle.serial_order.proofs.Lists.{serial-snoc, pending-snoc, serial-apart, pending-more, of-pending, serial-strike, pending-strike}
 use Rattle.serial_order.proofs.Legal.{run-append, run-equi}
 use Rattle.serial_order.proofs.StandLogs.{ops-plain, filter-plain, strike-plain, open-plain}

@@ -5,17 +5,19 @@ use Rattle.std.proofs.lemmas.List.{append_assoc, map-append, length-map}
 use Rattle.std.proofs.lemmas.List.Elements.{filter-append}
 use Rattle.type_table.specs.Run.{run}
 use Rattle.type_table.specs.Laws.{RunsAlong}
+use Rattle.type_table.proofs.Elements.{each-weaker, each-both, each-append, each-map, filter-none, eqb-sym}
 use Rattle.object_trait.specs.Object.{Object}
 use Rattle.object_trait.specs.Strike.{keep_first}
 use Rattle.object_trait.specs.Meaning.{is_open_of, open_of, run_log}
 use Rattle.object_trait.specs.Steps.{IsSettled, marked}
 use Rattle.object_trait.specs.declared.log_entry.LogEntry.{LogEntry}
+use Rattle.object_trait.proofs.Striking.{each-keep_first}
 use Rattle.serial_order.specs.Operations.{is_among, is_by, ops, of}
 use Rattle.serial_order.specs.Stand.{plain, StandsUndo}
 use Rattle.serial_order.specs.declared.entry.Entry.{Entry}
 use Rattle.serial_order.proofs.Strikes.{keep_first-behind}
-use Rattle.serial_order.proofs.Pairs.{each-weaker, each-both, each-append, each-front, each-rest, each-map, each-keep_first}
-use Rattle.serial_order.proofs.Lists.{eqb-sym, is_one-outside, is_among-apart, is_among-snoc, filter-none}
+use Rattle.serial_order.proofs.Pairs.{each-front, each-rest}
+use Rattle.serial_order.proofs.Lists.{is_one-outside, is_among-apart, is_among-snoc}
 use Rattle.serial_order.proofs.Legal.{run-append}
 use Rattle.serial_order.proofs.StandLogs.{ops-plain, filter-plain, strike-plain, open-plain}
 

@@ -6,6 +6,7 @@ use Rattle.std.proofs.lemmas.List.Elements.{filter-append}
 use Rattle.type_table.specs.Laws.{RunsAlong}
 use Rattle.type_table.specs.declared.kind.Kind.{Kind}
 use Rattle.type_table.specs.declared.kind.Kind.TheVariants.{Undo, Intentions}
+use Rattle.type_table.proofs.Elements.{filter-turned}
 use Rattle.table_checker.specs.Checked.{Checked}
 use Rattle.object_trait.specs.Object.{Object, object_of}
 use Rattle.object_trait.specs.Strike.{keep_first}
@@ -22,7 +23,6 @@ use Rattle.serial_order.specs.Stand.{StandsBy, struck_at, Changes}
 use Rattle.serial_order.specs.Laws.{FreshStands, StandsOn}
 use Rattle.serial_order.specs.declared.entry.Entry.{Entry}
 use Rattle.serial_order.proofs.Strikes.{keep_first-part}
-use Rattle.serial_order.proofs.Lists.{filter-turned}
 use Rattle.serial_order.proofs.Events.{seen-snoc}
 use Rattle.serial_order.proofs.Runs.{open_is_uncommitted}
 use Rattle.serial_order.proofs.StandUndo.{undo_stands-settled, undo_stands-op, undo_stands-commit, undo_stands-strike, undo_stands-count}

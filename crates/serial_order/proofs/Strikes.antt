@@ -4,16 +4,6 @@ use Rattle.std.specs.List.{AllByRecursion}
 use Rattle.std.proofs.lemmas.Bool.{cases_Bool}
 use Rattle.object_trait.specs.Strike.{keep_first}
 
--- what is so of whatever is kept of the rest, without the first element and with it, is so of what is kept
-pub keep_first-next : {E : Type 0} (Q : List E → Type 0) (mine : E → Bool) (n : ℕ) (x : E) (V : List E) →
-    ((m : ℕ) → Q (keep_first mine m V)) → ((m : ℕ) → Q (x ∷ keep_first mine m V)) → Q (keep_first mine n (x ∷ V))
-keep_first-next Q mine n x V without with_it = by_test (mine x) n
-  where
-    by_test : (b : Bool) (k : ℕ) → Q (cond b (elim k [ zero ↦ keep_first mine zero V | suc m ↦ x ∷ keep_first mine m V ]) (x ∷ keep_first mine k V))
-    by_test false k = with_it k
-    by_test true zero = without zero
-    by_test true (suc m) = with_it m
-
 -- a strike leaves a front that has none of mine
 pub keep_first-behind : {E : Type 0} (mine : E → Bool) (n : ℕ) (V W : List E) → AllByRecursion (λ x. mine x ≡ false) V → keep_first mine n (V ++ W) ≡ V ++ keep_first mine n W
 keep_first-behind mine n [] W p = refl

@@ -6,18 +6,21 @@ use Rattle.std.proofs.lemmas.List.{append_assoc}
 use Rattle.type_table.specs.Commute.{Covers, CommutesBackward}
 use Rattle.type_table.specs.Laws.{RunsAlong}
 use Rattle.type_table.specs.declared.kind.Kind.TheVariants.{Undo}
+use Rattle.type_table.proofs.Elements.{each-append, each-passes, eqb-sym}
+use Rattle.type_table.proofs.Legal.{legal-front}
 use Rattle.object_trait.specs.Object.{Object, IsCovered}
 use Rattle.object_trait.specs.Orders.{Pairs, Sorts, chain}
 use Rattle.object_trait.specs.Strike.{keep_first}
 use Rattle.object_trait.specs.Laws.{PartsSort, StruckPart, SortsLook}
+use Rattle.object_trait.proofs.Lists.{pairs-weaker, pairs-push}
+use Rattle.object_trait.proofs.Striking.{pairs-keep_first}
 use Rattle.serial_order.specs.Operations.{is_among, is_by, ops, of, serial, pending}
 use Rattle.serial_order.specs.Laws.{may_pass}
 use Rattle.serial_order.specs.declared.entry.Entry.{Entry}
 use Rattle.serial_order.proofs.Strikes.{keep_first-behind}
-use Rattle.serial_order.proofs.Lists.{eqb-sym, is_one-apart, ops-append, serial-snoc, pending-snoc, serial-apart, pending-more, of-pending, serial-strike, pending-strike}
-use Rattle.serial_order.proofs.Legal.{legal-front}
+use Rattle.serial_order.proofs.Lists.{is_one-apart, ops-append, serial-snoc, pending-snoc, serial-apart, pending-more, of-pending, serial-strike, pending-strike}
 use Rattle.serial_order.proofs.Facts.{IsHeldFree, IsLegalAt, held_free-commit, UndoOp, UndoStrike, UndoCommit}
-use Rattle.serial_order.proofs.Pairs.{each-all, each-append, each-passes, pairs-weaker, pairs-push, pairs-passes, pairs-keep_first}
+use Rattle.serial_order.proofs.Pairs.{each-all, pairs-passes}
 use Rattle.serial_order.proofs.Sorts.{sorts-append, sorts-behind, sorts-keep_first, parts-mine}
 
 -- ---- objects of update in place

@@ -6,6 +6,7 @@ use Rattle.type_table.specs.Laws.{RunsAlong, EndsInside, LegalEnds}
 use Rattle.type_table.specs.declared.kind.Kind.{Kind}
 use Rattle.type_table.specs.declared.kind.Kind.TheVariants.{Undo, Intentions}
 use Rattle.type_table.specs.Lists.{ListsForward}
+use Rattle.type_table.proofs.Elements.{eqb-sym}
 use Rattle.object_trait.specs.Object.{Object}
 use Rattle.object_trait.specs.Laws.{PartsSort, StruckPart, SortsLook}
 use Rattle.object_trait.specs.declared.event.Event.{Event}
@@ -18,7 +19,7 @@ use Rattle.serial_order.specs.Serial.{standing_at}
 use Rattle.serial_order.specs.Laws.{ViewsAreLegal, CommitKeepsViews}
 use Rattle.serial_order.specs.declared.entry.Entry.{Entry}
 use Rattle.serial_order.proofs.Facts.{DeferredFacts, IsLegalAt}
-use Rattle.serial_order.proofs.Lists.{eqb-sym, is_among-snoc}
+use Rattle.serial_order.proofs.Lists.{is_among-snoc}
 use Rattle.serial_order.proofs.Events.{seen_after, seen-snoc}
 use Rattle.serial_order.proofs.Runs.{open_is_uncommitted}
 use Rattle.serial_order.proofs.Histories.{run_goes_on}

@@ -1,6 +1,7 @@
 -- What becomes of a list of commands: which are refused, and which events come of the others.
 use Rattle.std.specs.Prelude.{ℕ, suc, ◌+◌, List, [], ◌∷◌, ◌++◌, length, filter, Bool, not, ◌||◌, ◌==◌, nat_lt, nat_le, Option, Some, None, is_some, slice_get, if◌then◌else◌}
 use Rattle.std.specs.List.{range_with_len}
+use Rattle.type_table.specs.Limits.{most_open}
 use Rattle.type_table.specs.Table.{first_op}
 use Rattle.object_trait.specs.Object.{Object}
 use Rattle.object_trait.specs.declared.event.Event.{Event}
@@ -17,10 +18,6 @@ use Rattle.serial_order.specs.declared.refusal.Refusal.TheVariants.{NotOpen, NoO
 -- the number of open transactions
 abbrev pub open_count : Seen → ℕ
 open_count s = length (filter (is_open s) (range_with_len 0 s.begun))
-
--- the most transactions that are open at once
-abbrev pub most_open : ℕ
-most_open = 1024
 
 -- a history has no room for so many further events and the end of each open transaction
 abbrev pub is_full : ℕ → List Event → ℕ → Bool

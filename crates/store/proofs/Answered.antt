@@ -3,7 +3,7 @@ use Rattle.std.proofs.Common.{◌≡◌, ℕ, ◌+◌, ◌<◌, ◌≤◌, Bool,
 use Rattle.std.specs.Option.{option_map}
 use Rattle.std.proofs.lemmas.Bool.Decides.{nat_tests}
 use Rattle.std.proofs.lemmas.List.{length-map}
-use Rattle.std.proofs.lemmas.Option.{slice_get-map, slice_get_within}
+use Rattle.std.proofs.lemmas.Option.{slice_get_within}
 use Rattle.type_table.specs.Table.{call_of}
 use Rattle.object_trait.specs.Object.{Object, object_of}
 use Rattle.object_trait.specs.Meaning.{Meaning, object}
@@ -33,6 +33,7 @@ use Rattle.store_laws.specs.Moves.{Moves, StaysKept}
 use Rattle.store_laws.specs.Before.{RowsSayWhoIsOpen, RowsAreCounted}
 use Rattle.store_laws.specs.Words.{as_event, AnswersAsDefined}
 use Rattle.store_laws.specs.Events.{takes, QuietMoves, OpMoves, TypesStay, RoomAfter}
+use Rattle.store_laws.proofs.Objects.{object-at}
 use Rattle.store.specs.Calls.{Comes}
 use Rattle.store.specs.Executed.{IsExecuted}
 use Rattle.store.specs.Whole.{IsWhole}
@@ -42,12 +43,6 @@ use Rattle.store.proofs.Opens.{some-of, open-alike, lists-alike}
 use Rattle.store.proofs.Executed.{seen-at}
 
 -- ---- the call
-
--- the object of a meaning
-pub object-at : (ms : List Meaning) (x : ℕ) (m : Meaning) → slice_get ms x ≡ Some m → slice_get (objects_of ms) x ≡ Some (object m)
-object-at ms x m there =
-    slice_get-map object_of (types_of ms) x
-    ∙ ap (option_map object_of) (slice_get-map (λ (n : Meaning). n.checked) ms x ∙ ap (option_map (λ (n : Meaning). n.checked)) there)
 
 -- at one place there is one thing
 pub one-at : {A : Type 0} (xs : List A) (x : ℕ) (a b : A) → slice_get xs x ≡ Some a → slice_get xs x ≡ Some b → a ≡ b

@@ -1,9 +1,9 @@
 -- The beginning of a store.
-use Rattle.std.proofs.Common.{◌≡◌, ℕ, zero, suc, ◌+◌, ◌<◌, ◌≤◌, ◌⊎◌, Bool, true, false, List, [], ◌∷◌, ◌++◌, map, length, get_or, Option, Some, None, slice_get, All, refl, sym, ap, subst, ◌∙◌, inl, inr, arith}
+use Rattle.std.proofs.Common.{◌≡◌, ℕ, ◌+◌, ◌<◌, ◌≤◌, Bool, true, false, List, [], ◌∷◌, ◌++◌, map, length, get_or, Option, Some, slice_get, All, refl, sym, ap, subst, ◌∙◌, inl, inr, arith}
 use Rattle.std.specs.Option.{option_map}
-use Rattle.std.proofs.lemmas.Bool.{cases_lt}
 use Rattle.std.proofs.lemmas.List.{length-map, length-append}
-use Rattle.std.proofs.lemmas.Option.{none-some, same_Some, slice_get-map, slice_get_within, slice_get_read, get_or_from_slice_get}
+use Rattle.std.proofs.lemmas.Option.{same_Some, slice_get-map, slice_get_within, slice_get_read, get_or_from_slice_get}
+use Rattle.type_table.proofs.Elements.{cases-more, found-map, FirstAre, first-more}
 use Rattle.table_checker.specs.Checked.{Checked, IsChecked}
 use Rattle.object_trait.specs.Meaning.{Meaning}
 use Rattle.object_trait.specs.declared.event.Event.{Event}
@@ -20,46 +20,12 @@ use Rattle.store.specs.Whole.{HasCalls, IsWhole}
 
 -- ---- elements by their places
 
--- what a function makes of something is made of what is there
-made-of : {A B : Type 0} (f : A → B) (found : Option A) (b : B) → option_map f found ≡ Some b → (a : A) × (found ≡ Some a) × (f a ≡ b)
-made-of f None b is = absurd (none-some b is)
-made-of f (Some a) b is = (a, refl, same_Some (f a) b is)
-
--- and so at each place of a list
-pub image-of : {A B : Type 0} (f : A → B) (xs : List A) (x : ℕ) (b : B) → slice_get (map f xs) x ≡ Some b → (a : A) × (slice_get xs x ≡ Some a) × (f a ≡ b)
-image-of f xs x b there = made-of f (slice_get xs x) b (sym (slice_get-map f xs x) ∙ there)
-
 -- what is read at a place is there in the image
 pub image-in : {A B : Type 0} (f : A → B) (xs ys : List A) (i : ℕ) (a : A) → ys ≡ xs → i < length ys → a ≡ get_or ys i a → slice_get (map f xs) i ≡ Some (f a)
 image-in f xs ys i a same inside is =
     slice_get-map f xs i ∙ ap (option_map f) (subst (λ zs. slice_get zs i ≡ Some a) same (slice_get_read ys (length ys) i a refl inside is))
 
--- what is in a list with one more is in the list, or is the last
-pushed-at : {A : Type 0} (xs : List A) (y : A) (x : ℕ) (z : A) → slice_get (xs ++ y ∷ []) x ≡ Some z → (slice_get xs x ≡ Some z) ⊎ ((x ≡ length xs) × (y ≡ z))
-pushed-at [] y zero z is = inr (refl, same_Some y z is)
-pushed-at [] y (suc x) z is = absurd (none-some z is)
-pushed-at (a ∷ xs) y zero z is = inl is
-pushed-at (a ∷ xs) y (suc x) z is =
-    elim (pushed-at xs y x z is) [
-      | inl before ↦ inl before
-      | inr last ↦ inr (ap suc last.0, last.1)
-    ]
-
 -- ---- what holds of the first of a list
-
--- each of the first i is so
-abbrev pub FirstAre : {A : Type 0} → (A → Type 0) → List A → ℕ → Type 0
-FirstAre {A} P xs i = (x : ℕ) (a : A) → x < i → slice_get xs x ≡ Some a → P a
-
--- one more is
-pub first-more : {A : Type 0} (P : A → Type 0) (xs : List A) (i : ℕ) (a : A) → FirstAre P xs i → slice_get xs i ≡ Some a → P a → FirstAre P xs (i + 1)
-first-more P xs i a before is holds x b low there =
-    elim (cases_lt x i) [
-      | inl below ↦ before x b below there
-      | inr past ↦
-          let same : x ≡ i = omega (arith, low, past) in
-          subst P (same_Some a b (sym is ∙ subst (λ y. slice_get xs y ≡ Some b) same there)) holds
-    ]
 
 -- where there are no others, each is so
 pub first-all : {A : Type 0} (P : A → Type 0) (xs : List A) (i : ℕ) → FirstAre P xs i → length xs ≤ i → (x : ℕ) (a : A) → slice_get xs x ≡ Some a → P a
@@ -88,7 +54,7 @@ calls-more ms calls more its capacity i m first is checked table pushed =
       room = first.room;
       checked = first-more (λ m. IsChecked m.checked) ms i m first.checked is checked;
       each = λ x n those there here.
-          elim (pushed-at calls its x those (ap (λ cs. slice_get cs x) (sym pushed) ∙ here)) [
+          elim (cases-more calls its x those (ap (λ cs. slice_get cs x) (sym pushed) ∙ here)) [
             | inl before ↦ first.each x n those there before
             | inr last ↦
                 let same : x ≡ i = last.0 ∙ first.as_many in
@@ -104,14 +70,14 @@ module _ (ms : List Meaning) (calls : List (List NamedCall)) (capacity i : ℕ) 
       record {
         as_many = first.as_many ∙ all ∙ sym (length-map ms (λ (m : Meaning). m.checked));
         each = λ x c its there here.
-            let found = image-of (λ (m : Meaning). m.checked) ms x c there in
+            let found = found-map (λ (m : Meaning). m.checked) ms x c there in
             subst (λ (k : Checked). IsCallTable k.file.table its) found.2 (first.each x found.0 its found.1 here);
       }
 
   -- and each type was accepted
   pub calls-checked : AreChecked (types_of ms)
   calls-checked x c there =
-      let found = image-of (λ (m : Meaning). m.checked) ms x c there in
+      let found = found-map (λ (m : Meaning). m.checked) ms x c there in
       let holds = first-all (λ m. IsChecked m.checked) ms i first.checked (omega (arith, all)) x found.0 found.1 in
       subst IsChecked found.2 holds
 
@@ -128,7 +94,7 @@ new-whole is_kept ms calls locks rows H capacity max may checked known as_many e
       fresh = may.fresh;
       lists = length-map locks (λ (l : Locks). l.held) ∙ as_many;
       held = λ x held there.
-          let found = image-of (λ (l : Locks). l.held) locks x held there in
+          let found = found-map (λ (l : Locks). l.held) locks x held there in
           let inside = slice_get_within locks x found.0 found.1 in
           sym found.2 ∙ ap (λ (l : Locks). l.held) (sym (get_or_from_slice_get locks x found.0 found.0 found.1)) ∙ empty x found.0 inside;
       rows = none;

@@ -1,12 +1,11 @@
 -- The end of a store: the aborts of its open transactions, and what they leave.
-use Rattle.std.proofs.Common.{◌≡◌, ℕ, zero, suc, ◌+◌, ◌<◌, ◌≤◌, ◌==◌, true, false, not, ◌&&◌, List, [], ◌∷◌, ◌++◌, map, filter, cond, length, Option, Some, None, is_some, slice_get, slice_index_or, refl, sym, ap, subst, ◌∙◌, inl, inr, append-nil, append_assoc, zero-add, add-one, arith}
-use Rattle.std.specs.Prelude.{if◌then◌else◌}
+use Rattle.std.proofs.Common.{◌≡◌, ℕ, zero, suc, ◌+◌, ◌<◌, ◌≤◌, ◌==◌, true, false, not, ◌&&◌, List, [], ◌∷◌, ◌++◌, map, filter, cond, if◌then◌else◌, length, Option, Some, None, is_some, slice_get, slice_index_or, refl, sym, ap, subst, ◌∙◌, inl, inr, append-nil, append_assoc, add-one, arith}
 use Rattle.std.specs.List.{range_with_len}
 use Rattle.std.proofs.lemmas.Bool.{cases_Bool, cases_eq, cases_lt, eq-eqb, ne_eqb, le-ltb, and_left, and_right, not_from_true}
-use Rattle.std.proofs.lemmas.List.{map-id, map-append, get_or_past}
+use Rattle.std.proofs.lemmas.List.{map-append, get_or_past}
 use Rattle.std.proofs.lemmas.List.Elements.{filter-append, recursion_from_All}
-use Rattle.std.proofs.lemmas.List.FromFn.{map-range_with_len_more}
 use Rattle.std.proofs.lemmas.Option.{none-some, get_or_from_slice_get, slice_get-get_or}
+use Rattle.type_table.proofs.Elements.{range-more}
 use Rattle.object_trait.specs.Object.{Object}
 use Rattle.object_trait.specs.Meaning.{Meaning}
 use Rattle.object_trait.specs.declared.event.Event.{Event}
@@ -81,11 +80,6 @@ closing_below H n = map (closing_abort H) (filter (is_open (seen H)) (range_with
 -- a store with the aborts of those below n
 abbrev pub closed_below : Stored → ℕ → Stored
 closed_below s n = record s { history = s.history ++ closing_below s.history n }
-
--- one more number
-range-more : (n : ℕ) → range_with_len 0 (n + 1) ≡ range_with_len 0 n ++ n ∷ []
-range-more n =
-    sym (map-id (range_with_len 0 (n + 1))) ∙ map-range_with_len_more (λ x. x) 0 n n (zero-add n) ∙ ap (λ l. l ++ n ∷ []) (map-id (range_with_len 0 n))
 
 -- the next transaction is aborted too, where it is open
 closing-more : (H : List Event) (n : ℕ) → closing_below H (n + 1) ≡ closing_below H n ++ map (closing_abort H) (filter (is_open (seen H)) (n ∷ []))

@@ -1,5 +1,5 @@
 -- What a history and the kept states of a store owe the serial order.
-use Rattle.std.proofs.Common.{◌≡◌, ℕ, List, [], ◌∷◌, map, Option, Some, slice_get, refl, sym, ap, subst, ◌∙◌}
+use Rattle.std.proofs.Common.{◌≡◌, ℕ, ◌<◌, List, map, Option, Some, slice_get, sym, ap, subst, ◌∙◌}
 use Rattle.std.specs.Option.{option_map}
 use Rattle.std.proofs.lemmas.List.{map-append}
 use Rattle.std.proofs.lemmas.Option.{slice_get-map}
@@ -7,9 +7,10 @@ use Rattle.type_table.specs.Run.{run}
 use Rattle.type_table.specs.Laws.{RunsAlong}
 use Rattle.type_table.specs.declared.kind.Kind.{Kind}
 use Rattle.type_table.specs.declared.kind.Kind.TheVariants.{Undo, Intentions}
+use Rattle.type_table.proofs.Elements.{found-map}
 use Rattle.table_checker.specs.Checked.{IsChecked}
 use Rattle.object_trait.specs.Object.{Object, object_of}
-use Rattle.object_trait.specs.Meaning.{Meaning, object, ops_of, run_log, state_by, state_of}
+use Rattle.object_trait.specs.Meaning.{Meaning, object, run_log, state_by, state_of}
 use Rattle.object_trait.specs.declared.event.Event.{Event}
 use Rattle.object_trait.specs.declared.log_entry.LogEntry.{LogEntry}
 use Rattle.serial_order.specs.Operations.{ops}
@@ -18,20 +19,15 @@ use Rattle.serial_order.specs.Serial.{IsSerial, standing_at}
 use Rattle.serial_order.specs.Stand.{plain, StandsUndo, StandsBy, KeptAgreesBy}
 use Rattle.serial_order.specs.Laws.{AreChecked, IsSerialAndKept, CheckedHeadline}
 use Rattle.serial_order.specs.declared.entry.Entry.{Entry}
+use Rattle.serial_order.proofs.StandLogs.{ops-plain}
 use Rattle.op_locks.specs.Locks.{Locks}
 use Rattle.open_transactions.specs.Transactions.{Row}
 use Rattle.store_laws.specs.Stored.{Stored, objects, types_of}
 use Rattle.store_laws.specs.Kept.{keeping, objects_of, IsKept}
 use Rattle.store.specs.KeptState.{IsKeptState}
-use Rattle.store.proofs.Beginnings.{image-of}
 use Rattle.store.proofs.Stored.{shown}
 
 -- ---- update in place
-
--- the entries of a log are of its operations
-ops-plain : (x : ℕ) (log : List LogEntry) → ops (map (plain x) log) ≡ ops_of log
-ops-plain x [] = refl
-ops-plain x (e ∷ log) = ap (λ ks. e.op ∷ ks) (ops-plain x log)
 
 -- all that lives leads to the state after the log
 stands-run : RunsAlong → (o : Object) (base : ℕ) (log : List LogEntry) (x : ℕ) (C : List ℕ) (V : List Entry) → StandsUndo o base log x C V
@@ -56,7 +52,7 @@ module _ (headline : CheckedHeadline) (ms : List Meaning) (locks : List Locks) (
   -- the checker said yes for each of its types
   accepted : AreChecked (types_of ms)
   accepted x c there =
-      let found = image-of (λ (m : Meaning). m.checked) ms x c there in
+      let found = found-map (λ (m : Meaning). m.checked) ms x c there in
       subst IsChecked found.2 (kept.objects x found.0 found.1).checked
 
   -- so the headline holds of it
@@ -74,8 +70,8 @@ module _ (headline : CheckedHeadline) (ms : List Meaning) (locks : List Locks) (
       ∙ ap (option_map object_of) (slice_get-map (λ (n : Meaning). n.checked) ms x ∙ ap (option_map (λ (n : Meaning). n.checked)) there)
 
   -- and its state
-  pub kept-shown : RunsAlong → (x state : ℕ) (m : Meaning) → slice_get ms x ≡ Some m → state_of m ≡ Some state → IsKeptState s x state
-  kept-shown along x state m there is =
+  pub kept-shown : RunsAlong → (x state : ℕ) (m : Meaning) → slice_get ms x ≡ Some m → state_of m ≡ Some state → state < 65536 → IsKeptState s x state
+  kept-shown along x state m there is short =
       let represents = (kept.objects x m there).represents in
       subst (λ (z : Stored). IsKeptState z x state) same
       (record {
@@ -83,4 +79,5 @@ module _ (headline : CheckedHeadline) (ms : List Meaning) (locks : List Locks) (
         there = object-at x m there;
         in_place = in-place along m.checked.kind (object m) m.base m.log x (commits H) (standing_at x H) state represents is;
         agrees = subst (λ state. KeptAgreesBy m.checked.kind (object m) state x H) is (owed.kept x m (object-at x m there) represents);
+        short = short;
       })

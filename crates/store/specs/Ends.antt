@@ -1,6 +1,7 @@
 -- The beginning and the end of a store.
-use Rattle.std.specs.Prelude.{◌≡◌, ℕ, ◌<◌, List, [], length, map, filter, ◌≤◌, Bool, true, false, ◌&&◌, nat_lt, Some, slice_get, slice_index_or}
+use Rattle.std.specs.Prelude.{◌≡◌, ℕ, ◌<◌, List, [], length, map, filter, ◌≤◌, Bool, true, false, ◌&&◌, nat_le, nat_lt, Some, slice_get, slice_index_or}
 use Rattle.std.specs.List.{range_with_len}
+use Rattle.type_table.specs.Limits.{most_events, most_objects}
 use Rattle.object_trait.specs.Meaning.{Meaning}
 use Rattle.object_trait.specs.Steps.{IsFresh, open_transactions}
 use Rattle.object_trait.specs.declared.event.Event.{Event}
@@ -19,20 +20,20 @@ AreFresh ms = (x : ℕ) (m : Meaning) → slice_get ms x ≡ Some m → IsFresh 
 
 -- a limit that a history may have
 abbrev pub is_limit : ℕ → Bool
-is_limit max = nat_lt 1 max && nat_lt max 1000001
+is_limit max = nat_lt 1 max && nat_le max most_events
 
 -- why no store is made of these objects, memory aside: the first reason that holds
 abbrev pub Refuses : List Meaning → ℕ → NewRefusal → Type 0
 Refuses ms max NoObjects = length ms ≡ 0
-Refuses ms max TooManyObjects = 256 < length ms
-Refuses ms max NotFresh = (0 < length ms) × (length ms ≤ 256) × (AreFresh ms → ⊥)
-Refuses ms max BadMax = (0 < length ms) × (length ms ≤ 256) × AreFresh ms × (is_limit max ≡ false)
-Refuses ms max NoMemory = (0 < length ms) × (length ms ≤ 256) × AreFresh ms × (is_limit max ≡ true)
+Refuses ms max TooManyObjects = most_objects < length ms
+Refuses ms max NotFresh = (0 < length ms) × (length ms ≤ most_objects) × (AreFresh ms → ⊥)
+Refuses ms max BadMax = (0 < length ms) × (length ms ≤ most_objects) × AreFresh ms × (is_limit max ≡ false)
+Refuses ms max NoMemory = (0 < length ms) × (length ms ≤ most_objects) × AreFresh ms × (is_limit max ≡ true)
 
 -- what a store may be made of
 pub record MayBegin (ms : List Meaning) (max : ℕ) : Type 0 where
   pub some : 0 < length ms
-  pub few : length ms ≤ 256
+  pub few : length ms ≤ most_objects
   pub fresh : AreFresh ms
   pub limit : is_limit max ≡ true
 

@@ -1,5 +1,6 @@
 -- What is true of the parts of a store at any time between two calls.
 use Rattle.std.specs.Prelude.{◌≡◌, ℕ, ◌≤◌, List, length, Option, Some, slice_get}
+use Rattle.type_table.specs.Limits.{most_objects}
 use Rattle.object_calls.specs.Calls.{IsCallTable}
 use Rattle.object_calls.specs.declared.call.NamedCall.{NamedCall}
 use Rattle.table_checker.specs.Checked.{Checked}
@@ -18,5 +19,5 @@ pub record HasCalls (types : List Checked) (calls : List (List NamedCall)) : Typ
 -- what is kept agrees with the history, there are at most 256 objects, and the calls are those of their types
 pub record IsWhole (ms : List Meaning) (calls : List (List NamedCall)) (locks : List Locks) (rows : List (Option Row)) (H : List Event) (capacity max : ℕ) : Type 0 where
   pub store : IsStore (keeping ms locks rows) H capacity max
-  pub few : length ms ≤ 256
+  pub few : length ms ≤ most_objects
   pub known : HasCalls (types_of ms) calls

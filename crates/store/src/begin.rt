@@ -10,9 +10,7 @@ use crate::store::Store;
 use object_trait::{Event, EventKind, Recovery};
 use serial_order::Refusal;
 use store_laws::{begin_moves, room_after, rows_are_counted, rows_are_few, stays_kept, types_stay};
-
-/// The most transactions that are open at once.
-const MOST_OPEN: u32 = 1024;
+use type_table::MOST_OPEN;
 
 impl<R: Recovery> Store<R> {
     /// Begins a transaction, as worker w. Its number is the number of transactions before it.

@@ -11,13 +11,10 @@ use object_calls::CallTable;
 use object_trait::Recovery;
 use op_locks::OpLocks;
 use std::alloc::{AllocError, Global};
+use type_table::{MOST_EVENTS, MOST_OBJECTS};
 
-/// The most objects of a store.
-const MOST_OBJECTS: usize = 256;
 /// The least limit of events: a begin and an end.
 const LEAST_EVENTS: u32 = 2;
-/// The greatest limit of events.
-const MOST_EVENTS: u32 = 1_000_000;
 
 /// The calls and the lock list of each object.
 #[derive(Drop)]

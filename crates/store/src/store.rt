@@ -1,6 +1,6 @@
 //! The store, and what is read of it.
 
-ghost use Rattle.std.specs.Prelude.{◌≡◌, [], map, length, nat_lt, is_some, IfOk, IfErr, IfSome};
+ghost use Rattle.std.specs.Prelude.{◌≡◌, ◌≤◌, [], map, length, nat_lt, is_some, IfOk, IfErr, IfSome};
 ghost use Rattle.serial_order.specs.History.{begins};
 ghost use Rattle.serial_order.specs.Machine.{IsRun};
 ghost use Rattle.serial_order.specs.Serial.{IsSerial};
@@ -90,6 +90,7 @@ impl<R: Recovery> Store<R> {
         ensures exact { result.now ≡ self.now.history }
         ensures run { IsRun (objects self.now) self.now.history }
         ensures serial { IsSerial (objects self.now) self.now.history }
+        ensures room { length self.now.history ≤ self.now.max }
     {
         checked_headline();
         &self.history

@@ -6,3 +6,6 @@ pub mod NewObjects
 pub mod Passed
 pub mod Runs
 pub mod Works
+pub mod Reading
+pub mod RunsRead
+pub mod WorksRead

@@ -4,15 +4,14 @@ use Rattle.std.specs.declared.sync.Arc.{Arc}
 use Rattle.type_table.specs.Table.{Table}
 use Rattle.table_checker.specs.Checked.{Checked}
 use Rattle.object_trait.specs.Object.{Object, object_of}
-use Rattle.serial_order.specs.Serial.{IsSerial}
-use Rattle.store_laws.specs.Stored.{Stored, objects}
+use Rattle.store_laws.specs.Stored.{Stored}
 use Rattle.history_audit.specs.Audit.{Audits}
 use Rattle.history_audit.specs.Laws.{Passes}
 use Rattle.history_audit.specs.declared.outcome.Audit.{Audit}
 use Rattle.history_audit.specs.declared.outcome.AuditFault.{AuditFault}
 use Rattle.history_audit.specs.declared.outcome.AuditFault.TheVariants.{BadEvent, IllegalOp, NoMemory}
 use Rattle.store_files.specs.Types.{value_of}
-use Rattle.store_commands.specs.Passing.{IsPassed, table_of, tables}
+use Rattle.store_commands.specs.Passing.{HasSerialRun, IsPassed, table_of, tables}
 
 -- the tables of objects are those of their types
 pub tables_of_objects : (types : List Checked) → map (λ (o : Object). o.table) (map object_of types) ≡ map (λ (c : Checked). c.file.table) types
@@ -25,8 +24,8 @@ tables_of_types [] = refl
 tables_of_types (c ∷ types) = ap (λ (ts : List Table). table_of c ∷ ts) (tables_of_types types)
 
 -- the audit of a serial history passes
-pub passed : (s : Stored) (outcome : Result Audit AuditFault) → Audits (tables s) s.history outcome → Passes outcome → IsSerial (objects s) s.history → IsPassed s outcome
-passed s (Ok a) audits passes serial = (audits, serial)
-passed s (Err NoMemory) audits passes serial = refl
-passed s (Err (BadEvent at)) audits passes serial = absurd passes
-passed s (Err (IllegalOp i x j)) audits passes serial = absurd passes
+pub passed : (s : Stored) (outcome : Result Audit AuditFault) → Audits (tables s) s.history outcome → Passes outcome → HasSerialRun s → IsPassed s outcome
+passed s (Ok a) audits passes history = (audits, history)
+passed s (Err NoMemory) audits passes history = refl
+passed s (Err (BadEvent at)) audits passes history = absurd passes
+passed s (Err (IllegalOp i x j)) audits passes history = absurd passes

@@ -55,7 +55,7 @@ module _ (script : Script) (types : List Checked) (old : Stored) (before mid aft
       → ComesOr (IsWholeRun script types) (BeginsRun script types) (RunsOf script types) ⊥ result before after
   run_audited (Ok Yes) told = (
     whole.text ++ audit_text (Ok told.0),
-    record { run = whole.text; left = left; ran = whole.ran; audit = told.0; audited = told.1.0; serial = told.1.1; is = refl },
+    record { run = whole.text; left = left; ran = whole.ran; audit = told.0; audited = told.1.0; history = told.1.1; is = refl },
     Appends-trans before mid after whole.text _ whole.bytes told.2,
   )
   run_audited (Ok No) told = absurd told

@@ -44,7 +44,7 @@ module _ (file : JobsFile) (types : List Checked) (tries : ℕ) (o : Opening) (l
           worked = subst (λ (f : Option WorkFault). Works (opening_of file types tries) f left reports) t.0 here;
           audit = t.1;
           audited = passed.0;
-          serial = passed.1;
+          history = passed.1;
           told = subst (λ (os : List ObjectLine). IsWholeTextOf os left (Ok t.1) reports t.3) lines_are t.4;
         },
         t.5,

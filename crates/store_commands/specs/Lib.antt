@@ -2,3 +2,4 @@ pub mod Audited
 pub mod Passing
 pub mod Runs
 pub mod Works
+pub mod Reading

@@ -1,9 +1,10 @@
 -- The audit of a store's history, which says yes.
-use Rattle.std.specs.Prelude.{◌≡◌, ◌++◌, ℕ, List, [], map, take, Option, Result, Ok, Err}
+use Rattle.std.specs.Prelude.{◌≡◌, ◌≤◌, ◌++◌, ℕ, List, [], length, map, take, Option, Result, Ok, Err}
 use Rattle.std.specs.declared.sync.Arc.{Arc}
 use Rattle.std.specs.Io.KnownBytes.{Appends}
 use Rattle.type_table.specs.Table.{Table}
 use Rattle.table_checker.specs.Checked.{Checked}
+use Rattle.serial_order.specs.Machine.{IsRun}
 use Rattle.serial_order.specs.Serial.{IsSerial}
 use Rattle.store_laws.specs.Stored.{Stored, objects}
 use Rattle.history_audit.specs.Audit.{Audits}
@@ -29,9 +30,15 @@ tables s = map (λ (c : Checked). c.file.table) s.types
 abbrev pub new_store : List Checked → ℕ → Stored
 new_store types max = record { types = types; history = []; max = max }
 
--- the audit of a store's history with the tables of its objects is a yes, and the history is serial; or memory was refused
+-- the history of a store is a run of the machine, serial, and within its limit
+pub record HasSerialRun (s : Stored) : Type 0 where
+  pub run : IsRun (objects s) s.history
+  pub serial : IsSerial (objects s) s.history
+  pub room : length s.history ≤ s.max
+
+-- the audit of a store's history with the tables of its objects is a yes, and the history is a serial run; or memory was refused
 abbrev pub IsPassed : Stored → Result Audit AuditFault → Type 0
-IsPassed s (Ok audit) = Audits (tables s) s.history (Ok audit) × IsSerial (objects s) s.history
+IsPassed s (Ok audit) = Audits (tables s) s.history (Ok audit) × HasSerialRun s
 IsPassed s (Err fault) = fault ≡ NoMemory
 
 -- the lines of the audit of a store were written: of a yes at an answer, which is yes; of none where memory was refused for the audit; or

@@ -2,8 +2,7 @@
 use Rattle.std.specs.Prelude.{◌≡◌, ◌⊎◌, ℕ, List, [], ◌++◌, Some, None, IfSome, Result, Ok, Err}
 use Rattle.outputs.specs.declared.out.OutFault.{OutFault}
 use Rattle.table_checker.specs.Checked.{Checked}
-use Rattle.serial_order.specs.Serial.{IsSerial}
-use Rattle.store_laws.specs.Stored.{Stored, objects}
+use Rattle.store_laws.specs.Stored.{Stored}
 use Rattle.store_text.specs.declared.line.ObjectLine.{ObjectLine}
 use Rattle.script_text.specs.Script.{IsFit}
 use Rattle.script_text.specs.declared.script.Script.{Script}
@@ -17,17 +16,17 @@ use Rattle.command_files.specs.declared.status.Verdict.TheVariants.{Yes, No}
 use Rattle.store_files.specs.ObjectTypes.{AreTypesAt, HasFault, SaysRefused}
 use Rattle.store_files.specs.Scripts.{DescribesScript, IsFaultyScript}
 use Rattle.store_files.specs.Types.{Held}
-use Rattle.store_commands.specs.Passing.{IsPassed, new_store, tables}
+use Rattle.store_commands.specs.Passing.{HasSerialRun, IsPassed, new_store, tables}
 
 -- the text is that of a run of the script at a new store of these types, and then the lines of an audit of the store's history that says
--- yes; and the history is serial
+-- yes; and the history is a serial run
 pub record IsRunOf (script : Script) (types : List Checked) (text : List ℕ) : Type 0 where
   pub run : List ℕ
   pub left : Stored
   pub ran : RunsScript (new_store types script.max) script (Some []) (Some run) None left (Ok tt)
   pub audit : Audit
   pub audited : Audits (tables left) left.history (Ok audit)
-  pub serial : IsSerial (objects left) left.history
+  pub history : HasSerialRun left
   pub is : text ≡ run ++ audit_text (Ok audit)
 
 -- the text is that of a whole run, and then the lines of an audit that says yes, or none where memory was refused for it

@@ -4,9 +4,8 @@ use Rattle.std.specs.Io.KnownBytes.{Appends}
 use Rattle.jobs_text.specs.Jobs.{calls_in}
 use Rattle.jobs_text.specs.declared.jobs_file.JobsFile.{JobsFile}
 use Rattle.table_checker.specs.Checked.{Checked}
-use Rattle.serial_order.specs.Serial.{IsSerial}
 use Rattle.store_text.specs.declared.line.ObjectLine.{ObjectLine}
-use Rattle.store_laws.specs.Stored.{Stored, objects}
+use Rattle.store_laws.specs.Stored.{Stored}
 use Rattle.history_audit.specs.Audit.{Audits}
 use Rattle.history_audit.specs.declared.outcome.Audit.{Audit}
 use Rattle.history_audit.specs.declared.outcome.AuditFault.{AuditFault}
@@ -24,7 +23,7 @@ use Rattle.command_files.specs.declared.status.Verdict.TheVariants.{Yes, No}
 use Rattle.store_files.specs.Jobs.{AreJobsFor, DescribesJobs, IsFaultyJobs}
 use Rattle.store_files.specs.ObjectTypes.{AreTypesAt, HasFault, SaysRefused}
 use Rattle.store_files.specs.Types.{Held}
-use Rattle.store_commands.specs.Passing.{IsPassed, new_store, tables}
+use Rattle.store_commands.specs.Passing.{HasSerialRun, IsPassed, new_store, tables}
 
 -- the work that begins at a new store of these types: these jobs, each tried so often
 abbrev pub opening_of : JobsFile → List Checked → ℕ → Opening
@@ -43,14 +42,14 @@ pub record IsWholeTextOf (lines : List ObjectLine) (left : Stored) (outcome : Re
   pub all : length kept ≡ length left.types
   pub is : text ≡ work_text lines left.history kept outcome reports
 
--- all workers did their jobs, and the text is that of it, with an audit that says yes; and the history is serial
+-- all workers did their jobs, and the text is that of it, with an audit that says yes; and the history is a serial run
 pub record IsWorkOf (file : JobsFile) (types : List Checked) (tries : ℕ) (text : List ℕ) : Type 0 where
   pub left : Stored
   pub reports : List Report
   pub worked : Works (opening_of file types tries) None left reports
   pub audit : Audit
   pub audited : Audits (tables left) left.history (Ok audit)
-  pub serial : IsSerial (objects left) left.history
+  pub history : HasSerialRun left
   pub told : IsWholeTextOf file.objects.items left (Ok audit) reports text
 
 -- the workers came to a fault before their first turn

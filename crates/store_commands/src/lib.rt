@@ -3,12 +3,14 @@
 
 mod audit;
 mod fresh;
+mod laws;
 mod passing;
 mod run;
 mod schedule;
 mod work;
 
 pub use audit::audit_history;
+pub use laws::{run_is_read, works_are_read};
 pub use run::run_file;
 pub use schedule::Schedule;
 pub use work::{Work, work_file};

@@ -23,7 +23,7 @@ use store_text::ObjectLine;
 use table_checker::CheckedType;
 use work_text::write_work;
 use worker_turns::Report;
-use workers::{NoGate, WorkFault, run_workers, stress};
+use workers::{NoGate, WorkFault, Worked, run_workers, stress};
 
 /// What workers do, and how.
 #[derive(Clone, Copy, Debug, PartialEq, Eq)]
@@ -105,8 +105,8 @@ fn do_jobs<R: Recovery + Send, H: AllocGlobal + Threads + Wait + Sync>(
     store: Store<R>,
     jobs: Vec<Vec<Job>>,
     work: Work,
-) -> (Store<R>, Vec<Report>, Option<WorkFault>)
-    ensures { Works (record { store = store; jobs = map calls_in jobs.items; tries = work.tries }) result.2 result.0 result.1.items }
+) -> Worked<R>
+    ensures { Works (record { store = store; jobs = map calls_in jobs.items; tries = work.tries }) result.fault result.store result.reports.items }
 {
     match work.schedule {
         Schedule::SideBySide => run_workers(rt, store, jobs, work.tries, &NoGate),
@@ -117,16 +117,20 @@ fn do_jobs<R: Recovery + Send, H: AllocGlobal + Threads + Wait + Sync>(
 /// Tells what came back of workers at a store of these types, and closes it.
 fn end_work<'a, R: Recovery, W: Out>(
     alloc: Global,
-    worked: (Store<R>, Vec<Report>, Option<WorkFault>),
+    worked: Worked<R>,
     types: &[Arc<CheckedType>],
     objects: &[ObjectLine],
     out: &mut W,
 ) -> Result<Verdict, Fault<'a>>
     requires out_takes { W.fault out.old ≡ None }
-    requires types { worked.0.types ≡ map value_of types.now }
-    ensures { TellsWork worked.0 objects.now worked.1.items worked.2 result (W.taken out.old) (W.taken out.new) }
+    requires types { worked.store.types ≡ map value_of types.now }
+    ensures { TellsWork worked.store objects.now worked.reports.items worked.fault result (W.taken out.old) (W.taken out.new) }
 {
-    let (store, reports, fault) = worked;
+    let Worked {
+        store,
+        reports,
+        fault,
+    } = worked;
     let told = tell_work(alloc, &store, types, objects, &reports, fault, out);
     let _ = store.close();
     told

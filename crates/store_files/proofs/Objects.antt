@@ -10,6 +10,7 @@ use Rattle.std.proofs.lemmas.Option.{slice_get-get_or, slice_get-map, slice_get_
 use Rattle.std.proofs.lemmas.Result.{err_from_is_err_and}
 use Rattle.type_table.specs.Table.{Table}
 use Rattle.type_table.specs.declared.kind.Kind.{Kind}
+use Rattle.type_table.proofs.Elements.{take-found}
 use Rattle.type_text.specs.declared.type_file.TypeFile.{TypeFile}
 use Rattle.table_checker.specs.Checked.{Checked}
 use Rattle.store_text.specs.declared.line.ObjectLine.{ObjectLine}
@@ -17,7 +18,7 @@ use Rattle.command_files.specs.Files.{IsFaulty, IsFileAt}
 use Rattle.store_files.specs.Types.{Held, AreFilesAt, AreTablesOf, AreTypesOf, HasPlace, IsAccepted, IsFaultAt, IsFirstFault, IsFirstWith, IsRefusedFor, IsTableOf, IsFirstFaulty, IsTypeOf, value_of}
 use Rattle.store_files.specs.declared.object_fault.ObjectFault.{ObjectFault}
 use Rattle.store_files.specs.declared.object_fault.ObjectFault.TheVariants.{NoType, Refused, NoMemory}
-use Rattle.store_files.proofs.Pairs.{each_has, each_push, take_to}
+use Rattle.store_files.proofs.Pairs.{each_has, each_push}
 
 -- ---- reads of lists
 
@@ -51,7 +52,7 @@ files_push holds paths files new i path file there known here is =
       as_many = one_more (take i paths) path files file known.as_many;
       each = each_push (λ (p : List ℕ) (f : TypeFile). IsFileAt (holds p) f) (take i paths) files path file known.as_many known.each here;
     } in
-    subst (λ (ps : List (List ℕ)). AreFilesAt holds ps new) (sym (take_to paths i path there)) (subst (AreFilesAt holds (take i paths ++ path ∷ [])) (sym is) grown)
+    subst (λ (ps : List (List ℕ)). AreFilesAt holds ps new) (sym (take-found paths i path there)) (subst (AreFilesAt holds (take i paths ++ path ∷ [])) (sym is) grown)
 
 -- the first path without one
 pub first_faulty : (holds : Held) (paths : List (List ℕ)) (files : List TypeFile) (i : ℕ) (path : List ℕ) → slice_get paths i ≡ Some path
@@ -68,7 +69,7 @@ types_push files objects types new i o c there known here is =
       as_many = one_more (take i objects) o types c known.as_many;
       each = each_push (IsTypeOf files) (take i objects) types o c known.as_many known.each here;
     } in
-    subst (λ (os : List ObjectLine). AreTypesOf files os new) (sym (take_to objects i o there)) (subst (AreTypesOf files (take i objects ++ o ∷ [])) (sym is) grown)
+    subst (λ (os : List ObjectLine). AreTypesOf files os new) (sym (take-found objects i o there)) (subst (AreTypesOf files (take i objects ++ o ∷ [])) (sym is) grown)
 
 -- the type of an object is that of an equal one before it
 pub shared_type : {A : Type 0} (files : List TypeFile) (before : List ObjectLine) (types : List (Arc Checked A)) (j : ℕ) (o : ObjectLine) (shared a : Arc Checked A)
@@ -114,7 +115,7 @@ tables_push files objects tables new i o table there known here is =
       as_many = one_more (take i objects) o tables table known.as_many;
       each = each_push (IsTableOf files) (take i objects) tables o table known.as_many known.each here;
     } in
-    subst (λ (os : List ObjectLine). AreTablesOf files os new) (sym (take_to objects i o there)) (subst (AreTablesOf files (take i objects ++ o ∷ [])) (sym is) grown)
+    subst (λ (os : List ObjectLine). AreTablesOf files os new) (sym (take-found objects i o there)) (subst (AreTablesOf files (take i objects ++ o ∷ [])) (sym is) grown)
 
 -- the first object without one
 pub first_without : (files : List TypeFile) (objects : List ObjectLine) (x : ℕ) (o : ObjectLine) (tables : List Table) → slice_get objects x ≡ Some o

@@ -1,7 +1,5 @@
 -- Two lists of which each pair at one place has something to do with each other.
-use Rattle.std.proofs.Common.{◌≡◌, ℕ, suc, zero, ◌+◌, List, [], ◌∷◌, ◌++◌, length, take, Some, ap, subst, arith, refl, ◌∙◌}
-use Rattle.std.proofs.lemmas.List.{take_more}
-use Rattle.std.proofs.lemmas.Option.{get_or_from_slice_get, slice_get_within}
+use Rattle.std.proofs.Common.{◌≡◌, ℕ, suc, zero, ◌+◌, List, [], ◌∷◌, ◌++◌, length, Some, subst, arith, refl}
 use Rattle.std.specs.Prelude.{slice_get}
 
 module _ {A B : Type 0} (P : A → B → Type 0) where
@@ -35,7 +33,3 @@ module _ {A B : Type 0} (P : A → B → Type 0) where
   each_has (c ∷ xs) [] same each k a there = absurd (omega (arith, same))
   each_has (c ∷ xs) (d ∷ ys) same each zero a there = (d, refl, each zero a d there refl)
   each_has (c ∷ xs) (d ∷ ys) same each (suc k) a there = each_has xs ys (omega (arith, same)) (λ j. each (suc j)) k a there
-
--- the first elements, up to the one at a place
-pub take_to : {X : Type 0} (xs : List X) (i : ℕ) (x : X) → slice_get xs i ≡ Some x → take (i + 1) xs ≡ take i xs ++ x ∷ []
-take_to xs i x there = take_more xs i x (slice_get_within xs i x there) ∙ ap (λ y. take i xs ++ y ∷ []) (get_or_from_slice_get xs i x x there)

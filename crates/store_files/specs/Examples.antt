@@ -1,17 +1,13 @@
 -- Objects at the files of two types, and texts of scripts, worked by hand.
-use Rattle.std.specs.Prelude.{◌≡◌, ℕ, List, [], ◌∷◌, take, Some, if◌then◌else◌, codes}
-use Rattle.std.specs.Str.{bytes_eq}
-use Rattle.type_table.specs.declared.kind.Kind.{Kind}
+use Rattle.std.specs.Prelude.{◌≡◌, ℕ, List, [], ◌∷◌, take, Some, codes}
 use Rattle.type_table.specs.declared.kind.Kind.TheVariants.{Undo, Intentions}
 use Rattle.type_text.specs.declared.type_file.TypeFile.{TypeFile}
-use Rattle.table_checker.specs.Checked.{Checked, IsChecked}
 use Rattle.table_checker.specs.Examples.{counter_file, one_way_file}
 use Rattle.serial_order.specs.declared.command.Command.{Command}
 use Rattle.serial_order.specs.declared.command.Command.TheVariants.{Begin, Call, Commit, Abort, Rollback}
 use Rattle.script_text.specs.declared.script.Script.{Script}
 use Rattle.store_text.specs.declared.line.ObjectLine.{ObjectLine}
 use Rattle.script_text.specs.Examples.{ended, script_text}
-use Rattle.command_files.specs.Examples.{counter_bytes}
 use Rattle.store_files.specs.Types.{Held}
 
 -- the counter of two and the one-way type, in this order
@@ -36,20 +32,7 @@ endless_script = ended (take 8 script_text)
 abbrev pub everywhere : List ℕ → Held
 everywhere text path = Some text
 
--- what was checked is the counter, for this kind
-pub record AcceptsCounter (kind : Kind) (c : Checked) : Type 0 where
-  pub is : c ≡ record { kind = kind; file = counter_file }
-  pub checked : IsChecked c
-
--- the example's script is held at one path, and this text at each other
-abbrev pub script_and : List ℕ → Held
-script_and text path = if bytes_eq path (codes "s") then Some (ended script_text) else Some text
-
--- the text of the counter
-abbrev pub script_and_counter : Held
-script_and_counter = script_and counter_bytes
-
--- that script: two objects, of the types at the places 0 and 1
+-- the example's script: two objects, of the types at the places 0 and 1
 abbrev pub script_objects : List ObjectLine
 script_objects = record { kind = Undo; file = 0 } ∷ record { kind = Intentions; file = 1 } ∷ []
 

@@ -8,7 +8,8 @@ use Rattle.object_trait.specs.declared.event.Event.{Event}
 use Rattle.serial_order.specs.Operations.{of}
 use Rattle.serial_order.specs.History.{seen, is_open}
 use Rattle.serial_order.specs.Laws.{CommandAppends}
-use Rattle.serial_order.specs.Replay.{open_count, most_open, is_full, call_at, refusal, after_command, replay_from}
+use Rattle.type_table.specs.Limits.{most_open}
+use Rattle.serial_order.specs.Replay.{open_count, is_full, call_at, refusal, after_command, replay_from}
 use Rattle.serial_order.specs.declared.command.Command.{Command}
 use Rattle.serial_order.specs.declared.command.Command.TheVariants.{Begin, Call, Commit, Abort, Rollback}
 use Rattle.serial_order.specs.declared.refusal.Refusal.{Refusal}

@@ -4,6 +4,7 @@ use Rattle.std.specs.List.{list_any}
 use Rattle.std.proofs.lemmas.Bool.{cases_Bool, eq-eqb, true≢false}
 use Rattle.std.proofs.lemmas.List.{length-map, length-set, length-append, map-append, nil_from_length}
 use Rattle.std.proofs.lemmas.Option.{same_Some, slice_get_within}
+use Rattle.type_table.proofs.Elements.{cases-set, element_at, eqb-sym}
 use Rattle.object_trait.specs.Strike.{keep_first}
 use Rattle.object_trait.specs.Meaning.{Meaning, open_of}
 use Rattle.object_trait.specs.Sound.{IsSound}
@@ -13,6 +14,7 @@ use Rattle.object_trait.specs.declared.event.Event.{Event}
 use Rattle.object_trait.specs.declared.event.EventKind.{EventKind}
 use Rattle.object_trait.specs.declared.event.EventKind.TheVariants as kind
 use Rattle.object_trait.specs.declared.event.EventKind.TheVariants.{Begin, Op, Busy, Commit, Abort, Rollback}
+use Rattle.object_trait.proofs.Striking.{keep_first-all}
 use Rattle.serial_order.specs.Operations.{is_by, of}
 use Rattle.serial_order.specs.History.{Seen, seen}
 use Rattle.serial_order.specs.Stand.{struck_at, Changes}
@@ -27,12 +29,10 @@ use Rattle.store_laws.specs.Kept.{Keeping, held_of, as_held, IsKept}
 use Rattle.store_laws.specs.Words.{EndsAsHeld, StrikesAsHeld}
 use Rattle.store_laws.specs.Before.{IsOpenRow, last_places}
 use Rattle.store_laws.specs.Events.{QuietMoves, BeginMoves, OpMoves, CommitMoves, AbortMoves, RollbackMoves, TypesStay, takes, RoomAfter}
-use Rattle.store_laws.proofs.Lists.{element_at, cases-set}
-use Rattle.store_laws.proofs.Filters.{filter-others, keep_first-all, count-none}
+use Rattle.store_laws.proofs.Filters.{filter-others, count-none}
 use Rattle.store_laws.proofs.Untouched.{strike-untouched}
 use Rattle.store_laws.proofs.Places.{row-at, held-at, held-from, entries-count, held-count, count-elsewhere, struck-count}
 use Rattle.store_laws.proofs.Objects.{same-type, same-types}
-use Rattle.store_laws.proofs.Rows.{eqb-sym}
 
 -- ---- nothing at the objects
 

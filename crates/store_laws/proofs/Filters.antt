@@ -1,5 +1,5 @@
 -- Filters and strikes: of mapped lists, of lists that have none of mine, and how many they keep.
-use Rattle.std.proofs.Common.{◌≡◌, ℕ, zero, suc, ◌+◌, ◌≤◌, Bool, true, false, not, List, [], ◌∷◌, map, filter, length, drop, take, refl, sym, ap, ◌∙◌, inl, inr, arith}
+use Rattle.std.proofs.Common.{◌≡◌, ℕ, zero, suc, ◌+◌, ◌≤◌, Bool, false, not, List, [], ◌∷◌, map, filter, length, drop, take, refl, sym, ap, ◌∙◌, inl, inr, arith}
 use Rattle.std.specs.Prelude.{nat_lt}
 use Rattle.std.specs.List.{list_any}
 use Rattle.std.proofs.lemmas.Bool.{cases_Bool, lt-ltb, ltb-false}
@@ -36,7 +36,7 @@ keep_first-map f mine (suc n) (a ∷ V) =
       | inr isnt ↦ rw isnt (ap (λ rest. f a ∷ rest) (keep_first-map f mine (suc n) V))
     ]
 
--- ---- none of mine, and all of mine
+-- ---- none of mine
 
 -- where there is none of mine, the others are all
 pub filter-others : {E : Type 0} (mine : E → Bool) (V : List E) → length (filter mine V) ≡ 0 → filter (λ e. not (mine e)) V ≡ V
@@ -45,42 +45,6 @@ filter-others mine (e ∷ V) none =
     elim (cases_Bool (mine e)) [
       | inl is ↦ absurd (let some : suc (length (filter mine V)) ≡ 0 = rw is at none in omega (arith, some))
       | inr isnt ↦ rw isnt (ap (λ rest. e ∷ rest) (filter-others mine V (rw isnt at none)))
-    ]
-
--- a strike that keeps all of mine keeps the list
-pub keep_first-all : {E : Type 0} (mine : E → Bool) (V : List E) → keep_first mine (length (filter mine V)) V ≡ V
-keep_first-all mine [] = refl
-keep_first-all mine (e ∷ V) =
-    elim (cases_Bool (mine e)) [
-      | inl is ↦ rw is (ap (λ rest. e ∷ rest) (keep_first-all mine V))
-      | inr isnt ↦ rw isnt (ap (λ rest. e ∷ rest) (keep_first-all mine V))
-    ]
-
--- a part that has all of mine has the same of mine
-pub mine-within : {E : Type 0} (test mine : E → Bool) (V : List E) → ((e : E) → mine e ≡ true → test e ≡ true) → filter mine (filter test V) ≡ filter mine V
-mine-within test mine [] within = refl
-mine-within test mine (e ∷ V) within =
-    elim (cases_Bool (mine e)) [
-      | inl is ↦ simp (is, within e is) (ap (λ rest. e ∷ rest) (mine-within test mine V within))
-      | inr isnt ↦ elim (cases_Bool (test e)) [
-        | inl passes ↦ simp (passes, isnt) (mine-within test mine V within)
-        | inr fails ↦ simp (fails, isnt) (mine-within test mine V within)
-      ]
-    ]
-
--- two filters, one after the other, either way round
-pub filter-turned : {E : Type 0} (first second : E → Bool) (V : List E) → filter first (filter second V) ≡ filter second (filter first V)
-filter-turned first second [] = refl
-filter-turned first second (e ∷ V) =
-    elim (cases_Bool (first e)) [
-      | inl passes ↦ elim (cases_Bool (second e)) [
-        | inl both ↦ simp (passes, both) (ap (λ rest. e ∷ rest) (filter-turned first second V))
-        | inr fails ↦ simp (passes, fails) (filter-turned first second V)
-      ]
-      | inr fails ↦ elim (cases_Bool (second e)) [
-        | inl other ↦ simp (fails, other) (filter-turned first second V)
-        | inr neither ↦ simp (fails, neither) (filter-turned first second V)
-      ]
     ]
 
 -- ---- how many pass

@@ -3,8 +3,9 @@ use Rattle.std.proofs.Common.{◌≡◌, ℕ, suc, ◌+◌, ◌≤◌, Bool, con
 use Rattle.std.specs.List.{count_by, range_with_len}
 use Rattle.std.proofs.lemmas.Bool.{cases_Bool, cases_lt, le-ltb, and_left}
 use Rattle.std.proofs.lemmas.List.{length-append, length-map, get_or_past}
-use Rattle.std.proofs.lemmas.List.Sums.{sum_by-cons, count_by-le-length, length-filter}
+use Rattle.std.proofs.lemmas.List.Sums.{sum_by-cons}
 use Rattle.std.proofs.lemmas.Option.{none-some, get_or_from_slice_get}
+use Rattle.type_table.proofs.Elements.{element_at, filter-length}
 use Rattle.object_trait.specs.Laws.{CheckedIsCovered, FreshIsSound}
 use Rattle.object_trait.specs.declared.event.Event.{Event}
 use Rattle.object_trait.specs.declared.event.EventKind.{EventKind}
@@ -18,7 +19,6 @@ use Rattle.serial_order.specs.declared.entry.Entry.{Entry}
 use Rattle.open_transactions.specs.Transactions.{Row}
 use Rattle.store_laws.specs.Kept.{Keeping, IsKept}
 use Rattle.store_laws.specs.Before.{NewIsKept, row_of, RowsSayWhoIsOpen, RowsAreCounted, PlacesAreCounted, RowsAreFew, PlacesAreFew}
-use Rattle.store_laws.proofs.Lists.{element_at}
 use Rattle.store_laws.proofs.Places.{row-places}
 
 -- ---- a new store
@@ -94,13 +94,9 @@ places_are_counted = λ k H t row kept there.
 
 -- ---- no more than events
 
--- a filter keeps no more than there is
-filter-few : {E : Type 0} (test : E → Bool) (V : List E) → length (filter test V) ≤ length V
-filter-few test V = let most = count_by-le-length test V in omega (arith, length-filter test V, most)
-
 pub rows_are_few : RowsAreFew
 rows_are_few = λ k H kept.
-    let few = filter-few (λ (e : Event). is_begin e.kind) H in
+    let few = filter-length (λ (e : Event). is_begin e.kind) H in
     let begun = kept.begun in
     omega (arith, few, begun)
 
@@ -129,7 +125,7 @@ few-live (e ∷ K) =
 pub places_are_few : StandsAsRead → PlacesAreFew
 places_are_few reads = λ k H t row kept there.
     let own = ap length (row-places k H t row kept there) ∙ length-map (of t (standing H)) (λ (e : Entry). e.at) in
-    let most = filter-few (is_by t) (standing H) in
+    let most = filter-length (is_by t) (standing H) in
     let all = ap length (reads H) in
     let few = few-live H in
     omega (arith, own, most, all, few)

@@ -6,6 +6,7 @@ use Rattle.std.proofs.lemmas.List.{length-map}
 use Rattle.std.proofs.lemmas.List.Elements.{All-from_recursion, All-filter, All-map, All-same, All-weaker, filter_passes}
 use Rattle.std.proofs.lemmas.Option.{none-some, same_Some, slice_get-map}
 use Rattle.type_table.specs.Table.{Table}
+use Rattle.type_table.proofs.Elements.{filter-turned, mine-within}
 use Rattle.object_trait.specs.Object.{Object}
 use Rattle.object_trait.specs.Meaning.{Meaning, open_of}
 use Rattle.object_trait.specs.declared.event.Event.{Event}
@@ -24,7 +25,7 @@ use Rattle.object_calls.specs.Ends.{count_at}
 use Rattle.open_transactions.specs.Transactions.{Row}
 use Rattle.store_laws.specs.Kept.{Keeping, held_of, as_held, objects_of, places_of, IsKept}
 use Rattle.store_laws.specs.Before.{IsOpenRow, last_places, PlacesAreInside, HeldAreOperations, HasWhatIsStruck}
-use Rattle.store_laws.proofs.Filters.{count-map, mine-within, filter-turned, count-none, count-drop}
+use Rattle.store_laws.proofs.Filters.{count-map, count-none, count-drop}
 use Rattle.store_laws.proofs.Lists.{inside-at}
 use Rattle.store_laws.proofs.Objects.{object-at}
 

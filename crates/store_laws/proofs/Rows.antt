@@ -1,10 +1,10 @@
 -- What an event that may come next does to the rows of transactions.
 use Rattle.std.proofs.Common.{◌≡◌, ℕ, ◌-◌, ◌==◌, true, false, not, ◌&&◌, ◌||◌, List, [], ◌∷◌, ◌++◌, length, map, take, Option, Some, None, is_some, slice_get, refl, sym, ap, subst, ◌∙◌, inl, inr, append-nil, arith}
-use Rattle.std.specs.Cmp.{both_ways}
-use Rattle.std.proofs.lemmas.Bool.{eqb-true, eq-eqb}
+use Rattle.std.proofs.lemmas.Bool.{eq-eqb}
 use Rattle.std.proofs.lemmas.Bool.Decides.{nat_tests}
 use Rattle.std.proofs.lemmas.List.{length-append, length-map, length-set, map-append, take-map}
 use Rattle.std.proofs.lemmas.Option.{none-some, same_Some, slice_get_within}
+use Rattle.type_table.proofs.Elements.{each-weaker, found-last, cases-more, cases-set, filter-none, eqb-sym}
 use Rattle.object_trait.specs.declared.event.EventKind.{EventKind}
 use Rattle.object_trait.specs.declared.event.EventKind.TheVariants as kind
 use Rattle.object_trait.specs.declared.event.EventKind.TheVariants.{Begin, Op, Busy, Commit, Abort, Rollback}
@@ -18,7 +18,7 @@ use Rattle.serial_order.specs.declared.entry.Entry.{Entry}
 use Rattle.open_transactions.specs.Transactions.{Row}
 use Rattle.store_laws.specs.Kept.{places_of}
 use Rattle.store_laws.specs.Moves.{at_too, without_places, IsRowMoved, RowsMove}
-use Rattle.store_laws.proofs.Lists.{cases-more, before-more, at-more, cases-set, filter-none, each-weaker}
+use Rattle.store_laws.proofs.Lists.{before-more}
 
 -- ---- what a row says, by what is seen and who began each transaction
 
@@ -57,10 +57,6 @@ same-row row t s now B C opens own begun known = record {
 }
 
 -- ---- one row moved
-
--- two numbers are equal in either order
-pub eqb-sym : (a b : ℕ) → (a == b) ≡ (b == a)
-eqb-sym a b = both_ways (a == b) (b == a) (λ is. eq-eqb b a (sym (eqb-true a b is))) (λ is. eq-eqb a b (sym (eqb-true b a is)))
 
 -- where the moved row is right, and nothing happened to other transactions
 rows-moved : (old new : List (Option Row)) (t : ℕ) (moved : Row → Option Row) (s now : Seen) (B : List ℕ)
@@ -159,7 +155,7 @@ module _ (old new : List (Option Row)) (s : Seen) (B : List ℕ) (known : AreRow
       last : (u : ℕ) → u ≡ s.begun → IsRowOf (Some fresh) u (after s (Begin t)) (B ++ w ∷ [])
       last u is =
           open-row fresh u (after s (Begin t)) (B ++ w ∷ []) (opens u ∙ rw (eq-eqb u t (is ∙ sym next)) refl)
-          (ap (λ n. slice_get (B ++ w ∷ []) n) (is ∙ sym workers) ∙ at-more B w)
+          (ap (λ n. slice_get (B ++ w ∷ []) n) (is ∙ sym workers) ∙ found-last B w)
           (sym (ap (λ n. map (λ (e : Entry). e.at) (of n s.stands)) is ∙ ap (map (λ (e : Entry). e.at)) none))
 
 -- any event that may come next

@@ -1,6 +1,7 @@
 -- What is kept goes on agreeing with the history by an event that may follow.
 use Rattle.std.proofs.Common.{◌≡◌, ℕ, ◌<◌, List, [], ◌∷◌, ◌++◌, length, map, Option, Some, slice_get, sym, ap, subst, ◌∙◌}
 use Rattle.std.proofs.lemmas.Option.{slice_get_within}
+use Rattle.type_table.proofs.Elements.{element_at}
 use Rattle.object_trait.specs.Object.{object_of}
 use Rattle.object_trait.specs.Meaning.{Meaning}
 use Rattle.object_trait.specs.Laws.{CheckedIsCovered, SoundAfterApply, SoundAfterCommit, SoundAfterStrike}
@@ -14,7 +15,6 @@ use Rattle.op_locks.specs.declared.held.Held.{Held}
 use Rattle.open_transactions.specs.Transactions.{Row}
 use Rattle.store_laws.specs.Kept.{Keeping, as_held, objects_of, IsObject, IsRow, IsKept}
 use Rattle.store_laws.specs.Moves.{Moves, StaysKept}
-use Rattle.store_laws.proofs.Lists.{element_at}
 use Rattle.store_laws.proofs.Objects.{same-type, same-types, object-at, object-after}
 use Rattle.store_laws.proofs.Rows.{IsRowOf, AreRows, rows-after}
 

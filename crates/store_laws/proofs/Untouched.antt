@@ -6,7 +6,7 @@ use Rattle.object_trait.specs.Object.{Object}
 use Rattle.object_trait.specs.Meaning.{Meaning, object, is_open_of, open_of}
 use Rattle.object_trait.specs.Steps.{IsStrikeBy, Keeps, IsStrike}
 use Rattle.object_trait.specs.declared.log_entry.LogEntry.{LogEntry}
-use Rattle.store_laws.proofs.Filters.{keep_first-all}
+use Rattle.object_trait.proofs.Striking.{keep_first-all}
 
 -- all open entries may stay, by kinds of recovery
 strike_by : (recovery : Kind) (o : Object) (base : ℕ) (log : List LogEntry) (t : ℕ) → IsStrikeBy recovery o base log t (length (open_of t log)) base log

@@ -1,48 +1,21 @@
 -- What an object keeps that runs its whole log anew for each view.
-use Rattle.std.proofs.Common.{◌≡◌, ◌≤◌, ◌<◌, ◌==◌, ◌||◌, ◌+◌, not, nat_eq, ℕ, Bool, get_or, take, drop, slice_set, true, false, nat_lt, List, [], ◌∷◌, ◌++◌, map, length, Option, Some, None, IsSome, refl, ◌∙◌, arith}
+use Rattle.std.proofs.Common.{◌≡◌, ◌≤◌, ◌<◌, ◌==◌, ◌||◌, ◌+◌, not, nat_eq, ℕ, get_or, take, drop, slice_set, true, false, nat_lt, List, [], ◌∷◌, ◌++◌, map, length, Some, IsSome, refl, ◌∙◌, arith}
 use Rattle.std.specs.List.{list_any}
-use Rattle.std.proofs.lemmas.Bool.{false≢true}
+use Rattle.std.proofs.lemmas.Bool.{not-true}
 use Rattle.std.proofs.lemmas.List.{append_assoc, drop-set-lt, drop_more, length-map, length_push, take_more_set}
 use Rattle.type_table.specs.Table.{Table, next}
 use Rattle.type_table.specs.Run.{IsLegal}
-use Rattle.type_table.specs.declared.kind.Kind.{Kind}
-use Rattle.type_table.specs.declared.kind.Kind.TheVariants.{Undo, Intentions}
+use Rattle.type_table.proofs.Legal.{legal-somewhere}
 use Rattle.table_checker.specs.Checked.{Checked}
 use Rattle.object_trait.specs.Laws.{CheckedIsCovered, SoundAfterApply, SoundAfterCommit, SoundAfterStrike}
-use Rattle.object_trait.specs.Meaning.{is_open_of, open_of, ops_of, run_log, state_by, view_by}
-use Rattle.object_trait.specs.Object.{Object, object_of}
-use Rattle.object_trait.specs.Sound.{IsSoundUndo, IsSoundBy}
+use Rattle.object_trait.specs.Meaning.{is_open_of, open_of, ops_of}
+use Rattle.object_trait.specs.Object.{object_of}
 use Rattle.object_trait.specs.Steps.{MayApply, marked, open_transactions}
 use Rattle.object_trait.specs.Strike.{keep_first}
 use Rattle.object_trait.specs.declared.log_entry.LogEntry.{LogEntry}
+use Rattle.undo_manager.proofs.InPlace.{sound_in, sound_out}
 use Rattle.store_tests.specs.Replayed.{IsReplayed, from_the_start}
 use Rattle.store_tests.proofs.UpdateInPlace.{commit-unsettled, strike-unsettled}
-
--- ---- runs
-
--- where a list is legal, there is a state before it
-pub some-before : (T : Table) (o : Option ℕ) (w : List ℕ) → IsLegal T o w → IsSome o
-some-before T None [] h = absurd (false≢true h)
-some-before T None (k ∷ w) h = some-before T None w h
-some-before T (Some t) w h = refl
-
--- ---- definitions by kinds, where the kind is update in place
-
-sound_in : (kind : Kind) → kind ≡ Undo → (o : Object) (base : ℕ) (log : List LogEntry) → IsSoundUndo o base log → IsSoundBy kind o base log
-sound_in Undo e o base log s = s
-sound_in Intentions e o base log s = absurd (cc)
-
-sound_out : (kind : Kind) → kind ≡ Undo → (o : Object) (base : ℕ) (log : List LogEntry) → IsSoundBy kind o base log → IsSoundUndo o base log
-sound_out Undo e o base log s = s
-sound_out Intentions e o base log s = absurd (cc)
-
-pub state_in : (kind : Kind) → kind ≡ Undo → (o : Object) (base : ℕ) (log : List LogEntry) → state_by kind o base log ≡ run_log o base log
-state_in Undo e o base log = refl
-state_in Intentions e o base log = absurd (cc)
-
-pub view_in : (kind : Kind) → kind ≡ Undo → (o : Object) (base : ℕ) (log : List LogEntry) (t : ℕ) → view_by kind o base log t ≡ run_log o base log
-view_in Undo e o base log t = refl
-view_in Intentions e o base log t = absurd (cc)
 
 -- ---- what is kept
 
@@ -87,7 +60,7 @@ struck-replayed covers law c log new_log t n r kept fewer =
 -- so a log that is legal begins with a legal operation
 pub first-legal : (T : Table) (s : ℕ) (log : List LogEntry) (d : LogEntry) → 1 ≤ length log → IsLegal T (Some s) (ops_of log) → IsSome (next T s (get_or log 0 d).op)
 first-legal T s [] d some h = absurd (omega (arith, some))
-first-legal T s (e ∷ log) d some h = some-before T (next T s e.op) (ops_of log) h
+first-legal T s (e ∷ log) d some h = legal-somewhere T (next T s e.op) (ops_of log) h
 
 -- ---- marks
 
@@ -118,12 +91,8 @@ no_more [] d n some is last = absurd (omega (arith, some))
 no_more (e ∷ log) d n some is last = grind (arith, is, last)
 
 -- that none is open is told by their number
-not_done : (b : Bool) → not b ≡ true → b ≡ false
-not_done true h = absurd (false≢true h)
-not_done false h = refl
-
 same_none : (n : ℕ) → nat_eq n 0 ≡ not (nat_lt 0 n)
 same_none n = grind arith
 
 pub is_none : (e : LogEntry) (log : List LogEntry) (n : ℕ) → n ≡ length (open_of e.by log) → not e.done ≡ true → nat_eq n 0 ≡ not (e.done || list_any (λ t. t == e.by) (open_transactions log))
-is_none e log n is held = rw (not_done e.done held, among_open e.by log, is) (same_none (length (open_of e.by log)))
+is_none e log n is held = rw (not-true e.done held, among_open e.by log, is) (same_none (length (open_of e.by log)))

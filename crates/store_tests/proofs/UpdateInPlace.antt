@@ -1,6 +1,6 @@
 -- Update in place that settles nothing, for objects of tests.
-use Rattle.std.proofs.Common.{◌≡◌, ℕ, Bool, true, false, List, [], ◌∷◌, map, length, Option, Some, None, refl, sym, ap, inl, inr}
-use Rattle.std.specs.List.{filter, list_any}
+use Rattle.std.proofs.Common.{◌≡◌, ℕ, true, false, List, [], map, Option, Some, None, refl, sym, inl, inr}
+use Rattle.std.specs.List.{list_any}
 use Rattle.std.specs.Option.{option_to_list}
 use Rattle.std.proofs.lemmas.Bool.{false≢true, true≢false, cases_Bool}
 use Rattle.type_table.specs.declared.kind.Kind.{Kind}
@@ -50,13 +50,4 @@ kept_one t (Some e) h =
     elim (cases_Bool (is_open_of t e)) [
       | inl is ↦ absurd (true≢false (rw is at h))
       | inr isnt ↦ rw isnt refl
-    ]
-
--- a strike of none keeps the whole log
-pub kept_all : {E : Type 0} (mine : E → Bool) (V : List E) → keep_first mine (length (filter mine V)) V ≡ V
-kept_all mine [] = refl
-kept_all mine (e ∷ V) =
-    elim (cases_Bool (mine e)) [
-      | inl is ↦ rw is (ap (λ rest. e ∷ rest) (kept_all mine V))
-      | inr isnt ↦ rw isnt (ap (λ rest. e ∷ rest) (kept_all mine V))
     ]

@@ -5,6 +5,7 @@ use Rattle.std.proofs.lemmas.List.{append-nil, length-append, length-map, map-ap
 use Rattle.type_table.specs.declared.kind.Kind.{Kind}
 use Rattle.line_text.specs.Rules.{last_item}
 use Rattle.line_text.specs.LineTests.{is_late}
+use Rattle.line_text.proofs.Items.{last_item_push}
 use Rattle.store_text.specs.Body.{Body, store_rules, rank_of, max_line}
 use Rattle.store_text.specs.Kept.{limit_lines, object_line, entry_line, end_lines, lines_of_parts, limit_of}
 use Rattle.store_text.specs.Said.{max_in, objects_of, entries_of}
@@ -13,16 +14,6 @@ use Rattle.store_text.specs.declared.line.Line.{Line}
 use Rattle.store_text.specs.declared.line.Line.TheVariants.{Max, Object, Entry, End}
 
 -- ---- the last line
-
--- an element behind others is their last
-last_place : {X : Type 0} (xs : List X) (y : X) → slice_get (xs ++ y ∷ []) (length xs) ≡ Some y
-last_place [] y = refl
-last_place (x ∷ xs) y = last_place xs y
-
-last_pushed : {X : Type 0} (xs : List X) (y : X) → last_item (xs ++ y ∷ []) ≡ Some y
-last_pushed xs y =
-    let place : length (xs ++ y ∷ []) - 1 ≡ length xs = omega (arith, length-append xs (y ∷ [])) in
-    ap (slice_get (xs ++ y ∷ [])) place ∙ last_place xs y
 
 -- a list with elements has a last one
 record Ends {X : Type 0} (xs : List X) : Type 0 where
@@ -78,21 +69,21 @@ module _ {A : Type 0} (b : Body A) where
 
   not_ended : (front : List (Line A)) (has_ended : Bool) (x : Line A) → is_late (store_rules b) (last_item (front ++ end_lines has_ended)) x ≡ false → has_ended ≡ false
   not_ended front false x e = refl
-  not_ended front true x e = absurd (behind_end x (rw last_pushed at e))
+  not_ended front true x e = absurd (behind_end x (rw last_item_push at e))
 
   no_entry : (front : List (Line A)) (entries : List A) (x : Line A) → is_late (store_rules b) (last_item (front ++ map entry_line entries)) x ≡ false → rank_of x < 2 → entries ≡ []
   no_entry front [] x e low = refl
   no_entry front (y ∷ entries) x e low =
       let more = ends y entries in
       let is = last_mapped entry_line front more in
-      absurd (omega (arith, behind_entry more.last x (rw (is, last_pushed) at e)))
+      absurd (omega (arith, behind_entry more.last x (rw (is, last_item_push) at e)))
 
   no_object : (front : List (Line A)) (objects : List ObjectLine) (x : Line A) → is_late (store_rules b) (last_item (front ++ map object_line objects)) x ≡ false → rank_of x < 1 → objects ≡ []
   no_object front [] x e low = refl
   no_object front (o ∷ objects) x e low =
       let more = ends o objects in
       let is = last_mapped object_line front more in
-      absurd (omega (arith, behind_object more.last x (rw (is, last_pushed) at e)))
+      absurd (omega (arith, behind_object more.last x (rw (is, last_item_push) at e)))
 
   no_max : (max : Option ℕ) (x : Line A) → is_late (store_rules b) (last_item (limit_lines max)) x ≡ false → rank_of x < 1 → max ≡ None
   no_max None x e low = refl

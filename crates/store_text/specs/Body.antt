@@ -1,5 +1,6 @@
 -- The grammar of the texts about a store's objects.
 use Rattle.std.specs.Prelude.{ℕ, Bool, true, false, ◌&&◌, List, [], ◌∷◌, nat_le, ◌==◌, if◌then◌else◌, count_by, Some, None, Result, Ok, codes}
+use Rattle.type_table.specs.Limits.{most_objects, most_events}
 use Rattle.line_text.specs.Rules.{Rules}
 use Rattle.line_text.specs.Shapes.{◌>>=◌, exactly, number_at, kind_at, is_key}
 use Rattle.line_text.specs.declared.fault.FaultKind.{FaultKind}
@@ -78,11 +79,11 @@ no_line = record { is_single = true; is_needed = false; most = Some 0 }
 
 -- the `object` lines: 1 to 256
 abbrev pub object_lines : Section
-object_lines = record { is_single = false; is_needed = true; most = Some 256 }
+object_lines = record { is_single = false; is_needed = true; most = Some most_objects }
 
 -- the entries: 0 to 1,000,000
 abbrev pub entry_lines : Section
-entry_lines = record { is_single = false; is_needed = false; most = Some 1000000 }
+entry_lines = record { is_single = false; is_needed = false; most = Some most_events }
 
 -- the section of the `max` line
 abbrev pub max_line : Bool → Section
@@ -95,7 +96,7 @@ sections has_max = max_line has_max ∷ object_lines ∷ entry_lines ∷ one_lin
 -- ---- the tests of a line behind others
 
 abbrev pub is_in_range : {A : Type 0} → Body A → Line A → Bool
-is_in_range b (Max most) = nat_le 2 most && nat_le most 1000000
+is_in_range b (Max most) = nat_le 2 most && nat_le most most_events
 is_in_range b (Object kind file) = nat_le file 255
 is_in_range b (Entry x) = b.is_in_range x
 is_in_range b End = true

@@ -1,6 +1,7 @@
 -- The value of a text about a store's objects.
 use Rattle.std.specs.Prelude.{◌≡◌, ◌⊎◌, ℕ, ◌<◌, ◌≤◌, true, List, length, slice_get, Some, Result, Ok, Err}
 use Rattle.std.specs.List.{AllByRecursion}
+use Rattle.type_table.specs.Limits.{most_objects, most_events}
 use Rattle.line_text.specs.Outcome.{outcome_of, IsReached}
 use Rattle.line_text.specs.Text.{lines_of}
 use Rattle.line_text.specs.declared.fault.TextFault.{TextFault}
@@ -20,11 +21,11 @@ pub record IsPartsOf {K A : Type 0} (b : Body A) (said : K → List A) (lines : 
 
 -- every number and count of a text's parts is in its range
 pub record AreFit {K A : Type 0} (b : Body A) (said : K → List A) (parts : Parts K) : Type 0 where
-  pub max : b.has_max ≡ true → (2 ≤ parts.max) × (parts.max ≤ 1000000)
+  pub max : b.has_max ≡ true → (2 ≤ parts.max) × (parts.max ≤ most_events)
   pub some_object : 0 < length parts.objects.items
-  pub objects : length parts.objects.items ≤ 256
+  pub objects : length parts.objects.items ≤ most_objects
   pub files : AllByRecursion (λ (o : ObjectLine). o.file ≤ 255) parts.objects.items
-  pub entries : length (said parts.entries) ≤ 1000000
+  pub entries : length (said parts.entries) ≤ most_events
   pub in_range : AllByRecursion (λ x. b.is_in_range x ≡ true) (said parts.entries)
 
 -- the value of a text that has one, else the text's fault; or memory was refused at the line that was being read

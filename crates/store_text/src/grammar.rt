@@ -10,6 +10,7 @@ use crate::kept::KeptParts;
 use crate::line::{Line, ObjectLine};
 use line_text::{FaultKind, Grammar, Section, exactly, is_key, kind_at, number_at};
 use std::alloc::{AllocError, Global};
+use type_table::{MOST_EVENTS, MOST_OBJECTS};
 
 const ONE_LINE: Section = Section {
     is_single: true,
@@ -26,13 +27,13 @@ const NO_LINE: Section = Section {
 const OBJECT_LINES: Section = Section {
     is_single: false,
     is_needed: true,
-    most: Some(256),
+    most: Some(MOST_OBJECTS),
 };
 
 const ENTRY_LINES: Section = Section {
     is_single: false,
     is_needed: false,
-    most: Some(1_000_000),
+    most: Some(MOST_EVENTS as usize),
 };
 
 /// The sections by rank of a text that begins with a `max` line.
@@ -146,7 +147,7 @@ impl<E: Entries> Grammar for StoreGrammar<E> {
         item: Line<E::Entry>,
     ) -> bool {
         match item {
-            Line::Max(most) => 2 <= most && most <= 1_000_000,
+            Line::Max(most) => 2 <= most && most <= MOST_EVENTS,
             Line::Object { file, .. } => file <= 255,
             Line::Entry(entry) => self.entries.is_in_range(entry),
             Line::End => true,

@@ -12,6 +12,7 @@ use Rattle.type_table.specs.ConflictTable.{conflicts}
 use Rattle.type_table.specs.Commute.{CommuteForward, CommutesBackward, CommutesBackwardBothWays, Commutes, CommutesStrongly}
 use Rattle.type_table.specs.declared.kind.Kind.{Kind}
 use Rattle.type_table.specs.declared.kind.Kind.TheVariants.{Undo, Intentions}
+use Rattle.type_table.proofs.Legal.{some_state, is_there}
 use Rattle.type_text.specs.declared.type_file.TypeFile.{TypeFile}
 use Rattle.table_checker.specs.Condition.{ends_relate, end_of, passes, passes_forward, passes_backward, passes_both_ways, AreInside, PassesEverywhere}
 use Rattle.table_checker.specs.Reach.{is_outside, NeverLeaves}
@@ -22,11 +23,6 @@ use Rattle.table_checker.specs.declared.condition.Condition.{Condition}
 use Rattle.table_checker.specs.declared.condition.Condition.TheVariants.{Forward, Backward, BackwardBothWays}
 
 -- ---- tests
-
--- what is there is some state
-some_state : (o : Option ℕ) → IsSome o → (t : ℕ) × (o ≡ Some t)
-some_state None h = absurd (false≢true h)
-some_state (Some t) h = (t, refl)
 
 -- both parts of a test that holds
 both : (a b : Bool) → (a && b) ≡ true → (a ≡ true) × (b ≡ true)
@@ -68,18 +64,14 @@ related_states related (Some a) (Some b) h = (a, b, refl, refl, h)
 related_states related (Some a) None h = absurd (false≢true h)
 related_states related None y h = absurd (false≢true h)
 
--- what is some state is there
-there : (x : Option ℕ) (a : ℕ) → x ≡ Some a → IsSome x
-there x a e = rw e refl
-
 -- where two lists end in a pair of a simulation, the ends are like each other
 related_ends : EndsLook → (T : Table) (related : ℕ → ℕ → Bool) → IsSimulation T related → (s : ℕ) (v w : List ℕ) →
     ends_relate related (run T (Some s) v) (run T (Some s) w) ≡ true → AreEndsLike T (run T (Some s) v) (run T (Some s) w)
 related_ends ends T related simulation s v w h =
     let found = related_states related (run T (Some s) v) (run T (Some s) w) h in
     record {
-      first = there (run T (Some s) v) found.0 found.2;
-      second = there (run T (Some s) w) found.1 found.3;
+      first = is_there (run T (Some s) v) found.0 found.2;
+      second = is_there (run T (Some s) w) found.1 found.3;
       looks = ends T related s found.0 found.1 v w simulation found.2 found.3 found.4;
     }
 

@@ -41,11 +41,11 @@ downs-fail_first = first-of_number Forward counter_file ups_alone 3 4 1 1 1 refl
 -- ---- the counter's file, as the checker accepts it
 
 -- what holds at each of two numbers
-at_two : (P : ℕ → Type 0) → P 0 → P 1 → (k : ℕ) → k < 2 → P k
+pub at_two : (P : ℕ → Type 0) → P 0 → P 1 → (k : ℕ) → k < 2 → P k
 at_two P zeroth first = below_more P 1 (below_more P 0 (below_none P) zeroth) first
 
 -- and at each of three
-at_three : (P : ℕ → Type 0) → P 0 → P 1 → P 2 → (s : ℕ) → s < 3 → P s
+pub at_three : (P : ℕ → Type 0) → P 0 → P 1 → P 2 → (s : ℕ) → s < 3 → P s
 at_three P zeroth first second = below_more P 2 (at_two P zeroth first) second
 
 -- no step leaves the set of all states
@@ -78,7 +78,7 @@ counter-simulates : IsSimulation counter (relates counter_file.relation)
 counter-simulates s t k s2 pair step = (s2, rw (← diagonal s t pair) step, inl refl)
 
 -- the counter is a table
-counter-table : IsTable counter
+pub counter-table : IsTable counter
 counter-table = record {
   some_states = omega arith;
   states_fit = omega arith;
@@ -91,7 +91,7 @@ counter-table = record {
 }
 
 -- its set and its relation are in order
-counter-certified : IsCertified counter_file
+pub counter-certified : IsCertified counter_file
 counter-certified = record { begins_inside = refl; never_leaves = counter-stays; simulation = counter-simulates }
 
 -- the counter, accepted for deferred update

@@ -1,16 +1,16 @@
 -- The table of a family.
-use Rattle.std.proofs.Common.{◌≡◌, ℕ, zero, suc, ◌+◌, ◌*◌, ◌/◌, ◌%◌, ◌<◌, ◌≤◌, true, false, [], ◌∷◌, ◌++◌, length, replicate, get_or, Option, Some, None, option_and_then, unwrap_or, refl, sym, ap, ◌∙◌, arith}
-use Rattle.std.specs.List.{slice_get, list_all, list_any}
+use Rattle.std.proofs.Common.{◌≡◌, ℕ, zero, suc, ◌+◌, ◌*◌, ◌/◌, ◌%◌, ◌<◌, ◌≤◌, true, false, [], ◌∷◌, ◌++◌, length, replicate, get_or, Option, Some, None, refl, sym, ap, ◌∙◌, arith}
+use Rattle.std.specs.List.{list_all, list_any}
 use Rattle.std.proofs.lemmas.Bool.{lt-ltb, le-leb, eq-eqb}
 use Rattle.std.proofs.lemmas.List.{get_or_default}
 use Rattle.std.proofs.lemmas.List.FromFn.{length-map-range_with_len, map-range_with_len_more, get_or-map-range_with_len}
 use Rattle.std.proofs.lemmas.List.Sums.{list_all-from_AllPass}
 use Rattle.std.proofs.lemmas.Nat.{div-mul-add, mod-mul-add, mul-add-lt}
-use Rattle.std.proofs.lemmas.Option.{unwrap_or-slice_get}
 use Rattle.std.proofs.Math.Nat.{mod-lt, div-lt_iff_lt-mul}
 use Rattle.type_table.specs.Op.{has_twin}
 use Rattle.type_table.specs.Counts.{is_inside}
 use Rattle.type_table.specs.Table.{Table, next, table_fault}
+use Rattle.type_table.proofs.Legal.{next-entry}
 use Rattle.table_maker.specs.Made.{Family, HasTable, entries_of, IsTableOfFamily}
 
 -- the parts of a table, as they are read off a family
@@ -56,16 +56,6 @@ parts-fault f T h parts =
     let inside : list_all (is_inside T.states) T.steps ≡ true = rw (parts.steps, parts.states) (entries_inside f h) in
     let no_twin : has_twin T.ops ≡ false = rw parts.ops h.no_twin in
     rw (le-leb 1 T.states some_states, le-leb T.states 1024 states_fit, le-leb 1 (length T.ops) some_ops, le-leb (length T.ops) 64 ops_fit, eq-eqb (length T.steps) (T.states * length T.ops) whole, lt-ltb T.initial T.states initial, inside, no_twin) refl
-
--- an entry that may not stand at all, as one that may be empty
-flat : (o : Option (Option ℕ)) → option_and_then (λ entry. entry) o ≡ unwrap_or o None
-flat None = refl
-flat (Some entry) = refl
-
--- the next state of an operation is its entry
-next-entry : (T : Table) (s k : ℕ) → k < length T.ops → next T s k ≡ get_or T.steps (s * length T.ops + k) None
-unfolding next
-next-entry T s k below = rw (lt-ltb k (length T.ops) below) (flat (slice_get T.steps (s * length T.ops + k)) ∙ unwrap_or-slice_get T.steps (s * length T.ops + k) None)
 
 -- the steps of a table of these parts are the family's
 next-family : (f : Family) (T : Table) (s k : ℕ) → AreParts f T → s < f.states → k < length f.ops → next T s k ≡ f.step s k

@@ -1,11 +1,12 @@
 -- The states of a semiqueue, by their lists of counts.
 use Rattle.std.proofs.Common.{◌≡◌, ℕ, zero, suc, ◌+◌, ◌-◌, ◌<◌, Bool, true, false, not, cond, nat_lt, nat_le, List, [], ◌∷◌, length, map, take, drop, get_or, set, Option, Some, None, sum, refl, sym, ap, ◌∙◌, arith, add-one}
-use Rattle.std.specs.List.{position, prefix_len}
+use Rattle.std.specs.List.{position}
 use Rattle.std.specs.Str.{bytes_eq}
 use Rattle.std.proofs.lemmas.Bool.{false_from_ne_true, eq-eqb, both_ways, not-true, not-false}
 use Rattle.std.proofs.lemmas.List.{length-map, get_or-map, take-set, take_rest}
 use Rattle.std.proofs.lemmas.List.Quantifiers.{position-Some}
 use Rattle.std.proofs.lemmas.Slice.Eq.{bytes_eq-Decides}
+use Rattle.type_table.proofs.Elements.{position-map}
 use Rattle.table_maker.specs.Semiqueue.{counts_at, state_of, enq_step, deq_step}
 
 -- ---- a list with one count changed
@@ -38,14 +39,6 @@ rest-decides xs ys i v r inside same here before rest =
     rest ∙ rw (take_rest xs (i + 1), take_rest ys (i + 1)) (bytes_eq-set xs ys i v inside same here front)
 
 -- ---- the place of a list
-
-prefix_len-map : {A B : Type 0} (p : B → Bool) (f : A → B) (xs : List A) → prefix_len p (map f xs) ≡ prefix_len (λ x. p (f x)) xs
-prefix_len-map p f [] = refl
-prefix_len-map p f (x ∷ xs) = rw (prefix_len-map p f xs) refl
-
--- a search through what is shown of rows is a search through the rows
-position-map : {A B : Type 0} (p : B → Bool) (f : A → B) (xs : List A) → position p (map f xs) ≡ position (λ x. p (f x)) xs
-position-map p f xs = rw (length-map, prefix_len-map (λ y. not (p y)) f xs) refl
 
 -- ---- what a state holds
 

@@ -6,6 +6,7 @@ use Rattle.std.proofs.lemmas.List.{length-replicate, length-map, length-take-le,
 use Rattle.std.proofs.Math.Seq.{take-set-lt}
 use Rattle.std.proofs.lemmas.List.FromFn.{get_or-map-range_with_len, length-map-range_with_len}
 use Rattle.std.proofs.lemmas.Nat.Bits.{bit_at_set_same, bit_at_set_other, bit_at-zero, shr_and_one}
+use Rattle.std.proofs.Math.Bool.{or-false}
 use Rattle.type_table.specs.ConflictTable.{row, conflicts, IsSquare, cells_of, rows_of}
 
 -- the table with no pair
@@ -110,10 +111,6 @@ no_conflicts n ops words e fits p q =
       | inr past ↦ ap (λ cells. get_or cells q false) (get_or_past (replicate ops (replicate ops false)) p [] (omega (arith, length-replicate {A = List Bool} ops (replicate ops false)))) ∙ get_or_past [] q false (omega arith)
     ]
 
-or_false : (b : Bool) → b ≡ (b || false)
-or_false true = refl
-or_false false = refl
-
 or_true : (b : Bool) → true ≡ (b || true)
 or_true true = refl
 or_true false = refl
@@ -131,11 +128,11 @@ conflicts-with_pair ops p q a b rows square p_in q_in =
         | inr other ↦
             rw same
             (ap (λ cells. get_or cells b false) (get_or-set_same rows p (set (row rows p) q true) [] (omega (arith, p_in, square.height)))
-            ∙ get_or-set_other (row rows p) q b true false other ∙ or_false (conflicts rows p b) ∙ ap (λ x. conflicts rows p b || x) (sym (and_right _ _ (ne_eqb b q other))))
+            ∙ get_or-set_other (row rows p) q b true false other ∙ sym (or-false (conflicts rows p b)) ∙ ap (λ x. conflicts rows p b || x) (sym (and_right _ _ (ne_eqb b q other))))
       ]
       | inr other ↦
           ap (λ cells. get_or cells b false) (get_or-set_other rows p a (set (row rows p) q true) [] other)
-          ∙ or_false (conflicts rows a b) ∙ ap (λ x. conflicts rows a b || x) (sym (and_left _ _ (ne_eqb a p other)))
+          ∙ sym (or-false (conflicts rows a b)) ∙ ap (λ x. conflicts rows a b || x) (sym (and_left _ _ (ne_eqb a p other)))
     ]
 
 pub bit-with_pair : (ops p q : ℕ) (words : List ℕ) (rows : List (List Bool)) → rows_of ops words ≡ rows → ops ≤ 64 → ops ≤ length words → p < length rows → q < length rows →

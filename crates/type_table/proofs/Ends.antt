@@ -1,28 +1,14 @@
 -- Where runs end.
-use Rattle.std.proofs.Common.{◌≡◌, ℕ, Bool, true, List, [], ◌∷◌, Option, Some, None, IsSome, refl}
+use Rattle.std.proofs.Common.{◌≡◌, ℕ, Bool, true, List, [], ◌∷◌, Some}
 use Rattle.std.specs.Prelude.{nat_lt}
-use Rattle.std.proofs.lemmas.Bool.{false≢true, ltb-true, lt-ltb}
+use Rattle.std.proofs.lemmas.Bool.{ltb-true, lt-ltb}
 use Rattle.type_table.specs.Table.{Table, next}
-use Rattle.type_table.specs.Run.{run, IsLegal}
+use Rattle.type_table.specs.Run.{run}
 use Rattle.type_table.specs.StateSet.{IsClosed}
 use Rattle.type_table.specs.Laws.{StepsWithin, EndsInside, EndsWithin, LegalEnds}
+use Rattle.type_table.proofs.Legal.{some_state, is_there, from_state}
 
--- ---- what is there
-
--- what is there is some state
-some_state : (o : Option ℕ) → IsSome o → (t : ℕ) × (o ≡ Some t)
-some_state None h = absurd (false≢true h)
-some_state (Some t) h = (t, refl)
-
--- what is some state is there
-pub is_there : (o : Option ℕ) (t : ℕ) → o ≡ Some t → IsSome o
-is_there o t e = rw e refl
-
--- where a list is legal, there is a state
-pub from_state : (T : Table) (o : Option ℕ) (w : List ℕ) → IsLegal T o w → (t : ℕ) × (o ≡ Some t)
-from_state T None [] h = absurd (false≢true h)
-from_state T None (k ∷ w) h = from_state T None w h
-from_state T (Some t) w h = (t, refl)
+-- ---- where a list is legal
 
 -- the law of legal lists
 pub legal-ends : LegalEnds

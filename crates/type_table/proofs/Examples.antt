@@ -6,7 +6,7 @@ use Rattle.type_table.specs.Run.{run, Looks}
 use Rattle.type_table.specs.ConflictTable.{conflicts}
 use Rattle.type_table.specs.Commute.{CommuteForward}
 use Rattle.type_table.specs.Examples.{counter, three_states, forward_pairs, one_way, five_states}
-use Rattle.type_table.proofs.Runs.{run_from_none}
+use Rattle.type_table.proofs.Legal.{run_from_none}
 
 -- a legal operation is one of the table's
 pub legal_inside : (T : Table) (s k : ℕ) → IsSome (next T s k) → k < length T.ops

@@ -1,7 +1,9 @@
 pub mod Buffer
 pub mod Cells
+pub mod Elements
 pub mod Ends
 pub mod Examples
+pub mod Legal
 pub mod Lists
 pub mod Padding
 pub mod Runs

@@ -7,9 +7,9 @@ use Rattle.type_table.specs.StateSet.{IsClosed}
 use Rattle.type_table.specs.Commute.{CommuteForward}
 use Rattle.type_table.specs.Laws.{IsExtended, RunsAlong, LooksExtends, EquiExtends}
 use Rattle.type_table.specs.Lists.{ListsForward, ListsBackward, ListsBackwardBothWays}
-use Rattle.type_table.proofs.Ends.{from_state, is_there}
+use Rattle.type_table.proofs.Legal.{is_there, from_state, legal_there, legal_here, related_here, equi-turned}
 
--- ---- elements and steps
+-- ---- elements and runs
 
 -- the first element of a list is one of its elements
 contains_head : (x : ℕ) (xs : List ℕ) → Contains (x ∷ xs) x
@@ -18,18 +18,6 @@ contains_head x xs = (0, omega arith, refl)
 -- an element of a list is one of the longer list
 contains_tail : (x y : ℕ) (xs : List ℕ) → Contains xs y → Contains (x ∷ xs) y
 contains_tail x y xs h = (suc h.0, omega (arith, h.1), h.2)
-
--- what is legal after a step is legal in the state to which it leads
-legal_there : (T : Table) (o : Option ℕ) (t : ℕ) (w : List ℕ) → o ≡ Some t → IsLegal T o w → IsLegal T (Some t) w
-legal_there T o t w e h = rw e at h
-
--- and the converse
-legal_here : (T : Table) (o : Option ℕ) (t : ℕ) (w : List ℕ) → o ≡ Some t → IsLegal T (Some t) w → IsLegal T o w
-legal_here T o t w e h = rw e h
-
--- ends after a step are related as the ends from the state to which it leads
-related_here : (T : Table) (R : Option ℕ → Option ℕ → Type 0) (o : Option ℕ) (t : ℕ) (v w : List ℕ) → o ≡ Some t → R (run T (Some t) v) (run T (Some t) w) → R (run T o v) (run T o w)
-related_here T R o t v w e h = rw e h
 
 -- a run along a list, one more operation and another list
 run-through : RunsAlong → (T : Table) (from : Option ℕ) (u v : List ℕ) (p : ℕ) → run T from (u ++ (p ∷ v)) ≡ run T (run T from (u ++ (p ∷ []))) v
@@ -86,10 +74,6 @@ backward_both_ways along extends = λ T set s u v closed member free. lists_back
 
 -- ---- forward
 
--- equieffective the other way round
-turned : (T : Table) (a b : Option ℕ) → AreEqui T a b → AreEqui T b a
-turned T a b h = (h.1, h.0)
-
 module _ (T : Table) (set : ℕ → Bool) (along : RunsAlong) (ext : IsExtended T (AreEqui T)) (closed : IsClosed T set) where
   -- equieffective composes
   equi_through : (a b d : Option ℕ) → AreEqui T a b → AreEqui T b d → AreEqui T a d
@@ -104,10 +88,10 @@ module _ (T : Table) (set : ℕ → Bool) (along : RunsAlong) (ext : IsExtended 
       let t = held.0 in
       let pair = free q (contains_head q v) s member p_legal (is_there (next T s q) t held.1) in
       let rest = one_forward p v t (closed s q t member held.1) (λ r inside. free r (contains_tail q r v inside)) (legal_there T (next T s q) t (p ∷ []) held.1 pair.1) (legal_there T (next T s q) t v held.1 h) in
-      let later = ext.after (run T (Some s) (q ∷ p ∷ [])) (run T (Some s) (p ∷ q ∷ [])) v (turned T _ _ pair.2) (legal_here T (next T s q) t (p ∷ v) held.1 rest.0) in (
+      let later = ext.after (run T (Some s) (q ∷ p ∷ [])) (run T (Some s) (p ∷ q ∷ [])) v (equi-turned T _ _ pair.2) (legal_here T (next T s q) t (p ∷ v) held.1 rest.0) in (
         later.0,
         legal_here T (next T s q) t (v ++ (p ∷ [])) held.1 rest.1,
-        equi_through (run T (Some s) (p ∷ q ∷ v)) (run T (Some s) (q ∷ p ∷ v)) (run T (Some s) (q ∷ (v ++ (p ∷ [])))) (turned T _ _ later.1) (related_here T (AreEqui T) (next T s q) t (p ∷ v) (v ++ (p ∷ [])) held.1 rest.2),
+        equi_through (run T (Some s) (p ∷ q ∷ v)) (run T (Some s) (q ∷ p ∷ v)) (run T (Some s) (q ∷ (v ++ (p ∷ [])))) (equi-turned T _ _ later.1) (related_here T (AreEqui T) (next T s q) t (p ∷ v) (v ++ (p ∷ [])) held.1 rest.2),
       )
 
   -- a list against a list

@@ -4,6 +4,7 @@ use Rattle.std.proofs.lemmas.List.{at_drop_more}
 use Rattle.type_table.specs.Table.{Table, next}
 use Rattle.type_table.specs.Run.{next_of, run, Looks, AreEqui}
 use Rattle.type_table.specs.Laws.{LooksExtends, EquiExtends}
+use Rattle.type_table.proofs.Legal.{run_from_none}
 
 pub run-append : (T : Table) (from : Option ℕ) (v w : List ℕ) → run T from (v ++ w) ≡ run T (run T from v) w
 run-append T from [] w = refl
@@ -30,11 +31,6 @@ equi_extends T = record {
   through = λ a b c h k. (λ ks legal. k.0 ks (h.0 ks legal), λ ks legal. h.1 ks (k.1 ks legal));
   after = λ a b w h legal. (h.0 w legal, AreEqui-run T a b w h);
 }
-
--- nothing is legal where there is no state
-pub run_from_none : (T : Table) (ks : List ℕ) → run T None ks ≡ None
-run_from_none T [] = refl
-run_from_none T (k ∷ ks) = run_from_none T ks
 
 -- a run ends at an operation that isn't legal
 pub run_stuck : (T : Table) (s : ℕ) (ks : List ℕ) (i : ℕ) → i < length ks → next T s (get_or ks i 0) ≡ None → run T (Some s) (drop i ks) ≡ None

@@ -1,3 +1,4 @@
+pub mod Limits
 pub mod Name
 pub mod Kind
 pub mod Padded

@@ -2,6 +2,7 @@
 use Rattle.std.specs.Prelude.{◌≡◌, ℕ, ◌+◌, ◌*◌, ◌<◌, ◌≤◌, Bool, false, true, not, List, [], length, map, nat_lt, if◌then◌else◌, Option, Some, None, slice_get, slice_index_or, option_and_then}
 use Rattle.std.specs.List.{list_all, position}
 use Rattle.std.specs.Str.{bytes_eq}
+use Rattle.type_table.specs.Limits.{most_states, most_ops}
 use Rattle.type_table.specs.Op.{has_twin}
 use Rattle.type_table.specs.Counts.{has_counts, is_inside}
 use Rattle.type_table.specs.declared.op.Op.{Op}
@@ -52,9 +53,9 @@ table_fault T =
 -- what is known of each table
 pub record IsTable (T : Table) : Type 0 where
   pub some_states : 0 < T.states
-  pub states_fit : T.states ≤ 1024
+  pub states_fit : T.states ≤ most_states
   pub some_ops : 0 < length T.ops
-  pub ops_fit : length T.ops ≤ 64
+  pub ops_fit : length T.ops ≤ most_ops
   pub whole : length T.steps ≡ T.states * length T.ops
   pub initial_inside : T.initial < T.states
   pub steps_inside : list_all (is_inside T.states) T.steps ≡ true

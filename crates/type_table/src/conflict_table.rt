@@ -1,7 +1,9 @@
 ghost use Rattle.std.specs.Prelude.{◌≡◌, ◌≤◌, ◌<◌, ◌==◌, ◌&&◌, ◌||◌, ℕ, false, length};
 ghost use Rattle.std.specs.Int.{bit_at};
 ghost use Rattle.type_table.specs.ConflictTable.{conflicts, IsSquare};
+ghost use Rattle.type_table.specs.Limits.{most_ops};
 
+use crate::limits::MOST_OPS;
 use std::marker::Model;
 
 /// Which pairs of operations conflict: the first is requested, the second is held.
@@ -9,29 +11,30 @@ use std::marker::Model;
 /// Contracts see it as a row for each requested operation, with a cell for each held one.
 #[derive(Drop)]
 pub struct ConflictTable {
-    words: [u64; 64],
+    words: [u64; MOST_OPS],
     ops: u8,
 }
 
 impl Model for ConflictTable {
     ghost use Rattle.std.specs.Prelude.{◌≤◌, Bool, List};
     ghost use Rattle.type_table.specs.ConflictTable.{rows_of};
+    ghost use Rattle.type_table.specs.Limits.{most_ops};
 
     ghost Value = { List (List Bool) };
 
     ghost view = { λ a. rows_of a.ops a.words };
 
-    ghost invariant = { λ a. a.ops ≤ 64 };
+    ghost invariant = { λ a. a.ops ≤ most_ops };
 }
 
 impl ConflictTable {
     /// A table of no pair, for at most 64 operations.
     pub fn new(ops: u8) -> ConflictTable
-        requires { ops ≤ 64 }
+        requires { ops ≤ most_ops }
         ensures square { IsSquare ops result }
         ensures none { (p q : ℕ) → conflicts result p q ≡ false }
     {
-        let words = [0; 64];
+        let words = [0; MOST_OPS];
         ConflictTable { words, ops }
     }
 

@@ -5,6 +5,7 @@
 mod conflict_table;
 mod kind;
 mod laws;
+mod limits;
 mod name;
 mod op;
 mod state_set;
@@ -16,6 +17,10 @@ pub use kind::Kind;
 pub use laws::{
     ends_inside, ends_within, equi_after, equi_extends, legal_ends, lists_backward,
     lists_backward_both_ways, lists_forward, looks_after, looks_extends, runs_along, steps_within,
+};
+pub use limits::{
+    LONGEST_LINE, LONGEST_NAME, MOST_EVENTS, MOST_OBJECTS, MOST_OPEN, MOST_OPS, MOST_STATES,
+    MOST_TRIES, MOST_WORKERS, limits_agree,
 };
 pub use name::Name;
 pub use op::Op;

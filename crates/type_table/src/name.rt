@@ -6,8 +6,10 @@ ghost use Rattle.std.specs.Cmp.{partial_equiv_from_equiv};
 ghost use Rattle.std.specs.Cmp.Lexicographic.{nat_list_eq_equiv};
 ghost use Rattle.std.specs.Cmp.Rules.{hashing};
 ghost use Rattle.std.proofs.Common.{rules};
+ghost use Rattle.type_table.specs.Limits.{longest_name};
 ghost use Rattle.type_table.specs.Name.{is_name, is_name_byte};
 
+use crate::limits::LONGEST_NAME;
 use std::hash::{Hash, Hasher};
 use std::marker::Model;
 
@@ -16,12 +18,13 @@ use std::marker::Model;
 /// Contracts see a name as the list of its bytes.
 #[derive(Clone, Copy)]
 pub struct Name {
-    bytes: [u8; 32],
+    bytes: [u8; LONGEST_NAME],
     len: u8,
 }
 
 impl Model for Name {
     ghost use Rattle.std.specs.Prelude.{◌≡◌, ℕ, ◌-◌, List, ◌++◌, length, take, drop, replicate, true};
+    ghost use Rattle.type_table.specs.Limits.{longest_name};
     ghost use Rattle.type_table.specs.Name.{is_name};
     ghost use Rattle.type_table.specs.Padded.{IsPadded, padded_again, length-padded};
 
@@ -29,9 +32,9 @@ impl Model for Name {
 
     ghost view = { λ a. take a.len a.bytes };
 
-    ghost invariant = { λ a. IsPadded 32 0 a.bytes a.len × (is_name (take a.len a.bytes) ≡ true) };
+    ghost invariant = { λ a. IsPadded longest_name 0 a.bytes a.len × (is_name (take a.len a.bytes) ≡ true) };
 
-    ghost inverse = { λ w. record { bytes = w ++ replicate (32 - length w) 0; len = length w } };
+    ghost inverse = { λ w. record { bytes = w ++ replicate (longest_name - length w) 0; len = length w } };
 
     ghost inverse_ok = { λ a h i. record {
       bytes = padded_again a.bytes a.len h.0 i;
@@ -41,7 +44,7 @@ impl Model for Name {
 
 impl Name {
     /// The most bytes that a name has.
-    pub const MOST: usize = 32;
+    pub const MOST: usize = LONGEST_NAME;
 
     /// The name of a text, where the text is one.
     pub fn new(text: &str) -> Option<Name>
@@ -57,7 +60,7 @@ impl Name {
         if !is_name(bytes) {
             return None;
         }
-        let mut buffer = [0; 32];
+        let mut buffer = [0; LONGEST_NAME];
         buffer[..bytes.len()].copy_from_slice(bytes);
         let len = bytes.len() as u8;
         Some(Name { bytes: buffer, len })
@@ -100,7 +103,7 @@ impl Hash for Name {
 #[tactic(auto, unfolding(crate::specs::Name::is_name))]
 fn is_name(bytes: &[u8]) -> bool
     ensures exact { result ≡ is_name bytes.now }
-    ensures short { result ≡ true → length bytes.now ≤ 32 }
+    ensures short { result ≡ true → length bytes.now ≤ longest_name }
 {
     1 <= bytes.len() && bytes.len() <= Name::MOST && are_name_bytes(bytes)
 }

@@ -1,6 +1,8 @@
 ghost use Rattle.std.specs.Prelude.{◌≡◌, ◌≤◌, ◌<◌, true, false, length, replicate, slice_set};
+ghost use Rattle.type_table.specs.Limits.{most_states};
 ghost use Rattle.type_table.specs.StateSet.{has};
 
+use crate::limits::MOST_STATES;
 use std::marker::Model;
 
 /// A set of states of a type of at most 1,024 states. It takes no memory.
@@ -8,21 +10,22 @@ use std::marker::Model;
 /// Contracts see it as a list that says of each state whether it is a member.
 #[derive(Clone, Copy)]
 pub struct StateSet {
-    members: [bool; 1024],
+    members: [bool; MOST_STATES as usize],
     states: u16,
 }
 
 impl Model for StateSet {
     ghost use Rattle.std.specs.Prelude.{Bool, false, ◌-◌, List, ◌++◌, length, take, replicate};
+    ghost use Rattle.type_table.specs.Limits.{most_states};
     ghost use Rattle.type_table.specs.Padded.{IsPadded, padded_again, length-padded};
 
     ghost Value = { List Bool };
 
     ghost view = { λ a. take a.states a.members };
 
-    ghost invariant = { λ a. IsPadded 1024 false a.members a.states };
+    ghost invariant = { λ a. IsPadded most_states false a.members a.states };
 
-    ghost inverse = { λ w. record { members = w ++ replicate (1024 - length w) false; states = length w } };
+    ghost inverse = { λ w. record { members = w ++ replicate (most_states - length w) false; states = length w } };
 
     ghost inverse_ok = { λ a h i. record {
       members = padded_again a.members a.states h i;
@@ -32,11 +35,11 @@ impl Model for StateSet {
 
 impl StateSet {
     /// The most states of a type.
-    pub const MOST: u16 = 1024;
+    pub const MOST: u16 = MOST_STATES;
 
     /// The set of all states. There are at most 1,024.
     pub fn all(states: u16) -> StateSet
-        requires { states ≤ 1024 }
+        requires { states ≤ most_states }
         ensures { result ≡ replicate states true }
     {
         let mut set = StateSet::empty(states);
@@ -48,10 +51,10 @@ impl StateSet {
 
     /// The set of no state. There are at most 1,024 states.
     pub fn empty(states: u16) -> StateSet
-        requires { states ≤ 1024 }
+        requires { states ≤ most_states }
         ensures { result ≡ replicate states false }
     {
-        let members = [false; 1024];
+        let members = [false; MOST_STATES as usize];
         StateSet { members, states }
     }
 

@@ -6,6 +6,7 @@ ghost use Rattle.type_table.specs.Run.{run};
 ghost use Rattle.type_table.specs.Op.{has_twin};
 ghost use Rattle.type_table.specs.Counts.{has_counts, is_inside};
 
+use crate::limits::{MOST_OPS, MOST_STATES};
 use crate::name::Name;
 use crate::op::Op;
 use crate::table_error::TableError;
@@ -184,7 +185,11 @@ impl TypeTable {
 fn has_counts(states: u16, ops: usize, steps: usize) -> bool
     ensures { result ≡ has_counts states ops steps }
 {
-    1 <= states && states <= 1024 && 1 <= ops && ops <= 64 && steps == states as usize * ops
+    1 <= states
+        && states <= MOST_STATES
+        && 1 <= ops
+        && ops <= MOST_OPS
+        && steps == states as usize * ops
 }
 
 fn are_inside(states: u16, steps: &[Option<u16>]) -> bool

@@ -1,22 +1,17 @@
 -- Lines that pass their tests one behind the other.
-use Rattle.std.proofs.Common.{◌≡◌, ℕ, zero, suc, ◌+◌, ◌<◌, ◌≤◌, false, cond, eqb, ltb, List, [], ◌∷◌, ◌++◌, length, take, get_or, Some, None, Contains, refl, sym, ap, subst, ◌∙◌, arith, append_assoc}
+use Rattle.std.proofs.Common.{◌≡◌, ℕ, zero, suc, ◌+◌, ◌<◌, ◌≤◌, false, cond, eqb, ltb, List, [], ◌∷◌, ◌++◌, length, take, get_or, Some, Contains, refl, sym, ap, subst, ◌∙◌, arith, append_assoc}
 use Rattle.std.specs.List.{All, flat_map, range_with_len, slice_get, sum_by}
 use Rattle.std.proofs.lemmas.Bool.{lt-ltb, ne_eqb}
 use Rattle.std.proofs.lemmas.List.{append-nil, length-append, take-append-le}
 use Rattle.std.proofs.lemmas.List.Elements.{All-head, All-tail, All-take, Contains-get_or}
 use Rattle.std.proofs.lemmas.List.Sums.{sum_by-append, sum_by-cons}
 use Rattle.std.proofs.lemmas.Option.{none-some, same_Some}
-use Rattle.line_text.specs.Rules.{Rules, has_stood}
-use Rattle.line_text.specs.LineTests.{item_fault}
+use Rattle.line_text.specs.Rules.{has_stood}
 use Rattle.line_text.specs.Accepted.{HasPassed, IsAccepted}
+use Rattle.line_text.proofs.Items.{no_fault}
 use Rattle.type_text.specs.declared.type_line.TypeLine.{TypeLine}
 use Rattle.type_text.specs.declared.type_line.TypeLine.TheVariants.{End}
 use Rattle.type_text.specs.TypeLines.{rank_of, type_rules}
-
--- an item that passes each test has no fault
-no_fault : {Item : Type 0} (g : Rules Item) (before : List Item) (x : Item) → HasPassed g before x → item_fault g before x ≡ None
-unfolding item_fault
-no_fault g before x h = rw (h.in_order, h.lacks_none, h.misses_none, h.in_range, h.has_room, h.ascending, h.no_twin) refl
 
 -- each of these lines passes its tests behind the lines before and those in front of it
 abbrev pub Follow : List TypeLine → List TypeLine → Type 0

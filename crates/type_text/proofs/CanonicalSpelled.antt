@@ -1,16 +1,15 @@
 -- The words of a line say it.
-use Rattle.std.proofs.Common.{◌≡◌, ℕ, ◌+◌, ◌<◌, ◌≤◌, ◌^◌, Bool, true, ◌&&◌, leb, List, [], ◌∷◌, length, refl, arith}
+use Rattle.std.proofs.Common.{◌≡◌, ℕ, ◌<◌, ◌^◌, true, List, [], ◌∷◌, refl, arith}
 use Rattle.std.specs.Prelude.{codes}
 use Rattle.std.specs.Fmt.{decimal}
-use Rattle.std.specs.List.{AllByRecursion, list_all}
-use Rattle.std.proofs.lemmas.Bool.{leb-true, and_parts}
-use Rattle.std.proofs.lemmas.List.{length-append}
+use Rattle.std.specs.List.{AllByRecursion}
 use Rattle.type_table.specs.Name.{is_name}
 use Rattle.type_table.specs.declared.kind.Kind.{Kind}
 use Rattle.type_table.specs.declared.kind.Kind.TheVariants.{Undo, Intentions}
 use Rattle.type_table.specs.declared.op.Op.{Op}
 use Rattle.line_text.specs.Shapes.{exactly, number_at, name_at, kind_at, is_key}
-use Rattle.line_text.specs.Spelling.{spaced, IsWord, Spells, NumberIsReadAgain, NameIsWord}
+use Rattle.line_text.specs.Spelling.{IsWord, Spells, NumberIsReadAgain, NameIsWord}
+use Rattle.line_text.proofs.Items.{keyword, length-spaced}
 use Rattle.type_text.specs.declared.type_line.TypeLine.{TypeLine}
 use Rattle.type_text.specs.declared.type_line.TypeLine.TheVariants.{TypeName, States, Initial, Operation, Step, Reach, Equi, Conflict, End}
 use Rattle.type_text.specs.TypeLines.{line_of, type_name_of, states_of_words, initial_of_words, operation_of, step_of, reach_of_words, equi_of, conflict_of, end_of, type_rules}
@@ -19,29 +18,9 @@ use Rattle.type_text.proofs.CanonicalEntries.{IsSmall}
 
 -- ---- words
 
--- a byte that a word may have, as a test
-abbrev is_word_byte : ℕ → Bool
-is_word_byte b = leb 33 b && leb b 126
-
--- bytes that pass the test
-word_bytes : (w : List ℕ) → list_all is_word_byte w ≡ true → AllByRecursion (λ b. (33 ≤ b) × (b ≤ 126)) w
-word_bytes [] h = tt
-word_bytes (b ∷ w) h =
-    let parts = and_parts (is_word_byte b) (list_all is_word_byte w) h in
-    let ends = and_parts (leb 33 b) (leb b 126) parts.0 in
-    ((leb-true 33 b ends.0, leb-true b 126 ends.1), word_bytes w parts.1)
-
--- a keyword is a word
-keyword : (w : List ℕ) → leb 1 (length w) ≡ true → list_all is_word_byte w ≡ true → IsWord w
-keyword w some each = (omega (arith, leb-true 1 (length w) some), word_bytes w each)
-
 -- the words of a line
 abbrev AreWords : List (List ℕ) → Type 0
 AreWords ws = AllByRecursion IsWord ws
-
--- the length of a line with one more word in front
-length-spaced : (w v : List ℕ) (ws : List (List ℕ)) → length (spaced (w ∷ v ∷ ws)) ≡ length w + 1 + length (spaced (v ∷ ws))
-length-spaced w v ws = omega (arith, length-append w (32 ∷ spaced (v ∷ ws)))
 
 module _ (numbers : (n : ℕ) → n < 10 ^ 7 → NumberIsReadAgain n) (names : (w : List ℕ) → NameIsWord w) where
   -- the words of a `type` line

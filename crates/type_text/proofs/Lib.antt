@@ -1,4 +1,3 @@
-pub mod Turns
 pub mod Members
 pub mod Rows
 pub mod RowFiles

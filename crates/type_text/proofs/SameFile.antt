@@ -5,6 +5,7 @@ use Rattle.std.proofs.Math.Nat.{div-add-mod, mod-lt}
 use Rattle.type_table.specs.Table.{Table, IsTable, next}
 use Rattle.type_table.specs.StateSet.{has}
 use Rattle.type_table.specs.ConflictTable.{conflicts, IsSquare}
+use Rattle.type_table.proofs.Legal.{next-entry}
 use Rattle.equi_cert.specs.Relation.{relates}
 use Rattle.equi_cert.specs.Laws.{SamePairs}
 use Rattle.type_text.specs.declared.type_file.TypeFile.{TypeFile}
@@ -12,7 +13,6 @@ use Rattle.type_text.specs.declared.type_line.TypeLine.{TypeLine}
 use Rattle.type_text.specs.declared.type_line.TypeLine.TheVariants.{TypeName, States, Initial, Step}
 use Rattle.type_text.specs.TypeFile.{IsTableOf, IsReached, IsFileOf}
 use Rattle.type_text.specs.Canonical.{IsTypeFile, canonical_lines, CanonicalIsRead, LinesTellTheFile, WrittenIsRead}
-use Rattle.type_text.proofs.Tables.{next-entry}
 
 -- ---- tests and values that one statement decides
 

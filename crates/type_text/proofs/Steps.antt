@@ -2,7 +2,7 @@
 use Rattle.std.proofs.Common.{◌≡◌, ℕ, ◌+◌, ◌*◌, ◌<◌, ◌↔◌, List, [], length, take, get_or, set, replicate, Option, Some, None, Contains, refl, sym, ap, ◌∙◌, inl, inr, arith}
 use Rattle.std.proofs.lemmas.Bool.{cases_eq, cases_lt}
 use Rattle.std.proofs.lemmas.List.{get_or-set_same, get_or-set_other, get_or-replicate, get_or_past, length-replicate}
-use Rattle.std.proofs.Math.Nat.{mul-le-mul_left}
+use Rattle.std.proofs.lemmas.Nat.{same_from_place}
 use Rattle.type_text.proofs.Members.{Contains-more, Contains-last, Contains-more_cases, Contains-front, at-place}
 use Rattle.type_text.specs.declared.type_line.TypeLine.{TypeLine}
 use Rattle.type_text.specs.declared.type_line.TypeLine.TheVariants.{TypeName, States, Initial, Operation, Step, Reach, Equi, Conflict, End}
@@ -36,17 +36,6 @@ steps_none ops n steps empty = λ s k t below. (
   λ h. absurd (omega (arith, h.1)),
 )
 
--- two places are of one state and one operation
-same_place : (ops s k r j : ℕ) → k < ops → j < ops → s * ops + k ≡ r * ops + j → (s ≡ r) × (k ≡ j)
-same_place ops s k r j k_in j_in e =
-    elim (cases_lt s r) [
-      | inl less ↦ absurd (omega (arith, e, k_in, mul-le-mul_left ops less))
-      | inr more ↦ elim (cases_lt r s) [
-        | inl greater ↦ absurd (omega (arith, e, j_in, mul-le-mul_left ops greater))
-        | inr fine ↦ let same : s ≡ r = omega arith in (same, omega (arith, e, ap (λ x. x * ops) same))
-      ]
-    ]
-
 -- a line of another section
 pub steps_other : (ops i : ℕ) (lines : List TypeLine) (line : TypeLine) (steps : List (Option ℕ)) → i < length lines → line ≡ get_or lines i line →
     ((s k t : ℕ) → line ≡ Step s k t → ⊥) → AreStepsOf ops (take i lines) steps → AreStepsOf ops (take (i + 1) lines) steps
@@ -64,7 +53,7 @@ pub steps_step : (ops i a b u : ℕ) (lines : List TypeLine) (steps : List (Opti
     AreStepsOf ops (take i lines) steps → AreStepsOf ops (take (i + 1) lines) (set steps (a * ops + b) (Some u))
 steps_step ops i a b u lines steps below e b_in place once so_far = λ s k t k_in.
     elim (cases_eq (s * ops + k) (a * ops + b)) [
-      | inl same ↦ let where_it_is = same_place ops s k a b k_in b_in same in
+      | inl same ↦ let where_it_is = same_from_place s k a b ops k_in b_in same in
           let entry : get_or (set steps (a * ops + b) (Some u)) (s * ops + k) None ≡ Some u = rw same (get_or-set_same steps (a * ops + b) (Some u) None place) in (
             λ h. let t_is : t ≡ u = cc in rw (where_it_is.0, where_it_is.1, t_is) (Contains-last lines i (Step a b u) below e),
             λ h. let t_is : t ≡ u = once t (Contains-front lines (i + 1) (Step a b t) (rw (where_it_is.0, where_it_is.1) at h)) in entry ∙ ap Some (sym t_is),

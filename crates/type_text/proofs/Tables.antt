@@ -1,28 +1,19 @@
 -- The table that lines describe.
-use Rattle.std.proofs.Common.{◌≡◌, ℕ, ◌+◌, ◌*◌, ◌/◌, ◌%◌, ◌<◌, ◌≤◌, ◌↔◌, Bool, true, false, cond, List, length, get_or, Option, Some, None, Contains, option_and_then, unwrap_or, refl, sym, ap, ◌∙◌, arith}
+use Rattle.std.proofs.Common.{◌≡◌, ℕ, ◌+◌, ◌*◌, ◌/◌, ◌%◌, ◌<◌, ◌≤◌, ◌↔◌, Bool, true, false, cond, List, length, get_or, Option, Some, None, Contains, refl, sym, ap, ◌∙◌, arith}
 use Rattle.std.specs.List.{slice_get, list_all}
 use Rattle.std.proofs.lemmas.Bool.{lt-ltb, le-leb, ltb-true, eq-eqb}
 use Rattle.std.proofs.lemmas.List.{get_or_default}
 use Rattle.std.proofs.lemmas.List.Sums.{list_all-from_AllPass}
-use Rattle.std.proofs.lemmas.Option.{unwrap_or-slice_get}
 use Rattle.std.proofs.Math.Nat.{div-add-mod, mod-lt}
 use Rattle.type_table.specs.Op.{has_twin}
 use Rattle.type_table.specs.Counts.{is_inside}
 use Rattle.type_table.specs.Table.{Table, next, table_fault}
+use Rattle.type_table.proofs.Legal.{next-entry}
 use Rattle.type_text.specs.TypeLines.{ops_of, states_in, states_of, AreTypeLines}
 use Rattle.type_text.specs.TypeFile.{IsTableOf}
 use Rattle.type_text.specs.declared.type_line.TypeLine.{TypeLine}
 use Rattle.type_text.specs.declared.type_line.TypeLine.TheVariants.{TypeName, States, Initial, Step}
 use Rattle.type_text.proofs.Steps.{AreStepsOf}
-
-flat : (o : Option (Option ℕ)) → option_and_then (λ entry. entry) o ≡ unwrap_or o None
-flat None = refl
-flat (Some entry) = refl
-
--- the next state of an operation is its entry
-pub next-entry : (T : Table) (s k : ℕ) → k < length T.ops → next T s k ≡ get_or T.steps (s * length T.ops + k) None
-unfolding next
-next-entry T s k below = rw (lt-ltb k (length T.ops) below) (flat (slice_get T.steps (s * length T.ops + k)) ∙ unwrap_or-slice_get T.steps (s * length T.ops + k) None)
 
 -- a step is of an operation
 pub next-below : (T : Table) (s k t : ℕ) → next T s k ≡ Some t → k < length T.ops

@@ -1,7 +1,7 @@
 -- How the text of a type file is put together from what its writer writes.
 use Rattle.std.proofs.Common.{◌≡◌, ℕ, zero, suc, ◌+◌, ◌<◌, ◌≤◌, List, [], ◌∷◌, ◌++◌, length, take, get_or, map, Option, Result, Ok, Err, refl, sym, ap, ◌∙◌, subst, arith, append_assoc, append-nil, zero-add}
 use Rattle.std.proofs.lemmas.Grind.{flat_map-append}
-use Rattle.std.proofs.lemmas.List.{take_more, take_all, map-append}
+use Rattle.std.proofs.lemmas.List.{map-append}
 use Rattle.std.proofs.lemmas.List.Folds.{flat_map-map}
 use Rattle.std.proofs.lemmas.List.FromFn.{length-range_with_len, get_or-range_with_len}
 use Rattle.std.specs.List.{flat_map, range_with_len}
@@ -9,16 +9,17 @@ use Rattle.std.specs.Result.{IsErrAnd}
 use Rattle.line_text.specs.Spelling.{spaced, text_of}
 use Rattle.type_table.specs.declared.op.Op.{Op}
 use Rattle.type_table.specs.declared.kind.Kind.TheVariants.{Undo, Intentions}
+use Rattle.type_table.proofs.Elements.{range-more}
 use Rattle.outputs.specs.Out.{Puts, PutsItems, PutsJoin}
 use Rattle.type_text.specs.Canonical.{words_of, lines_of_entries, canonical_lines, canonical_text}
 use Rattle.type_text.specs.declared.entries.Entries.{Entries}
 use Rattle.type_text.specs.declared.entries.Entries.TheVariants.{Steps, Members, Pairs, Conflicts}
 use Rattle.outputs.specs.declared.out.OutFault.{OutFault}
+use Rattle.outputs.proofs.Turns.{Puts-append, Puts-exit_at}
 use Rattle.type_text.specs.declared.type_file.TypeFile.{TypeFile}
 use Rattle.type_text.specs.declared.type_line.TypeLine.{TypeLine}
 use Rattle.type_text.specs.declared.type_line.TypeLine.TheVariants.{TypeName, States, Initial, Operation, End}
 use Rattle.type_text.proofs.Members.{take-more}
-use Rattle.type_text.proofs.Turns.{Puts-append, Puts-exit_at}
 
 -- ---- lines
 
@@ -39,15 +40,6 @@ pub take-range : (a n i : ℕ) → i ≤ n → take i (range_with_len a n) ≡ r
 take-range a n zero h = refl
 take-range a zero (suc i) h = absurd (omega (arith, h))
 take-range a (suc n) (suc i) h = ap (λ l. a ∷ l) (take-range (a + 1) n i (omega (arith, h)))
-
--- one more number
-pub range-more : (i : ℕ) → range_with_len 0 (i + 1) ≡ range_with_len 0 i ++ i ∷ []
-range-more i =
-    let long : length (range_with_len 0 (i + 1)) ≡ i + 1 = length-range_with_len 0 (i + 1) in
-    sym (take_all (i + 1) (range_with_len 0 (i + 1)) (omega (arith, long)))
-    ∙ take_more (range_with_len 0 (i + 1)) i 0 (omega (arith, long))
-    ∙ ap (λ l. l ++ get_or (range_with_len 0 (i + 1)) i 0 ∷ []) (take-range 0 (i + 1) i (omega arith))
-    ∙ ap (λ k. range_with_len 0 i ++ k ∷ []) (get_or-range_with_len 0 (i + 1) i 0 (omega arith) ∙ zero-add i)
 
 -- ---- groups that are written in turn
 

@@ -1,5 +1,6 @@
 -- The grammar of type files, and what its lines say together.
 use Rattle.std.specs.Prelude.{◌≡◌, ℕ, ◌<◌, ◌≤◌, Bool, true, false, not, ◌&&◌, List, [], ◌∷◌, length, take, nat_lt, nat_le, ◌==◌, if◌then◌else◌, count_by, slice_get, Option, Some, None, Result, Ok, Err, Contains, codes}
+use Rattle.type_table.specs.Limits.{most_states, most_ops}
 use Rattle.std.specs.List.{filter_map, list_any}
 use Rattle.type_table.specs.Op.{is_same_op}
 use Rattle.type_table.specs.declared.kind.Kind.{Kind}
@@ -141,7 +142,7 @@ any_lines = record { is_single = false; is_needed = false; most = None }
 
 -- the `op` lines: 1 to 64
 abbrev pub op_lines : Section
-op_lines = record { is_single = false; is_needed = true; most = Some 64 }
+op_lines = record { is_single = false; is_needed = true; most = Some most_ops }
 
 abbrev pub sections : List Section
 sections = one_line ∷ one_line ∷ one_line ∷ op_lines ∷ any_lines ∷ any_lines ∷ any_lines ∷ any_lines ∷ any_lines ∷ one_line ∷ []
@@ -171,7 +172,7 @@ op_count lines = count_by (λ x. rank_of x == op_rank) lines
 -- ---- the tests of a line behind others
 
 abbrev pub is_in_range : List TypeLine → TypeLine → Bool
-is_in_range before (States states) = nat_le 1 states && nat_le states 1024
+is_in_range before (States states) = nat_le 1 states && nat_le states most_states
 is_in_range before (Initial s) = nat_lt s (states_of before)
 is_in_range before (Step s k t) = nat_lt s (states_of before) && nat_lt k (op_count before) && nat_lt t (states_of before)
 is_in_range before (Reach s) = nat_lt s (states_of before)
@@ -208,10 +209,10 @@ type_rules = record {
 -- what is known of the lines of an accepted text
 pub record AreTypeLines (lines : List TypeLine) : Type 0 where
   pub name : (name : List ℕ) × (slice_get lines 0 ≡ Some (TypeName name))
-  pub states : (states : ℕ) × (slice_get lines 1 ≡ Some (States states)) × (1 ≤ states) × (states ≤ 1024)
+  pub states : (states : ℕ) × (slice_get lines 1 ≡ Some (States states)) × (1 ≤ states) × (states ≤ most_states)
   pub initial : (s : ℕ) × (slice_get lines 2 ≡ Some (Initial s)) × (s < states_of lines)
   pub some_op : 0 < length (ops_of lines)
-  pub ops_fit : length (ops_of lines) ≤ 64
+  pub ops_fit : length (ops_of lines) ≤ most_ops
   pub ops_differ : (i : ℕ) (op : Op) → slice_get lines i ≡ Some (Operation op) → list_any (is_same_op op) (ops_of (take i lines)) ≡ false
   pub steps_inside : (s k t : ℕ) → Contains lines (Step s k t) → (s < states_of lines) × (k < length (ops_of lines)) × (t < states_of lines)
   pub steps_once : (s k t u : ℕ) → Contains lines (Step s k t) → Contains lines (Step s k u) → t ≡ u

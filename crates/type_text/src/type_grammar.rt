@@ -8,7 +8,7 @@ use crate::type_line::TypeLine;
 use crate::type_lines::TypeLines;
 use line_text::{FaultKind, Grammar, Section, exactly, is_key, kind_at, name_at, number_at};
 use std::alloc::{AllocError, Global};
-use type_table::{Kind, Op};
+use type_table::{Kind, MOST_OPS, MOST_STATES, Op};
 
 const ONE_LINE: Section = Section {
     is_single: true,
@@ -25,7 +25,7 @@ const ANY_LINES: Section = Section {
 const OP_LINES: Section = Section {
     is_single: false,
     is_needed: true,
-    most: Some(64),
+    most: Some(MOST_OPS),
 };
 
 /// The sections by rank.
@@ -130,7 +130,7 @@ impl Grammar for TypeGrammar {
         let states = before.states();
         let ops = counts[OP_RANK];
         match item {
-            TypeLine::States(states) => 1 <= states && states <= 1024,
+            TypeLine::States(states) => 1 <= states && states <= MOST_STATES as u32,
             TypeLine::Initial(s) => s < states,
             TypeLine::Step { s, k, t } => s < states && (k as usize) < ops && t < states,
             TypeLine::Reach(s) => s < states,

@@ -3,10 +3,10 @@ use Rattle.std.proofs.Common.{◌≡◌, ◌+◌, ℕ, Bool, true, false, not, �
 use Rattle.std.proofs.lemmas.Bool.{cases_Bool, and_left, and_from, not_from_false, cond-true, cond-false, eqb-true, eq-eqb}
 use Rattle.std.proofs.lemmas.List.{append-nil, length_push}
 use Rattle.std.proofs.lemmas.List.Elements.{filter-append}
+use Rattle.type_table.proofs.Elements.{differ_turned}
 use Rattle.object_trait.specs.Meaning.{is_open_of, open_of}
 use Rattle.object_trait.specs.Steps.{marked}
 use Rattle.object_trait.specs.declared.log_entry.LogEntry.{LogEntry}
-use Rattle.undo_manager.proofs.Recounting.{differ_turned}
 
 -- ---- marks
 

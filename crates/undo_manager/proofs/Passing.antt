@@ -1,8 +1,9 @@
 -- Logs that are passed from the back, in search of a transaction's open entries.
-use Rattle.std.proofs.Common.{◌≡◌, ◌<◌, ◌≤◌, ◌+◌, ◌-◌, ℕ, zero, suc, Bool, true, false, not, ◌&&◌, ◌||◌, eqb, cond, List, [], ◌∷◌, ◌++◌, map, length, take, drop, get_or, set, refl, sym, ap, ◌∙◌, inl, inr, arith}
+use Rattle.std.proofs.Common.{◌≡◌, ◌<◌, ◌≤◌, ◌+◌, ◌-◌, ℕ, zero, suc, true, false, not, eqb, cond, List, [], ◌∷◌, ◌++◌, map, length, take, drop, get_or, set, refl, sym, ap, ◌∙◌, inl, inr, arith}
 use Rattle.std.proofs.lemmas.Bool.{cases_Bool, and_parts, or_right}
 use Rattle.std.proofs.lemmas.List.{drop_more, drop_all, drop-set, take-set, take-take, take-append-drop, map-append, set-get_or, get_or-take, length-set}
 use Rattle.object_trait.specs.Meaning.{is_open_of, open_of}
+use Rattle.object_trait.proofs.Runs.{same_mark}
 use Rattle.undo_manager.specs.Log.{entries, marked_one}
 use Rattle.undo_manager.specs.declared.undo_entry.UndoEntry.{UndoEntry}
 
@@ -59,12 +60,6 @@ pub none-front : (t place : ℕ) (log : List UndoEntry) → opens t (drop place 
 none-front t place log all = omega (arith, opens-split t place log)
 
 -- ---- marks
-
--- a mark changes no entry that is done or another's
-same_mark : (done by_t : Bool) → (by_t && not done) ≡ false → (done || by_t) ≡ done
-same_mark true by_t isnt = refl
-same_mark false true isnt = isnt
-same_mark false false isnt = refl
 
 -- so none but an open one of t
 pub unmarked_one : (t : ℕ) (u : UndoEntry) → is_open_of t u.entry ≡ false → u ≡ marked_one t u

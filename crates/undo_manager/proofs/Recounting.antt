@@ -1,23 +1,17 @@
 -- Lists of counts after a change of one transaction's count.
 use Rattle.std.proofs.Common.{◌≡◌, ◌<◌, ℕ, zero, suc, Bool, true, false, not, eqb, cond, List, [], ◌∷◌, ◌++◌, map, length, get_or, set, refl, sym, ap, ◌∙◌, inl, inr, arith}
 use Rattle.std.specs.List.{filter, AllByRecursion}
-use Rattle.std.proofs.lemmas.Bool.{cases_Bool, both_ways, eqb-true, eq-eqb}
+use Rattle.std.proofs.lemmas.Bool.{cases_Bool, eqb-true, eq-eqb}
+use Rattle.type_table.proofs.Elements.{each-push, each-filter, differ_turned}
 use Rattle.object_trait.specs.Orders.{Pairs}
+use Rattle.object_trait.proofs.Lists.{pairs-push, pairs-filter}
 use Rattle.undo_manager.specs.Opened.{count_of, AreListed, IsRecounted}
 use Rattle.undo_manager.specs.declared.opened.Opened.{Opened}
-use Rattle.undo_manager.proofs.Lists.{each-at, each-push, each-filter, pairs-push, pairs-filter}
+use Rattle.undo_manager.proofs.Lists.{each-at}
 
 -- b is of another transaction than a
 abbrev IsApart : Opened → Opened → Type 0
 IsApart a b = eqb b.by a.by ≡ false
-
--- numbers that differ one way round differ the other way round
-pub differ_turned : (a t : ℕ) → eqb t a ≡ false → eqb a t ≡ false
-differ_turned a t other =
-    elim (cases_Bool (eqb a t)) [
-      | inl same ↦ absurd (both_ways (eqb t a) other (eq-eqb t a (sym (eqb-true a t same))))
-      | inr differ ↦ differ
-    ]
 
 -- ---- one more transaction
 

@@ -5,12 +5,13 @@ use Rattle.std.proofs.lemmas.Bool.{not_from_true, not_from_false, cond-true, con
 use Rattle.std.proofs.lemmas.List.{append-nil, append_assoc, drop_more, drop_all, drop-drop, drop-set-lt, take_more_set, get_or-drop, length-set, length-take}
 use Rattle.type_table.specs.Table.{Table, next}
 use Rattle.type_table.specs.Run.{IsLegal}
+use Rattle.type_table.proofs.Legal.{legal_there, legal-somewhere}
 use Rattle.object_trait.specs.Meaning.{ops_of, is_open_of}
 use Rattle.object_trait.specs.declared.log_entry.LogEntry.{LogEntry}
 use Rattle.undo_manager.specs.Log.{entries, Steps, stays}
 use Rattle.undo_manager.specs.Rerun.{IsRerun}
 use Rattle.undo_manager.specs.declared.undo_entry.UndoEntry.{UndoEntry}
-use Rattle.undo_manager.proofs.Running.{first-legal, legal_there, entries-append, steps-join}
+use Rattle.undo_manager.proofs.Running.{entries-append, steps-join}
 
 -- what a strike of t's leaves of a log
 abbrev pub left_of : ℕ → List UndoEntry → List LogEntry
@@ -92,7 +93,7 @@ pub run-next : (T : Table) (t place : ℕ) (old : List UndoEntry) (start : ℕ) 
     IsSome (next T state x.entry.op)
 run-next T t place old start now kept read state x r inside e isnt =
     let same = left-kept t read old x inside (read-behind read old now x r.behind e) isnt in
-    first-legal T (next T state x.entry.op) (ops_of (left_of t (drop (read + 1) old))) (rw same at r.legal)
+    legal-somewhere T (next T state x.entry.op) (ops_of (left_of t (drop (read + 1) old))) (rw same at r.legal)
 
 -- and is run again
 pub run-kept : (T : Table) (t place : ℕ) (old : List UndoEntry) (start : ℕ) (now : List UndoEntry) (kept read state : ℕ) (x : UndoEntry) (after : ℕ) →

@@ -1,40 +1,20 @@
 -- Runs, one step at a time, and logs that keep the state before each entry.
-use Rattle.std.proofs.Common.{◌≡◌, ℕ, List, [], ◌∷◌, ◌++◌, map, Option, Some, None, IsSome, refl, sym, ap}
-use Rattle.std.proofs.lemmas.Bool.{false≢true}
+use Rattle.std.proofs.Common.{◌≡◌, ℕ, List, [], ◌∷◌, ◌++◌, map, Option, Some, refl, sym, ap}
 use Rattle.std.proofs.lemmas.List.{map-append}
 use Rattle.type_table.specs.Table.{Table, next}
-use Rattle.type_table.specs.Run.{run, IsLegal}
+use Rattle.type_table.specs.Run.{run}
 use Rattle.object_trait.specs.Meaning.{ops_of}
 use Rattle.object_trait.specs.Steps.{marked}
-use Rattle.object_trait.specs.declared.log_entry.LogEntry.{LogEntry}
 use Rattle.undo_manager.specs.Log.{entries, Steps, start_of, marked_one}
 use Rattle.undo_manager.specs.declared.undo_entry.UndoEntry.{UndoEntry}
 
 -- ---- steps
 
--- where a list is legal, there is a state
-pub from_state : (T : Table) (o : Option ℕ) (w : List ℕ) → IsLegal T o w → (t : ℕ) × (o ≡ Some t)
-from_state T None [] h = absurd (false≢true h)
-from_state T None (k ∷ w) h = from_state T None w h
-from_state T (Some t) w h = (t, refl)
-
--- so its first operation leads to one
-pub first-legal : (T : Table) (o : Option ℕ) (w : List ℕ) → IsLegal T o w → IsSome o
-first-legal T o w h = rw (from_state T o w h).1 refl
-
--- what is legal after a step is legal in the state to which it leads
-pub legal_there : (T : Table) (o : Option ℕ) (t : ℕ) (w : List ℕ) → o ≡ Some t → IsLegal T o w → IsLegal T (Some t) w
-legal_there T o t w e h = rw e at h
-
 -- a run after a step goes on from the state to which it leads
 pub run_there : (T : Table) (o : Option ℕ) (t : ℕ) (w : List ℕ) (end : Option ℕ) → o ≡ Some t → run T (Some t) w ≡ end → run T o w ≡ end
 run_there T o t w end e h = rw e h
 
--- the operations of a log put together
-pub ops-append : (V W : List LogEntry) → ops_of (V ++ W) ≡ ops_of V ++ ops_of W
-ops-append V W = map-append (λ (e : LogEntry). e.op) V W
-
--- and its entries
+-- the entries of a log put together
 pub entries-append : (V W : List UndoEntry) → entries (V ++ W) ≡ entries V ++ entries W
 entries-append V W = map-append (λ (u : UndoEntry). u.entry) V W
 

@@ -1,10 +1,11 @@
 -- What a manager keeps at a strike.
-use Rattle.std.proofs.Common.{◌≡◌, ◌-◌, ℕ, Bool, true, false, not, eqb, List, [], ◌∷◌, ◌++◌, length, take, drop, Some, refl, sym, ap, ◌∙◌, inl, inr, arith}
+use Rattle.std.proofs.Common.{◌≡◌, ◌-◌, ℕ, Bool, not, List, ◌++◌, length, take, drop, Some, refl, sym, ap, ◌∙◌, arith}
 use Rattle.std.specs.List.{filter}
-use Rattle.std.proofs.lemmas.Bool.{cases_Bool, and_parts, and_left, eqb-true}
 use Rattle.std.proofs.lemmas.List.{take-append-drop, length-take-le}
 use Rattle.type_table.specs.Run.{run, IsLegal}
 use Rattle.type_table.specs.Laws.{RunsAlong, EndsWithin}
+use Rattle.type_table.proofs.Legal.{legal_there}
+use Rattle.type_table.proofs.Elements.{differ_turned}
 use Rattle.table_checker.specs.Checked.{Checked}
 use Rattle.object_trait.specs.Object.{object_of}
 use Rattle.object_trait.specs.Strike.{keep_first}
@@ -12,6 +13,8 @@ use Rattle.object_trait.specs.Meaning.{ops_of, is_open_of, open_of}
 use Rattle.object_trait.specs.Steps.{IsSettled, IsStrike}
 use Rattle.object_trait.specs.Laws.{KeepsFirst, KeepsNone, KeepsParts, KeepsOthers, StruckLogIsLegal, SoundAfterStrike}
 use Rattle.object_trait.specs.declared.log_entry.LogEntry.{LogEntry}
+use Rattle.object_trait.proofs.Striking.{keep_first-all}
+use Rattle.object_trait.proofs.Runs.{ops-append, open-apart}
 use Rattle.undo_manager.specs.Kept.{IsKept}
 use Rattle.undo_manager.specs.Log.{entries, Steps, start_of, unsettled}
 use Rattle.undo_manager.specs.Opened.{IsRecounted}
@@ -22,19 +25,10 @@ use Rattle.undo_manager.proofs.Keeping.{meaning_of, recounted, IsLeft, settled-k
 use Rattle.undo_manager.proofs.InPlace.{sound_in, sound_out, strike_in}
 use Rattle.undo_manager.proofs.Passing.{opens, opens-split}
 use Rattle.undo_manager.proofs.Rerunning.{left_of}
-use Rattle.undo_manager.proofs.Running.{legal_there, ops-append, entries-append, steps-run, steps-join, steps-part}
+use Rattle.undo_manager.proofs.Running.{entries-append, steps-run, steps-join, steps-part}
 use Rattle.undo_manager.proofs.Settling.{unsettled-settled}
 
 -- ---- what a strike leaves
-
--- where as many of mine are kept as there are, all is
-keep-all : {E : Type 0} (mine : E → Bool) (V : List E) → keep_first mine (length (filter mine V)) V ≡ V
-keep-all mine [] = refl
-keep-all mine (e ∷ V) =
-    elim (cases_Bool (mine e)) [
-      | inl is ↦ rw is (ap (λ rest. e ∷ rest) (keep-all mine V))
-      | inr isnt ↦ rw isnt (ap (λ rest. e ∷ rest) (keep-all mine V))
-    ]
 
 -- of a log put together, from whose second part on there are m to be struck
 strike-parts : KeepsNone LogEntry → KeepsParts LogEntry → (mine : LogEntry → Bool) (n : ℕ) (V W : List LogEntry) → n ≡ length (filter mine V) →
@@ -42,7 +36,7 @@ strike-parts : KeepsNone LogEntry → KeepsParts LogEntry → (mine : LogEntry �
 strike-parts none parts mine n V W e =
     let zero_left : n - length (filter mine V) ≡ 0 = omega arith in
     parts mine n V W ∙
-    (ap (λ l. l ++ keep_first mine (n - length (filter mine V)) W) (ap (λ k. keep_first mine k V) e ∙ keep-all mine V) ∙
+    (ap (λ l. l ++ keep_first mine (n - length (filter mine V)) W) (ap (λ k. keep_first mine k V) e ∙ keep_first-all mine V) ∙
     ap (λ l. V ++ l) (ap (λ k. keep_first mine k W) zero_left ∙ none mine W))
 
 -- a log in two parts
@@ -84,12 +78,6 @@ rerun-entries : KeepsNone LogEntry → KeepsParts LogEntry → (c : Checked) (t 
 rerun-entries none parts c t m place log start new end r passed =
     ap entries r.items ∙ (entries-append (take place log) r.rest ∙ (ap (λ l. entries (take place log) ++ l) r.left ∙ sym (strike-log none parts t m place log passed)))
 
--- an open entry of another isn't one of t
-open-apart : (t u : ℕ) → eqb u t ≡ false → (e : LogEntry) → is_open_of u e ≡ true → is_open_of t e ≡ false
-open-apart t u differ e is =
-    let same : e.by ≡ u = eqb-true e.by u (and_parts (eqb e.by u) (not e.done) is).0 in
-    and_left (eqb e.by t) (not e.done) (rw same differ)
-
 -- the log that was run again
 struck-left : KeepsFirst LogEntry → KeepsNone LogEntry → KeepsParts LogEntry → KeepsOthers LogEntry → (c : Checked) (base state : ℕ) (log : List UndoEntry) (counts : List Opened) (t m place : ℕ)
     (new : List UndoEntry) (end : ℕ) (new_counts : List Opened) → IsKept c base state log counts → opens t (drop place log) ≡ m →
@@ -108,7 +96,7 @@ struck-left first none parts others c base state log counts t m place new end ne
       steps = rw r.items (steps-join c.file.table base (take place log) r.rest start end (log-steps c base state place log kept.steps).0 r.steps);
       counted = recounted (entries log) (entries new) counts new_counts t n kept.counted recount
           (sym (ap length mine ∙ length-take-le n (open_of t (entries log)) (omega arith)))
-          (λ u differ. ap length (ap (open_of u) same ∙ others (is_open_of t) (is_open_of u) n (entries log) (open-apart t u differ)));
+          (λ u differ. ap length (ap (open_of u) same ∙ others (is_open_of t) (is_open_of u) n (entries log) (open-apart u t (differ_turned t u differ))));
     }
 
 -- what is settled of it

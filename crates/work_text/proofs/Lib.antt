@@ -1,7 +1,5 @@
-pub mod Turns
 pub mod Lines
 pub mod KeptTexts
 pub mod Works
-pub mod Skipped
 pub mod Comments
 pub mod Read

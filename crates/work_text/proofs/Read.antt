@@ -1,41 +1,74 @@
 -- The text of what workers did is read as its history.
-use Rattle.std.proofs.Common.{◌≡◌, ℕ, ◌<◌, ◌^◌, List, [], ◌∷◌, ◌++◌, map, Ok, sym, ap, ◌∙◌, subst, append_assoc, append-nil}
-use Rattle.std.specs.Prelude.{codes}
-use Rattle.std.specs.List.{flat_map}
+use Rattle.std.proofs.Common.{◌≡◌, ℕ, true, false, List, [], ◌∷◌, ◌++◌, map, filter, Ok, refl, sym, ap, ◌∙◌, subst, append-nil}
+use Rattle.std.specs.List.{AllByRecursion}
 use Rattle.std.proofs.lemmas.Grind.{flat_map-append}
+use Rattle.std.proofs.lemmas.List.Elements.{filter-append}
+use Rattle.line_text.specs.Comments.{MaySkip, ended, lines_text, tells}
 use Rattle.line_text.specs.Outcome.{outcome_of}
-use Rattle.line_text.specs.Spelling.{spaced, NumberIsReadAgain}
+use Rattle.line_text.specs.Spelling.{spaced, text_of}
+use Rattle.line_text.specs.Text.{is_comment}
+use Rattle.line_text.proofs.CommentLines.{comments_skip, nothing_told, skips_append, told_skips}
 use Rattle.object_trait.specs.declared.event.Event.{Event}
 use Rattle.store_text.specs.Body.{store_rules}
 use Rattle.store_text.specs.declared.line.Line.{Line}
-use Rattle.store_text.specs.declared.line.Line.TheVariants.{End}
+use Rattle.store_text.specs.declared.line.Line.TheVariants.{Max, Object, Entry, End}
 use Rattle.store_text.specs.declared.line.ObjectLine.{ObjectLine}
-use Rattle.history_text.specs.Canonical.{CanonicalIsRead, canonical_lines, canonical_text, event_line, object_line, words_of}
+use Rattle.history_text.specs.Canonical.{CanonicalIsRead, CommentsAreSkipped, canonical_lines, canonical_text, words_of}
 use Rattle.history_text.specs.Events.{events}
 use Rattle.history_text.specs.declared.event_line.EventLine.{EventLine}
+use Rattle.history_text.specs.declared.event_line.EventLine.TheVariants.{Begin, Op, Busy, Nothing, Commit, Abort, Rollback}
 use Rattle.work_text.specs.Reading.{WorkIsRead}
 use Rattle.work_text.proofs.Comments.{comments_follow}
-use Rattle.work_text.proofs.Skipped.{ended, outcome_kept}
 
--- the text of a line
-abbrev line_text : Line EventLine → List ℕ
-line_text l = spaced (words_of l) ++ 10 ∷ []
+-- a line, without its LF
+abbrev line : Line EventLine → List ℕ
+line l = spaced (words_of l)
 
--- the text of a history without its last LF
-front_of : List ObjectLine → List Event → List ℕ
-front_of objects H = flat_map line_text (map object_line objects ++ map event_line H) ++ codes "end"
+abbrev lines : List (Line EventLine) → List (List ℕ)
+lines ls = map line ls
 
-front-ended : (objects : List ObjectLine) (H : List Event) → canonical_text objects H ≡ ended (front_of objects H)
-unfolding front_of
-front-ended objects H =
-    let before = map object_line objects ++ map event_line H in
-    ap (flat_map line_text) (sym (append_assoc (map object_line objects) (map event_line H) (End ∷ []))) ∙ flat_map-append line_text before (End ∷ [])
-    ∙ ap (λ (l : List ℕ). flat_map line_text before ++ l) (append-nil (line_text End)) ∙ sym (append_assoc (flat_map line_text before) (codes "end") (10 ∷ []))
+-- none is a comment
+tells_event : (x : EventLine) → is_comment (line (Entry x)) ≡ false
+tells_event (Begin w t) = refl
+tells_event (Op w t x k) = refl
+tells_event (Busy w t x c u) = refl
+tells_event (Nothing w t x c) = refl
+tells_event (Commit w t) = refl
+tells_event (Abort w t) = refl
+tells_event (Rollback w t n) = refl
 
-pub work_read : CanonicalIsRead → ((n : ℕ) → n < 10 ^ 7 → NumberIsReadAgain n) → WorkIsRead
-work_read canonical numbers = λ objects H kept audit reports fit short.
-    let rest = comments_follow numbers kept audit reports short in
-    let text = front-ended objects H in
-    let alone = subst (λ (t : List ℕ). outcome_of (store_rules events) t ≡ Ok (canonical_lines objects H)) text (canonical objects H fit).read in
-    let both = outcome_kept (store_rules events) (front_of objects H) rest.lines (canonical_lines objects H) alone rest.are in
-    rw (text, rest.is) both
+tells_line : (l : Line EventLine) → is_comment (line l) ≡ false
+tells_line (Max most) = refl
+tells_line (Object kind file) = refl
+tells_line (Entry x) = tells_event x
+tells_line End = refl
+
+all_told : (ls : List (Line EventLine)) → filter tells (lines ls) ≡ lines ls
+all_told [] = refl
+all_told (l ∷ ls) = rw (tells_line l) (ap (λ (ms : List (List ℕ)). line l ∷ ms) (all_told ls))
+
+all_skip : (ls : List (Line EventLine)) → AllByRecursion MaySkip (lines ls)
+all_skip [] = tt
+all_skip (l ∷ ls) = (told_skips (line l) (tells_line l), all_skip ls)
+
+text-lines : (ls : List (Line EventLine)) → text_of words_of ls ≡ lines_text (lines ls)
+text-lines [] = refl
+text-lines (l ∷ ls) = ap (λ (t : List ℕ). (line l ++ 10 ∷ []) ++ t) (text-lines ls)
+
+pub work_read : CommentsAreSkipped → CanonicalIsRead → WorkIsRead
+work_read skipped canonical = λ objects H kept audit reports fit short.
+    let said = canonical_lines objects H in
+    let rest = comments_follow kept audit reports short in
+    let all = lines said ++ rest.lines in
+    let told : filter tells all ≡ lines said =
+    filter-append tells (lines said) rest.lines ∙ ap (λ (ms : List (List ℕ)). filter tells (lines said) ++ ms) (nothing_told rest.lines rest.are)
+    ∙ append-nil (filter tells (lines said)) ∙ all_told said
+    in
+    let alone : lines_text (filter tells all) ≡ canonical_text objects H = ap lines_text told ∙ sym (text-lines said) in
+    let whole : lines_text all ≡ canonical_text objects H ++ lines_text rest.lines =
+    flat_map-append ended (lines said) rest.lines ∙ ap (λ (t : List ℕ). t ++ lines_text rest.lines) (sym (text-lines said))
+    in
+    let read = subst (λ (t : List ℕ). outcome_of (store_rules events) t ≡ Ok said) (sym alone) (canonical objects H fit).read in
+    let may = skips_append (lines said) rest.lines (all_skip said) (comments_skip rest.lines rest.are) in
+    let both = skipped all said may read in
+    subst (λ (t : List ℕ). outcome_of (store_rules events) t ≡ Ok said) (whole ∙ ap (λ (t : List ℕ). canonical_text objects H ++ t) (sym rest.is)) both

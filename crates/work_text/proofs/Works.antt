@@ -1,27 +1,22 @@
 -- The text of what workers did, part by part.
 use Rattle.std.proofs.Common.{◌≡◌, ℕ, List, [], ◌++◌, Option, Result, Ok, Err, OnOk}
-use Rattle.std.proofs.lemmas.Option.{none-some}
 use Rattle.std.proofs.lemmas.Result.{err_from_is_err_and}
 use Rattle.std.specs.Result.{IsErrAnd}
 use Rattle.outputs.specs.Out.{Puts, PutsJoin, PutsStop}
 use Rattle.outputs.specs.declared.out.OutFault.{OutFault}
+use Rattle.outputs.proofs.Turns.{Puts-append, Puts-exit}
 use Rattle.store_laws.specs.Stored.{Stored}
 use Rattle.store_text.specs.declared.line.ObjectLine.{ObjectLine}
 use Rattle.history_text.specs.Canonical.{canonical_text}
 use Rattle.history_audit.specs.Text.{audit_text}
 use Rattle.history_audit.specs.declared.outcome.Audit.{Audit}
 use Rattle.history_audit.specs.declared.outcome.AuditFault.{AuditFault}
-use Rattle.script_run.specs.Running.{AreKept}
 use Rattle.worker_turns.specs.declared.outcome.Report.{Report}
+use Rattle.script_run.proofs.KeptLines.{none_kept}
 use Rattle.work_text.specs.Lines.{kept_text, reports_text}
 use Rattle.work_text.specs.Text.{PutsKept, PutsWork}
-use Rattle.work_text.proofs.Turns.{Puts-append, Puts-exit}
 
--- of none there is nothing to say
-none_kept : (s : Stored) → AreKept s []
-none_kept s x state at = absurd (none-some state at)
-
--- nor at an error
+-- at an error there is nothing to say
 at_error : (P : Type 0) (e : OutFault) (result : Result (Unit {0}) OutFault) → IsErrAnd result (λ d. d ≡ e) → OnOk result P
 at_error P e result exit = let (d, returned, same) = err_from_is_err_and result exit in rw returned tt
 

@@ -3,8 +3,7 @@
 
 ghost use Rattle.work_text.specs.Reading.{WorkIsRead};
 
-use history_text::canonical_is_read;
-use line_text::numbers_read_again;
+use history_text::{canonical_is_read, comments_tell_nothing};
 
 /// What workers did is read from its text as a history: behind that of the history all lines are
 /// comments.
@@ -12,5 +11,5 @@ pub fn work_is_read()
     ensures { WorkIsRead }
 {
     canonical_is_read();
-    numbers_read_again();
+    comments_tell_nothing();
 }

@@ -1,7 +1,8 @@
 -- The replies of a try: one more, and all of them.
-use Rattle.std.proofs.Common.{◌≡◌, ℕ, zero, suc, ◌+◌, ◌≤◌, List, [], ◌∷◌, ◌++◌, length, take, Some, None, slice_get, sym, ap, subst, arith, add-one}
+use Rattle.std.proofs.Common.{◌≡◌, ℕ, zero, suc, ◌+◌, ◌≤◌, List, [], ◌∷◌, ◌++◌, length, take, Some, None, slice_get, sym, subst, arith, add-one}
 use Rattle.std.proofs.Math.Seq.{take-length}
-use Rattle.std.proofs.lemmas.Option.{none-some, same_Some, slice_get_within}
+use Rattle.std.proofs.lemmas.Option.{none-some, slice_get_within}
+use Rattle.type_table.proofs.Elements.{take-suc_found}
 use Rattle.object_trait.specs.Object.{Object}
 use Rattle.object_trait.specs.declared.event.EventKind.{EventKind}
 use Rattle.jobs_text.specs.Jobs.{Call}
@@ -9,12 +10,6 @@ use Rattle.worker_turns.specs.Parts.{IsReply, AreReplies}
 use Rattle.worker_turns.specs.Progress.{IsBegun}
 
 -- ---- elements of lists
-
--- up to one more
-take-next : {X : Type 0} (xs : List X) (i : ℕ) (x : X) → slice_get xs i ≡ Some x → take (suc i) xs ≡ take i xs ++ x ∷ []
-take-next [] i x there = absurd (none-some x there)
-take-next (y ∷ xs) zero x there = ap (λ z. z ∷ []) (same_Some y x there)
-take-next (y ∷ xs) (suc i) x there = ap (λ l. y ∷ l) (take-next xs i x there)
 
 -- where there is none, the list is at its end
 past-end : {X : Type 0} (xs : List X) (i : ℕ) → slice_get xs i ≡ None → length xs ≤ i
@@ -42,7 +37,7 @@ pub begun-more : (objects : List Object) (calls : List Call) (t done : ℕ) (rep
 begun-more objects calls t done replies call e begun next reply =
     record {
       within = omega (arith, slice_get_within calls done call next);
-      are_replies = rw (add-one done, take-next calls done call next) (replies-more objects t (take done calls) replies call e begun.are_replies reply);
+      are_replies = rw (add-one done, take-suc_found calls done call next) (replies-more objects t (take done calls) replies call e begun.are_replies reply);
     }
 
 -- where no call is left, all of them had one

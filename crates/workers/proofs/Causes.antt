@@ -9,7 +9,8 @@ use Rattle.object_trait.specs.declared.event.EventKind.{EventKind}
 use Rattle.object_trait.specs.declared.event.EventKind.TheVariants as kind
 use Rattle.object_trait.specs.declared.event.EventKind.TheVariants.{Begin, Op, Busy, Commit, Abort, Rollback}
 use Rattle.serial_order.specs.History.{seen, is_open}
-use Rattle.serial_order.specs.Replay.{open_count, most_open, is_full, call_at, refusal}
+use Rattle.type_table.specs.Limits.{most_open}
+use Rattle.serial_order.specs.Replay.{open_count, is_full, call_at, refusal}
 use Rattle.serial_order.specs.After.{CountsTo}
 use Rattle.serial_order.specs.declared.command.Command.TheVariants as command
 use Rattle.serial_order.specs.declared.refusal.Refusal.{Refusal}

@@ -2,6 +2,7 @@
 use Rattle.std.proofs.Common.{◌≡◌, ℕ, ◌≤◌, false, List, [], ◌++◌, length, Some, slice_get, sym, ap, ◌∙◌, subst, inl, inr, append-nil, arith}
 use Rattle.std.proofs.lemmas.Bool.{cases_Bool, cases_lt}
 use Rattle.std.proofs.lemmas.List.{length-map}
+use Rattle.type_table.proofs.Elements.{found-map}
 use Rattle.object_trait.specs.Object.{Object}
 use Rattle.object_trait.specs.declared.event.Event.{Event}
 use Rattle.serial_order.specs.History.{begins, seen, is_open}
@@ -13,7 +14,6 @@ use Rattle.worker_turns.specs.Progress.{Progress, IsTold, IsAtEnd, IsSoFar, kind
 use Rattle.workers.specs.Events.{IsReplayed}
 use Rattle.workers.specs.Standing.{Opening, Standing, HasOwner, IsWorker, IsKept, HasEnded}
 use Rattle.workers.specs.Worked.{IsReport, IsOfNone, IsReportOf, AreReportsOf, HasWorked, EndingIsWorked}
-use Rattle.workers.proofs.Lists.{found-map}
 use Rattle.workers.proofs.Openings.{idle-none}
 
 -- at the end the receipts are the parts of the jobs

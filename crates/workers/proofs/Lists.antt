@@ -1,28 +1,12 @@
 -- Elements of lists by their places: in a list with more behind it, and in one of which an element is another.
-use Rattle.std.proofs.Common.{◌≡◌, ℕ, zero, suc, ◌+◌, ◌<◌, ◌≤◌, ◌==◌, Bool, true, false, cond, ◌||◌, List, [], ◌∷◌, ◌++◌, filter, length, map, set, take, drop, ◌⊎◌, Some, slice_get, slice_index_or, refl, sym, ap, ◌∙◌, inl, inr, arith}
+use Rattle.std.proofs.Common.{◌≡◌, ℕ, zero, suc, ◌+◌, ◌<◌, ◌==◌, Bool, true, false, cond, ◌||◌, List, [], ◌∷◌, ◌++◌, filter, length, map, set, take, drop, ◌⊎◌, Some, slice_get, slice_index_or, refl, sym, ap, ◌∙◌, inl, inr, arith}
 use Rattle.std.specs.List.{Contains}
 use Rattle.std.proofs.lemmas.Bool.{cases_Bool, eq-eqb}
 use Rattle.std.proofs.lemmas.Option.{none-some, same_Some}
+use Rattle.type_table.proofs.Elements.{filter-length}
 use Rattle.serial_order.specs.Operations.{is_among}
 
 -- ---- places
-
--- what is found is found with more behind it
-pub found-front : {X : Type 0} (xs ys : List X) (i : ℕ) (x : X) → slice_get xs i ≡ Some x → slice_get (xs ++ ys) i ≡ Some x
-found-front [] ys i x there = absurd (none-some x there)
-found-front (z ∷ xs) ys zero x there = there
-found-front (z ∷ xs) ys (suc i) x there = found-front xs ys i x there
-
--- one more is found last
-pub found-last : {X : Type 0} (xs : List X) (last : X) → slice_get (xs ++ last ∷ []) (length xs) ≡ Some last
-found-last [] last = refl
-found-last (x ∷ xs) last = found-last xs last
-
--- what is found in the list of what f makes of each is what it makes of the element there
-pub found-map : {X Y : Type 0} (f : X → Y) (xs : List X) (i : ℕ) (y : Y) → slice_get (map f xs) i ≡ Some y → (x : X) × (slice_get xs i ≡ Some x) × (f x ≡ y)
-found-map f [] i y there = absurd (none-some y there)
-found-map f (x ∷ xs) zero y there = (x, refl, same_Some (f x) y there)
-found-map f (x ∷ xs) (suc i) y there = found-map f xs i y there
 
 -- what is read at a place is what is found there
 pub read-found : {X : Type 0} (xs : List X) (i : ℕ) (x y : X) → slice_get xs i ≡ Some x → y ≡ slice_index_or xs i y → y ≡ x
@@ -55,15 +39,7 @@ next-rest (z ∷ xs) (suc n) x rest coming = next-rest xs n x rest coming
 
 -- ---- one more
 
--- what is found with one more was found before, or is that one
-pub found-push : {X : Type 0} (xs : List X) (last : X) (i : ℕ) (x : X) → slice_get (xs ++ last ∷ []) i ≡ Some x → (slice_get xs i ≡ Some x) ⊎ ((i ≡ length xs) × (last ≡ x))
-found-push [] last zero x there = inr (refl, same_Some last x there)
-found-push [] last (suc i) x there = absurd (none-some x there)
-found-push (z ∷ xs) last zero x there = inl there
-found-push (z ∷ xs) last (suc i) x there =
-    elim (found-push xs last i x there) [ inl before ↦ inl before | inr now ↦ inr (ap (λ n. suc n) now.0, now.1) ]
-
--- the same in two lists of one length
+-- what is found with one more in two lists of one length was found before in both, or is the last of both
 pub found-both : {X Y : Type 0} (xs : List X) (ys : List Y) (a : X) (b : Y) (i : ℕ) (x : X) (y : Y) → length xs ≡ length ys
     → slice_get (xs ++ a ∷ []) i ≡ Some x → slice_get (ys ++ b ∷ []) i ≡ Some y
     → ((slice_get xs i ≡ Some x) × (slice_get ys i ≡ Some y)) ⊎ ((i ≡ length xs) × (a ≡ x) × (b ≡ y))
@@ -118,21 +94,11 @@ count-set test (z ∷ xs) (suc i) x y there =
     let rest = count-set test xs i x y there in
     rw (one-more (test z) z (filter test (set xs i y)), one-more (test z) z (filter test xs)) (omega (arith, rest))
 
--- no more than there are
-count-most : {X : Type 0} (test : X → Bool) (xs : List X) → length (filter test xs) ≤ length xs
-count-most test [] = omega arith
-count-most test (z ∷ xs) =
-    let rest = count-most test xs in
-    elim (cases_Bool (test z)) [
-      | inl passes ↦ rw (one-more (test z) z (filter test xs), passes) (omega (arith, rest))
-      | inr fails ↦ rw (one-more (test z) z (filter test xs), fails) (omega (arith, rest))
-    ]
-
--- fewer, where one doesn't pass
+-- fewer pass than there are, where one doesn't
 pub count-fewer : {X : Type 0} (test : X → Bool) (xs : List X) (i : ℕ) (x : X) → slice_get xs i ≡ Some x → test x ≡ false → length (filter test xs) < length xs
 count-fewer test [] i x there fails = absurd (none-some x there)
 count-fewer test (z ∷ xs) zero x there fails =
-    let most = count-most test xs in
+    let most = filter-length test xs in
     let same : test z ≡ false = ap test (same_Some z x there) ∙ fails in
     rw (one-more (test z) z (filter test xs), same) (omega (arith, most))
 count-fewer test (z ∷ xs) (suc i) x there fails =

@@ -3,6 +3,7 @@ use Rattle.std.proofs.Common.{◌≡◌, ℕ, ◌<◌, ◌≤◌, ◌==◌, true
 use Rattle.std.specs.List.{AllByRecursion}
 use Rattle.std.proofs.lemmas.Bool.{eq-eqb, ne_eqb}
 use Rattle.std.proofs.lemmas.Option.{none-some, same_Some}
+use Rattle.type_table.proofs.Elements.{found-front, found-last}
 use Rattle.object_trait.specs.declared.event.Event.{Event}
 use Rattle.object_trait.specs.declared.event.EventKind.{EventKind}
 use Rattle.object_trait.specs.declared.event.EventKind.TheVariants as kind
@@ -15,7 +16,6 @@ use Rattle.workers.specs.Events.{done_for, done_by, IsReplayed}
 use Rattle.workers.specs.Standing.{Opening, past, IsOwn}
 use Rattle.workers.proofs.Events.{commits-more, commits-last, begins-more, begins-since, done_by-more}
 use Rattle.workers.proofs.Follows.{Follows, IsApart, done_for-apart, committed-apart, ahead-apart, own-stays}
-use Rattle.workers.proofs.Lists.{found-front, found-last}
 use Rattle.workers.proofs.Turned.{Leads}
 
 -- the worker's event

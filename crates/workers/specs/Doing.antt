@@ -1,5 +1,6 @@
 -- What the calls at the floor do.
 use Rattle.std.specs.Prelude.{◌≡◌, ℕ, ◌+◌, ◌<◌, ◌≤◌, List, length, map, sum, Bool, true, false, Some, slice_get, slice_index_or, ◌⊎◌, vec_capacity, [], Contains}
+use Rattle.type_table.specs.Limits.{most_workers}
 use Rattle.store_laws.specs.Stored.{Stored}
 use Rattle.worker_turns.specs.Progress.{Progress, IsFresh, IsAtEnd, broken_before}
 use Rattle.worker_turns.specs.Turns.{turns_left}
@@ -33,7 +34,7 @@ pub record IsOpened (o : Opening) (store : Stored) (workers : List Progress) : T
   pub jobs : map (λ (p : Progress). p.jobs) workers ≡ o.jobs
   pub fresh : (w : ℕ) (p : Progress) → slice_get workers w ≡ Some p → IsFresh p × (p.tries ≡ o.tries)
   pub some_tries : 0 < o.tries
-  pub few : length workers ≤ 16
+  pub few : length workers ≤ most_workers
 
 -- one more worker is let in, where there is one
 abbrev pub LetsIn : Standing → Standing → Type 0

@@ -4,7 +4,8 @@ use Rattle.object_trait.specs.declared.event.Event.{Event}
 use Rattle.serial_order.specs.Operations.{of}
 use Rattle.serial_order.specs.History.{begins, seen, is_open, standing}
 use Rattle.serial_order.specs.Machine.{IsRun}
-use Rattle.serial_order.specs.Replay.{open_count, most_open}
+use Rattle.type_table.specs.Limits.{most_open, most_workers}
+use Rattle.serial_order.specs.Replay.{open_count}
 use Rattle.serial_order.specs.After.{beginners}
 use Rattle.serial_order.specs.declared.refusal.Refusal.{Refusal}
 use Rattle.serial_order.specs.declared.refusal.Refusal.TheVariants.{TooManyOpen, HistoryFull}
@@ -94,7 +95,7 @@ pub record IsKept (o : Opening) (s : Standing) : Type 0 where
   pub owners : (t : ℕ) → begins o.store.history ≤ t → is_open (seen s.store.history) t ≡ true → HasOwner t s.workers
   pub open_now : open_count (seen s.store.history) ≡ open_count (seen o.store.history) + length (filter is_going s.workers)
   pub few_let_in : s.let_in ≤ length s.workers
-  pub few : length s.workers ≤ 16
+  pub few : length s.workers ≤ most_workers
 
 -- ---- what is done there
 
@@ -119,7 +120,7 @@ abbrev pub OpeningIsKept : Type 0
 OpeningIsKept =
     (o : Opening) (s : Standing) → s.store ≡ o.store → map (λ (p : Progress). p.jobs) s.workers ≡ o.jobs
     → ((w : ℕ) (p : Progress) → slice_get s.workers w ≡ Some p → IsFresh p × (p.tries ≡ o.tries)) → 0 < o.tries
-    → s.let_in ≤ length s.workers → length s.workers ≤ 16 → IsRun (objects o.store) o.store.history → IsKept o s
+    → s.let_in ≤ length s.workers → length s.workers ≤ most_workers → IsRun (objects o.store) o.store.history → IsKept o s
 
 -- one more is let in
 abbrev pub LettingInIsKept : Type 0

@@ -1,5 +1,6 @@
 -- What comes back of workers: a store, and a report of each.
 use Rattle.std.specs.Prelude.{◌≡◌, ℕ, ◌<◌, ◌≤◌, List, [], ◌++◌, length, map, All, Contains, true, false, Option, Some, None, slice_get, ◌⊎◌, Bool, ◌&&◌, nat_le}
+use Rattle.type_table.specs.Limits.{most_workers, most_tries}
 use Rattle.object_trait.specs.declared.event.Event.{Event}
 use Rattle.serial_order.specs.History.{begins, seen, is_open}
 use Rattle.serial_order.specs.declared.refusal.Refusal.{Refusal}
@@ -53,11 +54,11 @@ pub record HasWorked (o : Opening) (n : ℕ) (new : Stored) (reports : List Repo
 
 -- so many lists of jobs may be handed in
 abbrev pub are_workers : ℕ → Bool
-are_workers n = nat_le 1 n && nat_le n 16
+are_workers n = nat_le 1 n && nat_le n most_workers
 
 -- so often may each job be tried
 abbrev pub are_tries : ℕ → Bool
-are_tries n = nat_le 1 n && nat_le n 100
+are_tries n = nat_le 1 n && nat_le n most_tries
 
 -- nothing was done
 pub record DidNothing (old new : Stored) (reports : List Report) : Type 0 where

@@ -7,10 +7,10 @@ ghost use Rattle.workers.specs.Doing.{AreGoing, HaveEnded};
 ghost use Rattle.workers.specs.Worked.{DidNothing, Works};
 ghost use Rattle.workers.specs.declared.fault.WorkFault.{WorkFault as WorkFaultValue};
 
-use crate::fault::WorkFault;
 use crate::floor::{Floor, Opened};
+use crate::returned::Worked;
 use crate::run::reported;
-use crate::team::{MOST_WORKERS, Team, team_of};
+use crate::team::{Team, team_of};
 use jobs_text::Job;
 use object_trait::Recovery;
 use rand_core::utils::NextWord;
@@ -18,7 +18,7 @@ use rand_pcg::Lcg64Xsh32;
 use std::alloc::Global;
 use std::marker::Brand;
 use store::Store;
-use worker_turns::Report;
+use type_table::MOST_WORKERS;
 
 /// Does what `run_workers` does, in one thread: at each turn the worker is drawn from those that aren't
 /// at their ends, by words from this seed. All workers are let in at once, so with a fault nothing was
@@ -29,9 +29,9 @@ pub fn stress<R: Recovery>(
     jobs: Vec<Vec<Job>>,
     tries: u8,
     seed: u64,
-) -> (Store<R>, Vec<Report>, Option<WorkFault>)
-    ensures works { Works (record { store = store; jobs = map calls_in jobs.items; tries = tries }) result.2 result.0 result.1.items }
-    ensures whole { (fault : WorkFaultValue) → result.2 ≡ Some fault → DidNothing store result.0 result.1.items }
+) -> Worked<R>
+    ensures works { Works (record { store = store; jobs = map calls_in jobs.items; tries = tries }) result.fault result.store result.reports.items }
+    ensures whole { (fault : WorkFaultValue) → result.fault ≡ Some fault → DidNothing store result.store result.reports.items }
 {
     stress_opened::<R, Brand>(alloc, store, jobs, tries, seed)
 }
@@ -43,14 +43,20 @@ fn stress_opened<R: Recovery, S: Opened>(
     jobs: Vec<Vec<Job>>,
     tries: u8,
     seed: u64,
-) -> (Store<R>, Vec<Report>, Option<WorkFault>)
+) -> Worked<R>
     requires { S.opening ≡ record { store = store; jobs = map calls_in jobs.items; tries = tries } }
-    ensures works { Works S.opening result.2 result.0 result.1.items }
-    ensures whole { (fault : WorkFaultValue) → result.2 ≡ Some fault → DidNothing S.opening.store result.0 result.1.items }
+    ensures works { Works S.opening result.fault result.store result.reports.items }
+    ensures whole { (fault : WorkFaultValue) → result.fault ≡ Some fault → DidNothing S.opening.store result.store result.reports.items }
 {
     let Team { workers, reports } = match team_of(alloc, jobs, tries) {
         Ok(team) => team,
-        Err(fault) => return (store, Vec::new(alloc), Some(fault)),
+        Err(fault) => {
+            return Worked {
+                store,
+                reports: Vec::new(alloc),
+                fault: Some(fault),
+            };
+        }
     };
     let mut floor: Floor<R, S> = Floor::new(store, workers);
     draw_all(alloc, &mut floor, seed);

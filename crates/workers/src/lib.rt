@@ -6,6 +6,7 @@ mod fault;
 mod floor;
 mod gate;
 mod laws;
+mod returned;
 mod run;
 mod team;
 mod waiting;
@@ -14,6 +15,7 @@ pub use drawn::{pick, stress};
 pub use fault::WorkFault;
 pub use gate::{Gate, NoGate};
 pub use laws::{ending_is_worked, letting_in_is_kept, opening_is_kept, turns_are_kept};
+pub use returned::Worked;
 pub use run::run_workers;
 pub use worker_turns::{Outcome, Receipt, Report};
 

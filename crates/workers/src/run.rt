@@ -8,6 +8,7 @@ ghost use Rattle.workers.specs.Worked.{DidNothing, Works, are_workers, are_tries
 use crate::fault::WorkFault;
 use crate::floor::{Floor, Opened};
 use crate::gate::Gate;
+use crate::returned::Worked;
 use crate::team::{Team, team_of};
 use crate::waiting::{take, wait_for_a_try};
 use jobs_text::Job;
@@ -34,8 +35,8 @@ pub fn run_workers<R: Recovery + Send, G: Gate, H: AllocGlobal + Threads + Wait 
     jobs: Vec<Vec<Job>>,
     tries: u8,
     gate: &G,
-) -> (Store<R>, Vec<Report>, Option<WorkFault>)
-    ensures { Works (record { store = store; jobs = map calls_in jobs.items; tries = tries }) result.2 result.0 result.1.items }
+) -> Worked<R>
+    ensures { Works (record { store = store; jobs = map calls_in jobs.items; tries = tries }) result.fault result.store result.reports.items }
 {
     run_opened::<R, G, H, Brand>(rt, store, jobs, tries, gate)
 }
@@ -46,20 +47,20 @@ fn run_opened<
     G: Gate,
     H: AllocGlobal + Threads + Wait + Sync,
     S: Opened + Send,
->(
-    rt: &H,
-    store: Store<R>,
-    jobs: Vec<Vec<Job>>,
-    tries: u8,
-    gate: &G,
-) -> (Store<R>, Vec<Report>, Option<WorkFault>)
+>(rt: &H, store: Store<R>, jobs: Vec<Vec<Job>>, tries: u8, gate: &G) -> Worked<R>
     requires { S.opening ≡ record { store = store; jobs = map calls_in jobs.items; tries = tries } }
-    ensures { Works S.opening result.2 result.0 result.1.items }
+    ensures { Works S.opening result.fault result.store result.reports.items }
 {
     let alloc = rt.alloc();
     let Team { workers, reports } = match team_of(alloc, jobs, tries) {
         Ok(team) => team,
-        Err(fault) => return (store, Vec::new(alloc), Some(fault)),
+        Err(fault) => {
+            return Worked {
+                store,
+                reports: Vec::new(alloc),
+                fault: Some(fault),
+            };
+        }
     };
     let count = workers.len() as u8;
     let floor: Mutex<Floor<R, S>> = Mutex::new(Floor::new(store, workers));
@@ -116,24 +117,32 @@ fn work<R: Recovery, G: Gate, H: Wait, S: Opened>(
 pub(crate) fn reported<R: Recovery, S: Opened>(
     floor: Floor<R, S>,
     reports: Vec<Report>,
-) -> (Store<R>, Vec<Report>, Option<WorkFault>)
+) -> Worked<R>
     requires ended { HaveEnded floor }
     requires lists { are_workers (length S.opening.jobs) ≡ true }
     requires tries { are_tries S.opening.tries ≡ true }
     requires none { reports.items ≡ [] }
     requires room { length S.opening.jobs ≤ vec_capacity reports }
-    ensures works { Works S.opening result.2 result.0 result.1.items }
-    ensures all { floor.let_in ≡ length S.opening.jobs → result.2 ≡ None }
-    ensures nothing { floor.let_in ≡ 0 → DidNothing S.opening.store result.0 result.1.items }
+    ensures works { Works S.opening result.fault result.store result.reports.items }
+    ensures all { floor.let_in ≡ length S.opening.jobs → result.fault ≡ None }
+    ensures nothing { floor.let_in ≡ 0 → DidNothing S.opening.store result.store result.reports.items }
 {
     let count = floor.count();
     let started = floor.let_in();
     let (store, mut reports) = floor.into_reports(reports);
     if started == count {
-        return (store, reports, None);
+        return Worked {
+            store,
+            reports,
+            fault: None,
+        };
     }
     if started == 0 {
         reports.clear();
     }
-    (store, reports, Some(WorkFault::NoMemory))
+    Worked {
+        store,
+        reports,
+        fault: Some(WorkFault::NoMemory),
+    }
 }

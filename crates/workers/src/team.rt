@@ -8,12 +8,8 @@ ghost use Rattle.workers.specs.Worked.{are_workers, are_tries};
 use crate::fault::WorkFault;
 use jobs_text::Job;
 use std::alloc::{AllocError, Global};
+use type_table::{MOST_TRIES, MOST_WORKERS};
 use worker_turns::{Report, Worker};
-
-/// The most workers.
-pub(crate) const MOST_WORKERS: usize = 16;
-/// The most tries of a job.
-const MOST_TRIES: u8 = 100;
 
 /// The workers, and a list with room for the report of each.
 #[derive(Drop)]

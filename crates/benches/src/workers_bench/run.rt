@@ -15,7 +15,7 @@ use std::time::{Duration, Instant};
 use store::Store;
 use table_checker::CheckedType;
 use worker_turns::Report;
-use workers::{WorkFault, run_workers};
+use workers::{WorkFault, Worked, run_workers};
 
 /// The most events of a history.
 const MOST_EVENTS: u32 = 1_000_000;
@@ -58,7 +58,11 @@ fn timed<H: Clock + AllocGlobal + Threads + Wait + Sync>(
         time: work.think,
     };
     let start = Instant::now(rt);
-    let (store, reports, fault) = run_workers(rt, store, jobs, work.tries, &gate);
+    let Worked {
+        store,
+        reports,
+        fault,
+    } = run_workers(rt, store, jobs, work.tries, &gate);
     let time = start.and_then(|start| start.elapsed(rt));
     let _ = store.close();
     (reports, fault, time)

@@ -18,7 +18,7 @@ use std::test::Fail;
 use std::thread::Threads;
 use store::Store;
 use type_table::TypeTable;
-use workers::{NoGate, Outcome, Receipt, Report, WorkFault, run_workers, stress};
+use workers::{NoGate, Outcome, Receipt, Report, WorkFault, Worked, run_workers, stress};
 
 /// Whose turn it is: that of whoever has the lock, or a worker's that is drawn by words from a seed.
 #[derive(Clone, Copy, Debug)]
@@ -45,7 +45,11 @@ pub fn do_jobs<R: AllocGlobal + Threads + Wait + Sync>(
     tries: u8,
     turns: Turns,
 ) -> Done {
-    let (store, reports, fault) = match turns {
+    let Worked {
+        store,
+        reports,
+        fault,
+    } = match turns {
         Turns::SideBySide => run_workers(rt, store, jobs, tries, &NoGate),
         Turns::Drawn(seed) => stress(rt.alloc(), store, jobs, tries, seed),
     };

@@ -1,7 +1,7 @@
 use Rattle.std.specs.List.{enumerate_from}
+use Rattle.outputs.proofs.Turns.{Puts-append, Puts-exit_at}
 use Rattle.history_audit.specs.Text.{serial_line}
 use Rattle.history_audit.proofs.Lines.{is_placed, line-at, lines-more, lines-all}
-use Rattle.history_audit.proofs.Turns.{Puts-append, Puts-exit_at}
 use Rattle.history_audit.proofs.write.write_finals.Goals as goal
 
 pub returns-in_err-write_serial : goal.returns-in_err-write_serial

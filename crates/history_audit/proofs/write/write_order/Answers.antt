@@ -1,5 +1,5 @@
+use Rattle.outputs.proofs.Turns.{Puts-exit_at}
 use Rattle.history_audit.specs.Text.{commit_line}
-use Rattle.history_audit.proofs.Turns.{Puts-exit_at}
 use Rattle.history_audit.proofs.write.write_order.Goals as goal
 
 pub returns-in_err-write_commit : goal.returns-in_err-write_commit

@@ -1,7 +1,7 @@
 use Rattle.std.proofs.Common.{◌++◌}
 use Rattle.std.specs.List.{flat_map, enumerate_from}
+use Rattle.outputs.proofs.Turns.{Puts-append, Puts-exit}
 use Rattle.history_audit.specs.Text.{commit_line, serial_line}
-use Rattle.history_audit.proofs.Turns.{Puts-append, Puts-exit}
 use Rattle.history_audit.proofs.write.write_yes.Goals as goal
 
 pub returns-in_err-put_line : goal.returns-in_err-put_line

@@ -1,8 +1,8 @@
 use Rattle.std.proofs.Common.{◌++◌, map}
+use Rattle.outputs.proofs.Turns.{Puts-append, Puts-exit}
 use Rattle.line_text.specs.Spelling.{text_of}
 use Rattle.store_text.specs.declared.line.Line.TheVariants.{End}
 use Rattle.history_text.specs.Canonical.{words_of, event_line}
-use Rattle.history_text.proofs.Turns.{Puts-append, Puts-exit}
 use Rattle.history_text.proofs.Writing.{line_text, text-parts}
 use Rattle.history_text.proofs.write.write_history.Goals as goal
 

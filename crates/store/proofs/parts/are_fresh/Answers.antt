@@ -1,8 +1,9 @@
 use Rattle.std.proofs.Common.{◌≤◌, map, length, refl, sym, ap, subst, ◌∙◌, arith}
 use Rattle.std.proofs.lemmas.Bool.{false≢true}
 use Rattle.std.proofs.lemmas.List.{length-map}
+use Rattle.type_table.proofs.Elements.{first-more}
 use Rattle.object_trait.specs.Steps.{IsFresh}
-use Rattle.store.proofs.Beginnings.{image-in, first-more, first-all, first-fails}
+use Rattle.store.proofs.Beginnings.{image-in, first-all, first-fails}
 use Rattle.store.proofs.parts.are_fresh.Goals as goal
 
 pub returns-then-not-is_fresh : goal.returns-then-not-is_fresh

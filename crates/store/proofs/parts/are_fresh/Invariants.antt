@@ -1,6 +1,6 @@
 use Rattle.std.proofs.Common.{map}
+use Rattle.type_table.proofs.Elements.{FirstAre}
 use Rattle.object_trait.specs.Steps.{IsFresh}
-use Rattle.store.proofs.Beginnings.{FirstAre}
 use Rattle.store.proofs.parts.are_fresh.Given as goal
 
 abbrev pub invariant-loop-object : goal.invariant-loop-object

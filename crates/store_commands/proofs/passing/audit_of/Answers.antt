@@ -19,4 +19,4 @@ returns g c =
     let of_objects = subst (λ (ts : List Table). Audits ts s.history outcome) (sym (tables_of_objects s.types)) audits in
     let history = c.run_is_history.ensures (objects s) s.history c.history.ensures.run in
     let passes = c.serial_histories_pass.ensures (objects s) s.history outcome history c.history.ensures.serial of_objects in
-    passed s outcome audits passes c.history.ensures.serial
+    passed s outcome audits passes (record { run = c.history.ensures.run; serial = c.history.ensures.serial; room = c.history.ensures.room })

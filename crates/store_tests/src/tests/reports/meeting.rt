@@ -12,7 +12,7 @@ use std::thread;
 use std::thread::Threads;
 use test_support::type_texts::COUNTER;
 use type_table::Kind;
-use workers::{Gate, Outcome, Report, run_workers};
+use workers::{Gate, Outcome, Report, Worked, run_workers};
 
 /// How often a worker looks for the other.
 const MOST_LOOKS: u32 = 50_000_000;
@@ -94,7 +94,11 @@ fn done_at<R: Abort + AllocGlobal + Threads + Wait + Sync>(
     let jobs = jobs_of(rt.alloc(), TWO_JOBS, 2)?;
     let objects = objects_of(rt.alloc(), &[(Kind::Undo, COUNTER)])?;
     let store = store_of(rt, objects, 20)?;
-    let (store, reports, fault) = run_workers(rt, store, jobs, 1, gate);
+    let Worked {
+        store,
+        reports,
+        fault,
+    } = run_workers(rt, store, jobs, 1, gate);
     assert!(rt; store.kept(0) == Some(2));
     let (history, objects) = store.close();
     Ok(Done {

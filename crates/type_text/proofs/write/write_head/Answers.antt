@@ -1,8 +1,8 @@
 use Rattle.std.proofs.Common.{[], ◌∷◌, append-nil}
+use Rattle.outputs.proofs.Turns.{Puts-append, Puts-exit}
 use Rattle.line_text.specs.Spelling.{text_of}
 use Rattle.type_text.specs.Canonical.{words_of}
 use Rattle.type_text.specs.declared.type_line.TypeLine.TheVariants.{States, Initial}
-use Rattle.type_text.proofs.Turns.{Puts-append, Puts-exit}
 use Rattle.type_text.proofs.write.write_head.Goals as goal
 
 pub returns-in_err-write_line-clause-writes : goal.returns-in_err-write_line-clause-writes

@@ -1,9 +1,9 @@
 use Rattle.std.proofs.Common.{[], ◌∷◌, ◌++◌, map}
 use Rattle.std.specs.List.{flat_map}
+use Rattle.outputs.proofs.Turns.{Puts-append, Puts-exit}
 use Rattle.line_text.specs.Spelling.{spaced, text_of}
 use Rattle.type_text.specs.Canonical.{words_of, lines_of_entries}
 use Rattle.type_text.specs.declared.type_line.TypeLine.TheVariants.{Operation, End}
-use Rattle.type_text.proofs.Turns.{Puts-append, Puts-exit}
 use Rattle.type_text.proofs.Writing.{all_sections, text-parts}
 use Rattle.type_text.proofs.write.write_type.Goals as goal
 

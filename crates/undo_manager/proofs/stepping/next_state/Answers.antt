@@ -1,6 +1,6 @@
 use Rattle.std.proofs.Common.{[]}
 use Rattle.type_table.specs.Table.{next}
-use Rattle.undo_manager.proofs.Running.{from_state}
+use Rattle.type_table.proofs.Legal.{from_state}
 use Rattle.undo_manager.proofs.stepping.next_state.Goals as goal
 
 pub next-requires-clause-state : goal.next-requires-clause-state

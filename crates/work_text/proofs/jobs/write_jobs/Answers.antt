@@ -1,7 +1,7 @@
 use Rattle.std.specs.List.{enumerate_from}
+use Rattle.outputs.proofs.Turns.{Puts-append, Puts-exit_at}
 use Rattle.work_text.specs.Lines.{report_text}
 use Rattle.work_text.proofs.Lines.{is_placed, text-at, texts-more, texts-all}
-use Rattle.work_text.proofs.Turns.{Puts-append, Puts-exit_at}
 use Rattle.work_text.proofs.jobs.write_jobs.Goals as goal
 
 pub returns-in_err-write_report : goal.returns-in_err-write_report

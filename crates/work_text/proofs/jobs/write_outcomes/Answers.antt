@@ -1,11 +1,11 @@
 use Rattle.std.proofs.Common.{◌++◌, ◌∷◌, [], List, ℕ, Err, refl}
 use Rattle.std.specs.List.{enumerate_from}
+use Rattle.outputs.proofs.Turns.{Puts-append, Puts-exit_at}
 use Rattle.line_text.specs.Spelling.{spaced}
 use Rattle.worker_turns.specs.declared.outcome.Outcome.{Outcome}
 use Rattle.worker_turns.specs.declared.outcome.Outcome.TheVariants.{Committed}
 use Rattle.work_text.specs.Lines.{job_words}
 use Rattle.work_text.proofs.Lines.{is_placed, text-at, texts-more, texts-all}
-use Rattle.work_text.proofs.Turns.{Puts-append, Puts-exit_at}
 use Rattle.work_text.proofs.jobs.write_outcomes.Goals as goal
 
 -- the line of a job of worker w

@@ -1,9 +1,10 @@
 -- One worker more, with the next list of jobs.
 use Rattle.std.proofs.Common.{◌≡◌, [], ◌∷◌, ◌++◌, take, drop, refl, sym, ap, ◌∙◌, inl, inr, add-one, arith, vec_len}
 use Rattle.std.proofs.lemmas.List.{map_push}
+use Rattle.type_table.proofs.Elements.{cases-more}
 use Rattle.jobs_text.specs.Jobs.{calls_in}
 use Rattle.worker_turns.specs.Progress.{Progress}
-use Rattle.workers.proofs.Lists.{next-behind, next-rest, found-push}
+use Rattle.workers.proofs.Lists.{next-behind, next-rest}
 use Rattle.workers.proofs.team.workers_of.Goals as goal
 
 pub loop-list-preserved : goal.loop-list-preserved
@@ -23,7 +24,7 @@ loop-list-preserved c =
       jobs =
           rw (c.push_reserved.ensures.items, behind, map_push (λ (z : Progress). z.jobs) c.loop-list.workers.items p, map_push calls_in (take n jobs) list, kept.jobs, c.in_ok-new.ensures.jobs) refl;
       fresh = λ w q there.
-          elim (found-push c.loop-list.workers.items p w q (rw c.push_reserved.ensures.items at there)) [
+          elim (cases-more c.loop-list.workers.items p w q (rw c.push_reserved.ensures.items at there)) [
             | inl before ↦ kept.fresh w q before
             | inr last ↦ rw (← last.1) (c.in_ok-new.ensures.fresh, c.in_ok-new.ensures.tries)
           ];

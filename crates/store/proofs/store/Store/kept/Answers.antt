@@ -13,4 +13,4 @@ returns-clause-kept g c =
     let low : c.args.x < length c.deref.result.now = grind (arith, nat_tests, lookup.0) in
     kept-shown c.checked_headline.ensures (map meaning inside.objects.items) inside.locks.items inside.transactions.rows inside.history.items inside.max_events
     c.self.invariant.store.kept c.args.self.now c.self.view_is c.runs_along.ensures c.args.x c.state.result (meaning object)
-    (image-in meaning inside.objects.items c.deref.result.now c.args.x object c.deref.ensures.value low lookup.1) c.state.ensures
+    (image-in meaning inside.objects.items c.deref.result.now c.args.x object c.deref.ensures.value low lookup.1) c.state.ensures c.state.type_inv

@@ -1,8 +1,8 @@
 use Rattle.std.proofs.Common.{◌≡◌, false}
 use Rattle.type_table.specs.ConflictTable.{conflicts}
+use Rattle.type_table.proofs.Elements.{FirstAre}
 use Rattle.object_trait.specs.Steps.{IsOfAnotherOpen}
 use Rattle.object_trait.specs.declared.log_entry.LogEntry.{LogEntry}
-use Rattle.store_tests.proofs.Places.{FirstAre}
 use Rattle.store_tests.proofs.tests.managers.driven.is_free.Given as goal
 
 abbrev pub invariant-loop-entry : goal.invariant-loop-entry

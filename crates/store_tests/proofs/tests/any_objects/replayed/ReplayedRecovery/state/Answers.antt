@@ -1,6 +1,6 @@
 use Rattle.std.proofs.Common.{◌∙◌}
 use Rattle.object_trait.specs.Meaning.{object}
-use Rattle.store_tests.proofs.Replaying.{state_in}
+use Rattle.undo_manager.proofs.InPlace.{state_in}
 use Rattle.store_tests.proofs.tests.any_objects.replayed.ReplayedRecovery.state.Goals as goal
 
 pub returns : goal.returns
