@@ -194,6 +194,32 @@ def show_bytes(folder, program):
         print(f"a store of {objects} of account, no transaction: {twice - once} bytes")
 
 
+def show_following(folder, program, rounds):
+    """The time in which a store follows the events of a run, beside that of the run."""
+    print(f"{'nanoseconds a command, and an event':44} {'run':>8} {'follow':>8} {'ratio':>6}")
+    for kind in KINDS:
+        for workload in WORKLOADS:
+            words = words_of(folder, kind, workload, COMMANDS, rounds)
+            turns = [printed(program, words) for _ in range(TURNS)]
+            run, follow = (min(int(turn[what]) for turn in turns) for what in ("run", "follow"))
+            print(f"{title(kind, workload):44} {run / COMMANDS:8.1f} {follow / COMMANDS:8.1f} {follow / run:6.2f}", flush=True)
+
+
+def show_lasting(folder, program, millions):
+    """The first and the last million of so many million events, and the most memory of the run."""
+    words = [*program, os.path.join(folder, "counter.type"), millions]
+    with subprocess.Popen(words, stdout=subprocess.PIPE, text=True) as run:
+        lines = [line.split() for line in run.stdout]
+        _, status, used = os.wait4(run.pid, 0)
+        run.returncode = os.waitstatus_to_exitcode(status)
+    if run.returncode:
+        sys.exit(f"{' '.join(words)}: status {run.returncode}")
+    times = [int(number) / 1e6 for word, number in lines if word == "nanoseconds"]
+    events = next(int(number) for word, number in lines if word == "events")
+    print(f"{events:,} events: the first million {times[0]:.0f} ms, the last {times[-1]:.0f} ms; "
+          f"at most {used.ru_maxrss / 1024:.1f} MB")
+
+
 def show_laws(folder, program, rounds):
     """Nanoseconds a command, by what a cost may depend on."""
     for what, rows in LAWS:
@@ -205,11 +231,17 @@ def show_laws(folder, program, rounds):
 
 
 def main(what, rounds):
-    store = [built("benches"), "store"]
+    benches = built("benches")
+    store = [benches, "store"]
     with tempfile.TemporaryDirectory() as folder:
         write_types(folder)
+        if what == "lasting":
+            show_lasting(folder, [benches, "lasting"], rounds)
+            return
         print(f"{os.cpu_count()} processors, least of {TURNS} turns of {rounds} rounds")
-        if what == "store":
+        if what == "follow":
+            show_following(folder, [benches, "follow"], rounds)
+        elif what == "store":
             show_times(folder, [store, [plain_program(folder)]], rounds)
             show_bytes(folder, store)
         else:

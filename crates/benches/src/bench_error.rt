@@ -10,12 +10,14 @@ use workers::WorkFault;
 /// Why nothing was measured.
 #[derive(Debug, Drop, Error)]
 pub enum BenchError {
-    #[error("the first word is check, store, lines or workers")]
+    #[error("the first word is check, store, follow, lasting, lines or workers")]
     NoSuchBench,
     #[error("usage: benches check undo|intentions FILE ROUNDS")]
     CheckUsage,
-    #[error("usage: benches store undo|intentions FILE OBJECTS OPEN CALLS plain|old|rollback COMMANDS ROUNDS")]
+    #[error("usage: benches store|follow undo|intentions FILE OBJECTS OPEN CALLS plain|old|rollback COMMANDS ROUNDS")]
     StoreUsage,
+    #[error("usage: benches lasting FILE MILLIONS")]
+    LastingUsage,
     #[error("usage: benches lines type|script FILE ROUNDS")]
     LinesUsage,
     #[error("usage: benches workers undo|intentions FILE WORKERS JOBS TRIES MICROSECONDS CALL..")]
@@ -36,6 +38,8 @@ pub enum BenchError {
     NotWorked(#[from] WorkFault),
     #[error("a job was refused: {0}")]
     Refused(#[from] Refusal),
+    #[error("a store doesn't follow the events of another")]
+    Strayed,
     #[error("a job wasn't run")]
     NotRun,
 }

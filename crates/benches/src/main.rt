@@ -3,6 +3,7 @@
 
 mod bench_error;
 mod check_bench;
+mod lasting_bench;
 mod lines_bench;
 mod parts;
 mod store_bench;
@@ -14,6 +15,7 @@ use std::process::ExitCode;
 use std::rt::{Clock, Env, Files};
 use std::sync::Wait;
 use std::thread::Threads;
+use store_bench::What;
 
 fn main(rt: HostRuntime) -> ExitCode {
     match measure(&rt) {
@@ -33,7 +35,9 @@ fn measure<R: Env + Files + Clock + Print + AllocGlobal + Threads + Wait + Sync>
     match words.as_slice() {
         [what, words @ ..] => match what.as_str() {
             "check" => check_bench::measure(rt, words),
-            "store" => store_bench::measure(rt, words),
+            "store" => store_bench::measure(rt, What::Run, words),
+            "follow" => store_bench::measure(rt, What::Follow, words),
+            "lasting" => lasting_bench::measure(rt, words),
             "lines" => lines_bench::measure(rt, words),
             "workers" => workers_bench::measure(rt, words),
             _ => Err(BenchError::NoSuchBench),

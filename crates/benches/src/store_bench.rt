@@ -1,5 +1,6 @@
 //! Times of a store: `store KIND FILE OBJECTS OPEN CALLS MODE COMMANDS ROUNDS` prints the least
-//! nanoseconds of a run of so many commands, and what came of them.
+//! nanoseconds of a run of so many commands, and what came of them. `follow`, with the same words, prints the
+//! least nanoseconds of a run, and of a new store that follows its events.
 
 mod fresh;
 mod outcome;
@@ -10,7 +11,8 @@ use crate::bench_error::BenchError;
 use crate::parts::{checked_of, number};
 use intentions_manager::IntentionsManager;
 use object_trait::Event;
-use rounds::{Measured, least_of};
+pub use rounds::store_of;
+use rounds::{Measured, least_followed, least_of};
 use std::fs;
 use std::mem::size_of;
 use std::rt::{Clock, Files};
@@ -19,9 +21,19 @@ use table_checker::{CheckedType, Kind};
 use undo_manager::UndoManager;
 use workload::{Mode, Workload};
 
+/// What is measured of a workload.
+#[derive(Clone, Copy)]
+pub enum What {
+    /// A run.
+    Run,
+    /// A run, and a store that follows its events.
+    Follow,
+}
+
 /// Measures what the words ask for, and prints it.
 pub fn measure<R: Files + Clock + Print + AllocGlobal>(
     rt: &R,
+    what: What,
     words: &[String],
 ) -> Result<(), BenchError> {
     match words {
@@ -31,7 +43,10 @@ pub fn measure<R: Files + Clock + Print + AllocGlobal>(
             let rounds = number(rounds).ok_or(BenchError::StoreUsage)?;
             let text = fs::read(rt, path.as_str())?;
             let checked = checked_of(rt.alloc(), kind, &text)?;
-            measure_type(rt, &checked, workload, rounds)
+            match what {
+                What::Run => measure_type(rt, &checked, workload, rounds),
+                What::Follow => measure_following(rt, &checked, workload, rounds),
+            }
         }
         _ => Err(BenchError::StoreUsage),
     }
@@ -63,6 +78,22 @@ fn measure_type<R: Clock + Print + AllocGlobal>(
         Kind::Intentions => least_of::<R, IntentionsManager>(rt, checked, workload, rounds)?,
     };
     print_measured(rt, measured)
+}
+
+/// Measures a workload at objects of a type and a store that follows it, and prints the times.
+fn measure_following<R: Clock + Print + AllocGlobal>(
+    rt: &R,
+    checked: &Arc<CheckedType>,
+    workload: Workload,
+    rounds: u32,
+) -> Result<(), BenchError> {
+    let followed = match checked.kind() {
+        Kind::Undo => least_followed::<R, UndoManager>(rt, checked, workload, rounds)?,
+        Kind::Intentions => least_followed::<R, IntentionsManager>(rt, checked, workload, rounds)?,
+    };
+    println!(rt; "run {}", followed.run)?;
+    println!(rt; "follow {}", followed.follow)?;
+    Ok(())
 }
 
 fn print_measured<R: Print>(rt: &R, measured: Measured) -> Result<(), BenchError> {

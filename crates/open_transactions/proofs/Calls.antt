@@ -1,9 +1,9 @@
 -- Rows in slots, as the calls read and write them: k is the slot that was read for an open transaction t.
-use Rattle.std.proofs.Common.{◌≡◌, ℕ, ◌+◌, ◌-◌, ◌<◌, true, List, [], ◌∷◌, ◌++◌, length, map, take, set, get_or, refl, sym, ap, subst, ◌∙◌, inl, inr, arith, not, eqb, Option, None}
+use Rattle.std.proofs.Common.{◌≡◌, ℕ, ◌+◌, ◌-◌, ◌<◌, ◌≢◌, true, false, List, [], ◌∷◌, ◌++◌, length, map, take, set, get_or, refl, sym, ap, subst, ◌∙◌, inl, inr, arith, not, eqb, Option, None}
 use Rattle.std.specs.Option.{option_map, is_some}
 use Rattle.std.specs.List.{swap_remove}
 use Rattle.std.proofs.lemmas.Bool.{cases_eq, eq-eqb, ne_eqb}
-use Rattle.std.proofs.lemmas.List.{get_or_read, length-map, get_or-map}
+use Rattle.std.proofs.lemmas.List.{length-map, get_or-map, get_or-set_same, get_or-set_other}
 use Rattle.open_transactions.specs.declared.open_transactions.OpenTransaction.{OpenTransaction}
 use Rattle.open_transactions.specs.Transactions.{Row, row, is_open, count_open, changed}
 use Rattle.open_transactions.specs.Slots.{slot_of, row_of, room_of, rows_of, rooms_of, numbers_of, AreSlots}
@@ -12,8 +12,8 @@ use Rattle.open_transactions.proofs.Rows.{closed-row, slot-open, open-slot, row-
 
 -- t is open where its slot is one
 pub open-tested : (slots : List OpenTransaction) (index : List ℕ) (known : AreSlots slots index) (rows : List (Option Row)) (t k : ℕ)
-    → rows_of slots index ≡ rows → t < length index → k ≡ get_or index t k → not (eqb k 65535) ≡ is_open rows t
-open-tested slots index known rows t k shown began read =
+    → rows_of slots index ≡ rows → k ≡ slot_of index t → not (eqb k 65535) ≡ is_open rows t
+open-tested slots index known rows t k shown read =
     elim (cases_eq k 65535) [
       | inl ended ↦ ap not (eq-eqb k 65535 ended) ∙ sym (row_is ∙ ap is_some (closed-row slots index known t (slot-is ∙ ended)))
       | inr other ↦
@@ -22,7 +22,7 @@ open-tested slots index known rows t k shown began read =
     ]
   where
     slot-is : slot_of index t ≡ k
-    slot-is = sym (get_or_read index t k began read 65535)
+    slot-is = sym read
 
     row_is : is_open rows t ≡ is_some (row (rows_of slots index) t)
     row_is = ap (λ r. is_open r t) (sym shown)
@@ -30,8 +30,23 @@ open-tested slots index known rows t k shown began read =
     some : (t : ℕ) → slot_of index t < length slots → is_open (rows_of slots index) t ≡ true
     some t inside = slot-open slots index known t inside
 
+-- t is open where it has a slot
+pub open-told : (slots : List OpenTransaction) (index : List ℕ) (known : AreSlots slots index) (rows : List (Option Row)) (t : ℕ)
+    → rows_of slots index ≡ rows → slot_of index t ≢ 65535 → is_open rows t ≡ true
+open-told slots index known rows t shown slotted =
+    ap (λ r. is_open r t) (sym shown) ∙ slot-open slots index known t (omega (arith, known.placed.slot t slotted, length-map slots (λ slot. slot.number)))
+
+-- there is a row for each slot
+pub as-many : (slots : List OpenTransaction) (index : List ℕ) (rows : List (Option Row)) → rows_of slots index ≡ rows → length rows ≡ length index
+as-many slots index rows shown = sym (ap length shown) ∙ length-map index (λ slot. get_or (map row_of slots) slot None)
+
+-- t isn't open where it has no slot
+pub ended-told : (slots : List OpenTransaction) (index : List ℕ) (known : AreSlots slots index) (rows : List (Option Row)) (t : ℕ)
+    → rows_of slots index ≡ rows → slot_of index t ≡ 65535 → is_open rows t ≡ false
+ended-told slots index known rows t shown ended = ap (λ r. is_open r t) (sym shown) ∙ ap is_some (closed-row slots index known t ended)
+
 module _ (slots : List OpenTransaction) (index : List ℕ) (known : AreSlots slots index) (rows : List (Option Row)) (shown : rows_of slots index ≡ rows)
-    (t k : ℕ) (opened : is_open rows t ≡ true) (read : k ≡ get_or index t k) where
+    (t k : ℕ) (opened : is_open rows t ≡ true) (read : k ≡ slot_of index t) where
   opened_shown : is_open (rows_of slots index) t ≡ true
   opened_shown = subst (λ r. is_open r t ≡ true) (sym shown) opened
 
@@ -39,10 +54,10 @@ module _ (slots : List OpenTransaction) (index : List ℕ) (known : AreSlots slo
   inside = open-slot slots index known t opened_shown
 
   slot-is : slot_of index t ≡ k
-  slot-is =
-      sym (get_or_read index t k
-      (slot-began 0 (numbers_of slots) index (numbers_of slots) known.placed refl t (omega (arith, inside, length-map slots (λ slot. slot.number))))
-      read 65535)
+  slot-is = sym read
+
+  len-numbers : length (numbers_of slots) ≡ length slots
+  len-numbers = length-map slots (λ slot. slot.number)
 
   -- the slot is written with the same number
   pub set-known : (old new : OpenTransaction) → old ≡ get_or slots k old → new.number ≡ old.number → AreSlots (set slots k new) index
@@ -77,6 +92,24 @@ module _ (slots : List OpenTransaction) (index : List ℕ) (known : AreSlots slo
 
     pub moved-began : moved.number < length index
     moved-began = subst (λ n. n < length index) moved_is (number-began slots index known last (omega (arith, last_is)))
+
+    -- it has a slot, and t has one still when that is changed
+    moved-slot : slot_of index moved.number ≡ last
+    moved-slot = ap (slot_of index) (sym moved_is) ∙ known.placed.back last (omega (arith, last_is, len-numbers))
+
+    pub moved-slotted : slot_of index moved.number ≢ 65535
+    moved-slotted e = omega (arith, moved-slot, e, last_is, len-numbers, known.placed.few)
+
+    pub still-slotted : slot_of (set index moved.number k) t ≢ 65535
+    still-slotted e =
+        elim (cases_eq t moved.number) [
+          | inl here ↦
+              let same : slot_of (set index moved.number k) t ≡ k = ap (slot_of (set index moved.number k)) here ∙ get_or-set_same index moved.number k 65535 moved-began in
+              omega (arith, same, e, slot-is, inside, len-numbers, known.placed.few)
+          | inr other ↦
+              let same : slot_of (set index moved.number k) t ≡ slot_of index t = get_or-set_other index moved.number t k 65535 other in
+              omega (arith, same, e, inside, len-numbers, known.placed.few)
+        ]
 
     module _ (removed : OpenTransaction) where
       last_found : last ≡ length slots - 1

@@ -1,3 +1,4 @@
+pub mod Trimmed
 pub mod Looked
 pub mod Ended
 pub mod Counts

@@ -1,3 +1,4 @@
+pub mod Index
 pub mod Transactions
 pub mod Slots
 pub mod Examples

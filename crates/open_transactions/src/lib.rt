@@ -3,6 +3,7 @@
 #![tactic(auto)]
 
 mod open_transactions;
+mod slot_index;
 
 pub use open_transactions::OpenTransactions;
 

@@ -1,12 +1,10 @@
-ghost use Rattle.std.specs.Prelude.{◌≡◌, ◌+◌, ◌<◌, ◌≤◌, true, [], ◌∷◌, ◌++◌, length, None, Some, OnOk, slice_index, slice_set};
+ghost use Rattle.std.specs.Prelude.{◌≡◌, ◌+◌, ◌<◌, ◌≤◌, ℕ, true, false, [], ◌∷◌, ◌++◌, length, None, Some, OnOk, slice_index, slice_set};
 ghost use Rattle.smallvec.specs.SmallVec.{HasRoomFor};
 
+use crate::slot_index::{ENDED, SlotIndex};
 use smallvec::SmallVec;
 use std::alloc::{AllocError, Global};
 use std::marker::Model;
-
-/// In place of a slot's index: the transaction ended.
-const ENDED: u16 = u16::MAX;
 
 /// What is kept of a transaction while it is open.
 #[derive(Drop)]
@@ -22,8 +20,8 @@ struct OpenTransaction {
 /// nothing where it ended. They also see for how many begins and places there is room.
 #[derive(Drop)]
 pub struct OpenTransactions {
-    // for each that began, the index of its slot, or `ENDED`
-    slot_of: Vec<u16>,
+    // the slot of each that began
+    index: SlotIndex,
     // the open ones, without gaps
     slots: Vec<OpenTransaction>,
 }
@@ -37,12 +35,12 @@ impl Model for OpenTransactions {
     ghost use Rattle.open_transactions.specs.Slots.{rows_of, rooms_of, AreSlots};
 
     ghost view = { λ a. record {
-      rows = rows_of a.slots.items a.slot_of.items;
-      room_to_begin = min (vec_capacity a.slot_of - vec_len a.slot_of) (vec_capacity a.slots - vec_len a.slots);
-      room_to_push = rooms_of a.slots.items a.slot_of.items;
+      rows = rows_of a.slots.items a.index.slots;
+      room_to_begin = min a.index.room (vec_capacity a.slots - vec_len a.slots);
+      room_to_push = rooms_of a.slots.items a.index.slots;
     } };
 
-    ghost invariant = { λ a. AreSlots a.slots.items a.slot_of.items };
+    ghost invariant = { λ a. AreSlots a.slots.items a.index.slots };
 }
 
 impl OpenTransactions {
@@ -53,7 +51,7 @@ impl OpenTransactions {
         ensures { result.rows ≡ [] }
     {
         OpenTransactions {
-            slot_of: Vec::new(alloc),
+            index: SlotIndex::new(alloc),
             slots: Vec::new(alloc),
         }
     }
@@ -62,7 +60,16 @@ impl OpenTransactions {
     pub fn begun(&self) -> u32
         ensures { result ≡ length self.now.rows }
     {
-        self.slot_of.len() as u32
+        self.index.begun()
+    }
+
+    /// A number before which all have ended: that of the oldest open one, or how many began where none is.
+    pub fn oldest(&self) -> u32
+        ensures within { result ≤ length self.now.rows }
+        ensures ended { (t : ℕ) → t < result → is_open self.now.rows t ≡ false }
+        ensures oldest { result < length self.now.rows → is_open self.now.rows result ≡ true }
+    {
+        self.index.oldest()
     }
 
     /// How many are open.
@@ -77,8 +84,7 @@ impl OpenTransactions {
     pub fn is_open(&self, t: u32) -> bool
         ensures { result ≡ is_open self.now.rows t }
     {
-        let t = t as usize;
-        t < self.slot_of.len() && self.slot_of[t] != ENDED
+        self.index.slot(t) != ENDED
     }
 
     /// The worker that began t.
@@ -86,7 +92,7 @@ impl OpenTransactions {
         requires { is_open self.now.rows t ≡ true }
         ensures { result ≡ worker_of (row self.now.rows t) }
     {
-        let slot = self.slot_of[t as usize] as usize;
+        let slot = self.index.slot(t) as usize;
         self.slots[slot].worker
     }
 
@@ -95,7 +101,7 @@ impl OpenTransactions {
         requires { is_open self.now.rows t ≡ true }
         ensures { result.now ≡ places_of (row self.now.rows t) }
     {
-        let slot = self.slot_of[t as usize] as usize;
+        let slot = self.index.slot(t) as usize;
         self.slots[slot].places.as_slice()
     }
 
@@ -104,7 +110,7 @@ impl OpenTransactions {
         ensures rows { self.new.rows ≡ self.old.rows }
         ensures room { OnOk result (0 < self.new.room_to_begin) }
     {
-        self.slot_of.reserve(1)?;
+        self.index.reserve()?;
         self.slots.reserve(1)
     }
 
@@ -117,15 +123,15 @@ impl OpenTransactions {
         ensures rows { self.new.rows ≡ self.old.rows ++ Some (begun_by worker) ∷ [] }
         ensures count { count_open self.new.rows ≡ count_open self.old.rows + 1 }
     {
-        let number = self.slot_of.len() as u32;
+        let number = self.index.begun();
         let slot = self.slots.len() as u16;
-        let places = SmallVec::new(*self.slot_of.allocator());
+        let places = SmallVec::new(*self.slots.allocator());
         self.slots.push_reserved(OpenTransaction {
             number,
             worker,
             places,
         });
-        self.slot_of.push_reserved(slot);
+        self.index.push_reserved(slot);
         number
     }
 
@@ -136,7 +142,7 @@ impl OpenTransactions {
         ensures rows { self.new.rows ≡ self.old.rows }
         ensures room { OnOk result (0 < slice_index self.new.room_to_push t) }
     {
-        let slot = self.slot_of[t as usize] as usize;
+        let slot = self.index.slot(t) as usize;
         reserve_one(&mut self.slots[slot].places)
     }
 
@@ -146,7 +152,7 @@ impl OpenTransactions {
         requires room { 0 < slice_index self.old.room_to_push t }
         ensures { self.new.rows ≡ changed self.old.rows t (pushed x) }
     {
-        let slot = self.slot_of[t as usize] as usize;
+        let slot = self.index.slot(t) as usize;
         self.slots[slot].places.push_reserved(x);
     }
 
@@ -155,7 +161,7 @@ impl OpenTransactions {
         requires { is_open self.old.rows t ≡ true }
         ensures { self.new.rows ≡ changed self.old.rows t (kept n) }
     {
-        let slot = self.slot_of[t as usize] as usize;
+        let slot = self.index.slot(t) as usize;
         self.slots[slot].places.truncate(n as usize);
     }
 
@@ -165,12 +171,12 @@ impl OpenTransactions {
         ensures rows { self.new.rows ≡ slice_set self.old.rows t None }
         ensures count { count_open self.new.rows + 1 ≡ count_open self.old.rows }
     {
-        let slot = self.slot_of[t as usize];
+        let slot = self.index.slot(t);
         // the transaction in the last slot goes to the slot of t
         let last = self.slots.len() - 1;
         let moved = self.slots[last].number;
-        self.slot_of[moved as usize] = slot;
-        self.slot_of[t as usize] = ENDED;
+        self.index.put(moved, slot);
+        self.index.end(t);
         self.slots.swap_remove(slot as usize);
     }
 }

@@ -1,4 +1,5 @@
 pub mod Turns
+pub mod Lasting
 pub mod ObjectLines
 pub mod Asked
 pub mod Commands

@@ -1,6 +1,5 @@
 -- The numbers of a run are in the ranges of a history's text.
-use Rattle.std.proofs.Common.{◌≡◌, ℕ, ◌+◌, ◌<◌, ◌≤◌, true, List, [], ◌∷◌, length, arith}
-use Rattle.std.specs.Prelude.{nat_le, ◌&&◌}
+use Rattle.std.proofs.Common.{◌≡◌, ℕ, ◌<◌, ◌≤◌, true, List, [], ◌∷◌, length, arith}
 use Rattle.std.specs.List.{AllByRecursion}
 use Rattle.std.proofs.lemmas.Bool.{and_from, le-leb}
 use Rattle.object_trait.specs.declared.event.Event.{Event}
@@ -8,7 +7,7 @@ use Rattle.object_trait.specs.declared.event.EventKind.{EventKind}
 use Rattle.object_trait.specs.declared.event.EventKind.TheVariants as kind
 use Rattle.serial_order.specs.After.{AreBelow, NumbersInRun}
 use Rattle.history_text.specs.Events.{is_in_range, is_object, is_operation, is_transaction, is_worker, line_at, line_of}
-use Rattle.script_run.specs.Laws.{MayBeTold, RunIsInRange}
+use Rattle.script_run.specs.Laws.{RunIsInRange}
 
 module _ (n objects : ℕ) (few : n ≤ 1000000) (few_objects : objects ≤ 256) where
   worker-in : (w : ℕ) → w ≤ 255 → is_worker w ≡ true

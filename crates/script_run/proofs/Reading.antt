@@ -1,15 +1,13 @@
 -- A script's lines are read as its history: those that aren't its canonical text are comments.
-use Rattle.std.proofs.Common.{◌≡◌, ℕ, suc, ◌+◌, ◌<◌, ◌≤◌, ◌^◌, Bool, true, false, not, List, [], ◌∷◌, ◌++◌, length, map, filter, cond, Option, Some, None, Ok, refl, sym, ap, ◌∙◌, subst, append-nil, arith}
+use Rattle.std.proofs.Common.{◌≡◌, ℕ, suc, ◌+◌, ◌<◌, ◌^◌, Bool, true, false, List, [], ◌∷◌, ◌++◌, length, map, filter, cond, Option, Some, None, Ok, refl, sym, ap, ◌∙◌, subst, append-nil, arith}
 use Rattle.std.specs.Prelude.{codes}
 use Rattle.std.specs.Fmt.{decimal}
-use Rattle.std.specs.List.{AllByRecursion, flat_map}
+use Rattle.std.specs.List.{AllByRecursion}
 use Rattle.std.proofs.lemmas.Grind.{flat_map-append}
-use Rattle.std.proofs.lemmas.List.{map-append}
 use Rattle.std.proofs.lemmas.List.Elements.{filter-append}
-use Rattle.line_text.specs.Comments.{IsComment, MaySkip, ended, lines_text, tells as tells_line}
+use Rattle.line_text.specs.Comments.{MaySkip, ended, lines_text, tells as tells_line}
 use Rattle.line_text.specs.Outcome.{outcome_of}
 use Rattle.line_text.specs.Spelling.{spaced}
-use Rattle.line_text.specs.Text.{is_comment}
 use Rattle.line_text.proofs.CommentLines.{IsText, comment_skips, comments_skip, nothing_told, number_text, skips_append, told_skips, words_comment}
 use Rattle.object_trait.specs.Object.{Object}
 use Rattle.object_trait.specs.declared.event.Event.{Event}

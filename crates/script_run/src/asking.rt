@@ -1,15 +1,17 @@
 //! The commands of a running script.
 
-ghost use Rattle.std.specs.Prelude.{◌≡◌, ◌++◌, ◌∷◌, [], List, None};
+ghost use Rattle.std.specs.Prelude.{◌≡◌, ◌≤◌, ◌++◌, ◌∷◌, [], List, length, None};
 ghost use Rattle.object_trait.specs.declared.event.Event.{Event as EventValue};
 ghost use Rattle.line_text.specs.Spelling.{spaced};
 ghost use Rattle.outputs.specs.Out.{Puts};
+ghost use Rattle.serial_order.specs.Machine.{IsRun};
+ghost use Rattle.store_laws.specs.Stored.{objects};
 ghost use Rattle.script_run.specs.Lines.{event_words};
 ghost use Rattle.script_run.specs.Running.{Asks, RunsCommands};
 
 use crate::lines::write_refused;
 use history_text::write_event;
-use object_trait::{Event, Recovery};
+use object_trait::Recovery;
 use outputs::{Out, OutFault};
 use script_text::CommandList;
 use serial_order::{Command, Refusal, command_appends};
@@ -47,9 +49,10 @@ fn run_command<R: Recovery, W: Out>(
     ensures { RunsCommands store.old (command.now ∷ []) (W.taken out.old) (W.taken out.new) (W.fault out.new) store.new result }
 {
     command_appends();
+    known(store);
     match ask(store, command) {
         Some(refusal) => write_refused(out, refusal),
-        None => write_last(out, store.history()),
+        None => write_last(out, store),
     }
 }
 
@@ -66,13 +69,22 @@ fn ask<R: Recovery>(store: &mut Store<R>, command: &Command) -> Option<Refusal>
     }
 }
 
-/// Writes the line of the last event of a history that has one.
-pub(crate) fn write_last<W: Out>(out: &mut W, history: &[Event]) -> Result<(), OutFault>
+/// What is known of the history of each store.
+pub(crate) fn known<R: Recovery>(store: &Store<R>)
+    ensures run { IsRun (objects store.now) store.now.history }
+    ensures within { store.now.forgotten ≤ length store.now.history }
+{
+    store.history();
+    store.event_count();
+}
+
+/// Writes the line of the last event of a store, which isn't forgotten.
+pub(crate) fn write_last<R: Recovery, W: Out>(out: &mut W, store: &Store<R>) -> Result<(), OutFault>
     requires { W.fault out.old ≡ None }
-    ensures { (before : List EventValue) (e : EventValue) → history.now ≡ before ++ e ∷ []
+    ensures { (before : List EventValue) (e : EventValue) → store.now.history ≡ before ++ e ∷ [] → store.now.forgotten ≤ length before
         → Puts (W.taken out.old) (W.taken out.new) (W.fault out.new) (spaced (event_words e) ++ 10 ∷ []) result }
 {
-    match history.last() {
+    match store.history().last() {
         Some(event) => write_event(out, event),
         None => Ok(()),
     }

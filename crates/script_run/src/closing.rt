@@ -2,12 +2,10 @@
 
 ghost use Rattle.std.specs.Prelude.{◌≡◌, ℕ, ◌<◌, ◌∷◌, [], filter, None};
 ghost use Rattle.serial_order.specs.History.{seen, is_open};
-ghost use Rattle.serial_order.specs.Machine.{IsRun};
-ghost use Rattle.store_laws.specs.Stored.{objects};
 ghost use Rattle.script_run.specs.Turns.{abort_turns, closing_turns};
 ghost use Rattle.script_run.specs.Running.{Writes};
 
-use crate::asking::write_last;
+use crate::asking::{known, write_last};
 use object_trait::Recovery;
 use outputs::{Out, OutFault};
 use serial_order::{opens_after, seen_after, transactions_in_run};
@@ -36,13 +34,6 @@ pub(crate) fn abort_all<R: Recovery, W: Out>(
     Ok(())
 }
 
-/// What is known of the history of each store.
-fn known<R: Recovery>(store: &Store<R>)
-    ensures { IsRun (objects store.now) store.now.history }
-{
-    store.history();
-}
-
 /// Aborts t where it is open, and writes its line.
 fn abort_open<R: Recovery, W: Out>(
     store: &mut Store<R>,
@@ -53,8 +44,9 @@ fn abort_open<R: Recovery, W: Out>(
     ensures { Writes store.old (abort_turns store.old.history (filter (is_open (seen store.old.history)) (t ∷ [])))
         (W.taken out.old) (W.taken out.new) (W.fault out.new) store.new result }
 {
+    known(store);
     match store.abort(0, t) {
-        Ok(()) => write_last(out, store.history()),
+        Ok(()) => write_last(out, store),
         Err(_) => Ok(()),
     }
 }

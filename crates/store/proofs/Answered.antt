@@ -3,7 +3,8 @@ use Rattle.std.proofs.Common.{◌≡◌, ℕ, ◌+◌, ◌<◌, ◌≤◌, Bool,
 use Rattle.std.specs.Option.{option_map}
 use Rattle.std.proofs.lemmas.Bool.Decides.{nat_tests}
 use Rattle.std.proofs.lemmas.List.{length-map}
-use Rattle.std.proofs.lemmas.Option.{slice_get_within}
+use Rattle.std.proofs.lemmas.Option.{same_Some, slice_get_within}
+use Rattle.type_table.proofs.Elements.{element_at}
 use Rattle.type_table.specs.Table.{call_of}
 use Rattle.object_trait.specs.Object.{Object, object_of}
 use Rattle.object_trait.specs.Meaning.{Meaning, object}
@@ -37,6 +38,7 @@ use Rattle.store_laws.proofs.Objects.{object-at}
 use Rattle.store.specs.Calls.{Comes}
 use Rattle.store.specs.Executed.{IsExecuted}
 use Rattle.store.specs.Whole.{IsWhole}
+use Rattle.store.proofs.Pasts.{past-test}
 use Rattle.store.proofs.Stored.{stored, shown, event-whole}
 use Rattle.store.proofs.Begins.{full-then, full-else}
 use Rattle.store.proofs.Opens.{some-of, open-alike, lists-alike}
@@ -60,8 +62,16 @@ pub record IsCalled (ms : List Meaning) (locks : List Locks) (rows : List (Optio
   pub list : slice_get (held_of locks) x ≡ Some held
   pub is_call : IsCall m.checked.file.table call
 
-module _ (ms : List Meaning) (locks : List Locks) (rows : List (Option Row)) (H : List Event) (max : ℕ) (s : Stored) (x : ℕ) (call : Call)
-    (same : shown (keeping ms locks rows) H max ≡ s) (known : IsThere s x call) where
+-- and its answer, whose event the history defines
+pub record IsGiven (ms : List Meaning) (locks : List Locks) (rows : List (Option Row)) (H : List Event) (t x : ℕ) (call : Call) (m : Meaning) (a : Answer) : Type 0 where
+  pub kept : IsKept (keeping ms locks rows) H
+  pub going : is_open (seen H) t ≡ true
+  pub there : slice_get ms x ≡ Some m
+  pub is_call : IsCall m.checked.file.table call
+  pub defined : call_event (slice_get (objects_of ms) x) (seen H) x t (Some call.first) ≡ Some (as_event t x call.first a)
+
+module _ (ms : List Meaning) (locks : List Locks) (rows : List (Option Row)) (H : List Event) (max forgotten : ℕ) (s : Stored) (x : ℕ) (call : Call)
+    (same : shown (keeping ms locks rows) H max forgotten ≡ s) (known : IsThere s x call) where
   -- the object that the caller knows
   known-at : slice_get (objects_of ms) x ≡ Some known.0
   known-at = subst (λ (z : Stored). slice_get (objects z) x ≡ Some known.0) (sym same) known.1
@@ -83,22 +93,41 @@ module _ (ms : List Meaning) (locks : List Locks) (rows : List (Option Row)) (H 
         is_call = subst (λ (z : Object). IsCall z.table call) (one-at (objects_of ms) x known.0 (object m) known-at (object-at ms x m there)) known.2;
       }
 
+  -- whose answer is given
+  pub given-at : (t : ℕ) (a : Answer) (m : Meaning) → IsKept (keeping ms locks rows) H → is_open (seen s.history) t ≡ true → slice_get ms x ≡ Some m
+      → call_event (slice_get (objects s) x) (seen s.history) x t (Some call.first) ≡ Some (as_event t x call.first a) → IsGiven ms locks rows H t x call m a
+  given-at t a m kept going there defined =
+      record {
+        kept = kept;
+        going = subst (λ (z : Stored). is_open (seen z.history) t ≡ true) (sym same) going;
+        there = there;
+        is_call = subst (λ (z : Object). IsCall z.table call) (one-at (objects_of ms) x known.0 (object m) known-at (object-at ms x m there)) known.2;
+        defined = subst (λ (z : Stored). call_event (slice_get (objects z) x) (seen z.history) x t (Some call.first) ≡ Some (as_event t x call.first a)) (sym same) defined;
+      }
+
+  -- at the object that is there
+  pub given : (t : ℕ) (a : Answer) → IsKept (keeping ms locks rows) H → is_open (seen s.history) t ≡ true
+      → call_event (slice_get (objects s) x) (seen s.history) x t (Some call.first) ≡ Some (as_event t x call.first a) → (m : Meaning) × IsGiven ms locks rows H t x call m a
+  given t a kept going defined =
+      let found = element_at ms x (called-inside (length ms) refl) in
+      (found.0, given-at t a found.0 kept going found.1 defined)
+
 -- so for objects that mean it
-pub called-of : {A : Type 0} (meaning : A → Meaning) (objects : List A) (locks : List Locks) (rows : List (Option Row)) (H : List Event) (max : ℕ) (s : Stored) (t x : ℕ) (call : Call)
-    (o : A) (list : Locks) → shown (keeping (map meaning objects) locks rows) H max ≡ s → IsKept (keeping (map meaning objects) locks rows) H
+pub called-of : {A : Type 0} (meaning : A → Meaning) (objects : List A) (locks : List Locks) (rows : List (Option Row)) (H : List Event) (max forgotten : ℕ) (s : Stored) (t x : ℕ) (call : Call)
+    (o : A) (list : Locks) → shown (keeping (map meaning objects) locks rows) H max forgotten ≡ s → IsKept (keeping (map meaning objects) locks rows) H
     → is_open (seen s.history) t ≡ true → IsThere s x call → o ≡ get_or objects x o → list ≡ get_or locks x list
     → IsCalled (map meaning objects) locks rows H t x call (meaning o) list.held
-called-of meaning objects locks rows H max s t x call o list same kept going known is_object is_list =
+called-of meaning objects locks rows H max forgotten s t x call o list same kept going known is_object is_list =
     let ms = map meaning objects in
     let as_many : length locks ≡ length ms = lists-alike ms locks rows H (length ms) kept refl in
-    called-at ms locks rows H max s x call same known t (meaning o) list.held kept going
-    (seen-at meaning objects x o (called-inside ms locks rows H max s x call same known (length objects) (length-map objects meaning)) is_object)
-    (seen-at (λ (l : Locks). l.held) locks x list (called-inside ms locks rows H max s x call same known (length locks) (sym as_many)) is_list)
+    called-at ms locks rows H max forgotten s x call same known t (meaning o) list.held kept going
+    (seen-at meaning objects x o (called-inside ms locks rows H max forgotten s x call same known (length objects) (length-map objects meaning)) is_object)
+    (seen-at (λ (l : Locks). l.held) locks x list (called-inside ms locks rows H max forgotten s x call same known (length locks) (sym as_many)) is_list)
 
 -- whose transaction has a row
-pub still-open : RowsSayWhoIsOpen → (ms : List Meaning) (locks : List Locks) (rows : List (Option Row)) (H : List Event) (max : ℕ) (s : Stored) (t : ℕ)
-    → shown (keeping ms locks rows) H max ≡ s → IsKept (keeping ms locks rows) H → is_open (seen s.history) t ≡ true → table.is_open rows t ≡ true
-still-open says ms locks rows H max s t same kept going =
+pub still-open : RowsSayWhoIsOpen → (ms : List Meaning) (locks : List Locks) (rows : List (Option Row)) (H : List Event) (max forgotten : ℕ) (s : Stored) (t : ℕ)
+    → shown (keeping ms locks rows) H max forgotten ≡ s → IsKept (keeping ms locks rows) H → is_open (seen s.history) t ≡ true → table.is_open rows t ≡ true
+still-open says ms locks rows H max forgotten s t same kept going =
     sym (open-alike says ms locks rows H t kept) ∙ subst (λ (z : Stored). is_open (seen z.history) t ≡ true) (sym same) going
 
 -- and of the least of its operations
@@ -108,11 +137,13 @@ call-least least o call is = least o (call_of o.table call.first) call.first is.
 -- ---- room for its event
 
 -- what the test of room said
-pub room-tested : RowsAreCounted → (ms : List Meaning) (locks : List Locks) (rows : List (Option Row)) (H K : List Event) (opened max : ℕ) (has said : Bool)
-    → IsKept (keeping ms locks rows) H → opened ≡ count_open rows → K ≡ H → has ≡ nat_le (length K + opened + 1) max → has ≡ said → is_full max H 1 ≡ not said
-room-tested counted ms locks rows H K opened max has said kept exact same test says =
+pub room-tested : RowsAreCounted → (ms : List Meaning) (locks : List Locks) (rows : List (Option Row)) (past Hm K : List Event) (forgotten opened max : ℕ) (has said : Bool)
+    → IsKept (keeping ms locks rows) (past ++ Hm) → opened ≡ count_open rows → forgotten ≡ length past → K ≡ Hm → has ≡ nat_le (forgotten + length K + opened + 1) max → has ≡ said
+    → is_full max (past ++ Hm) 1 ≡ not said
+room-tested counted ms locks rows past Hm K forgotten opened max has said kept exact many same test says =
+    let H = past ++ Hm in
     let counts : opened ≡ open_count (seen H) = exact ∙ sym (counted (keeping ms locks rows) H kept) in
-    let told : nat_le (length H + opened + 1) max ≡ said = ap (λ L. nat_le (length L + opened + 1) max) (sym same) ∙ sym test ∙ says in
+    let told : nat_le (length H + opened + 1) max ≡ said = past-test past K Hm forgotten opened 1 max has said many test same says in
     elim said as (λ b. nat_le (length H + opened + 1) max ≡ b → is_full max H 1 ≡ not b) [
       | true ↦ full-else H opened 1 max counts
       | false ↦ full-then H opened 1 max counts
@@ -124,42 +155,46 @@ room-left H max room = grind (arith, nat_tests, room)
 
 -- ---- its answer
 
-module _ {ms : List Meaning} {locks : List Locks} {rows : List (Option Row)} {H : List Event} {t x : ℕ} {call : Call} {m : Meaning} {held : List Held} {a : Answer}
-    (called : IsCalled ms locks rows H t x call m held) (is_answer : a ≡ answer_of m held t call.first) where
-  -- is that of the event that the history defines
-  answer-event : AnswersAsDefined → as_event t x call.first a ≡ event_of_call (object m) (seen H) x t call.first
-  answer-event defined =
-      ap (as_event t x call.first) (is_answer ∙ ap (λ held. answer_of m held t call.first) (called.kept.held x held called.list))
-      ∙ defined m x H t call.first (called.kept.objects x m called.there).represents called.going
+-- is that of the event that the history defines
+pub answer-defined : {ms : List Meaning} {locks : List Locks} {rows : List (Option Row)} {H : List Event} {t x : ℕ} {call : Call} {m : Meaning} {held : List Held} {a : Answer}
+    → IsCalled ms locks rows H t x call m held → a ≡ answer_of m held t call.first → AnswersAsDefined
+    → call_event (slice_get (objects_of ms) x) (seen H) x t (Some call.first) ≡ Some (as_event t x call.first a)
+answer-defined {ms} {H = H} {t = t} {x = x} {call = call} {m = m} {held = held} called is_answer defined =
+    let event =
+    ap (as_event t x call.first) (is_answer ∙ ap (λ held. answer_of m held t call.first) (called.kept.held x held called.list))
+    ∙ defined m x H t call.first (called.kept.objects x m called.there).represents called.going in
+    ap (λ o. call_event o (seen H) x t (Some call.first)) (object-at ms x m called.there) ∙ ap Some (sym event)
 
-  -- and so the event of the call
-  pub answer-defined : AnswersAsDefined → call_event (slice_get (objects_of ms) x) (seen H) x t (Some call.first) ≡ Some (as_event t x call.first a)
-  answer-defined defined = ap (λ o. call_event o (seen H) x t (Some call.first)) (object-at ms x m called.there) ∙ ap Some (sym (answer-event defined))
+module _ {ms : List Meaning} {locks : List Locks} {rows : List (Option Row)} {H : List Event} {t x : ℕ} {call : Call} {m : Meaning} {a : Answer}
+    (given : IsGiven ms locks rows H t x call m a) where
+  answer-event : as_event t x call.first a ≡ event_of_call (object m) (seen H) x t call.first
+  answer-event =
+      same_Some (as_event t x call.first a) (event_of_call (object m) (seen H) x t call.first)
+      (sym given.defined ∙ ap (λ o. call_event o (seen H) x t (Some call.first)) (object-at ms x m given.there))
 
-  -- which may follow
-  pub answer-follows : AnswersAsDefined → FirstOpIsLeast → AnswerMayFollow → (w : ℕ) → MayFollow (objects_of ms) H (record { worker = w; kind = as_event t x call.first a })
-  answer-follows defined least follow w =
-      subst (λ happened. MayFollow (objects_of ms) H (record { worker = w; kind = happened })) (sym (answer-event defined))
-      (follow (objects_of ms) H x (object m) w t call.first (object-at ms x m called.there) called.going (call-least least (object m) call called.is_call))
+  -- its event may follow
+  pub answer-follows : FirstOpIsLeast → AnswerMayFollow → (w : ℕ) → MayFollow (objects_of ms) H (record { worker = w; kind = as_event t x call.first a })
+  answer-follows least follow w =
+      subst (λ happened. MayFollow (objects_of ms) H (record { worker = w; kind = happened })) (sym answer-event)
+      (follow (objects_of ms) H x (object m) w t call.first (object-at ms x m given.there) given.going (call-least least (object m) call given.is_call))
 
   -- so that a reply may be executed
-  pub reply-may : AnswersAsDefined → FirstOpIsLeast → AnswerMayFollow → MachineMayApply → LogsAreCounted → (k max : ℕ) → a ≡ answer.Reply k → is_full max H 1 ≡ false → max ≤ 4294967295
+  pub reply-may : FirstOpIsLeast → AnswerMayFollow → MachineMayApply → LogsAreCounted → (k max : ℕ) → a ≡ answer.Reply k → is_full max H 1 ≡ false → max ≤ 4294967295
       → MayApply m t k
-  reply-may defined least follow machine counted k max replies room fits =
-      let represents = (called.kept.objects x m called.there).represents in
+  reply-may least follow machine counted k max replies room fits =
+      let represents = (given.kept.objects x m given.there).represents in
       let log = (counted m x H represents).short in
       let limited = room-left H max room in
-      machine (objects_of ms) H 0 t x k m called.kept.run
-      (subst (λ b. MayFollow (objects_of ms) H (record { worker = 0; kind = as_event t x call.first b })) replies (answer-follows defined least follow 0))
-      (object-at ms x m called.there) represents (omega (arith, log, limited, fits))
+      machine (objects_of ms) H 0 t x k m given.kept.run
+      (subst (λ b. MayFollow (objects_of ms) H (record { worker = 0; kind = as_event t x call.first b })) replies (answer-follows least follow 0))
+      (object-at ms x m given.there) represents (omega (arith, log, limited, fits))
 
--- and is one of 64 operations
-pub reply-fits : {ms : List Meaning} {locks : List Locks} {rows : List (Option Row)} {H : List Event} {t x : ℕ} {call : Call} {m : Meaning} {held : List Held}
-    → IsCalled ms locks rows H t x call m held → (k : ℕ) → MayApply m t k → k < 64
-reply-fits {x = x} {m = m} called k may =
-    let few = (called.kept.objects x m called.there).checked.table.ops_fit in
-    let below = may.operation in
-    omega (arith, few, below)
+  -- and is one of 64 operations
+  pub reply-fits : (k : ℕ) → MayApply m t k → k < 64
+  reply-fits k may =
+      let few = (given.kept.objects x m given.there).checked.table.ops_fit in
+      let below = may.operation in
+      omega (arith, few, below)
 
 -- ---- what it changes
 
@@ -218,27 +253,27 @@ module _ (quiet : QuietMoves) (op : OpMoves) (types : TypesStay) (ms now : List 
       (omega (arith, reserved, counts, exact, takes_one)) (omega (arith, limited, takes_one))
 
   -- what comes of it
-  pub answer-comes : (max : ℕ) (s : Stored) → shown (keeping ms locks rows) H max ≡ s → is_full max H 1 ≡ false
-      → call_event (slice_get (objects_of ms) x) (seen H) x t (Some c) ≡ Some (as_event t x c a) → Comes s w t x c (Ok a) (shown (keeping now lists left) after max)
-  answer-comes max s same room defined =
+  pub answer-comes : (max forgotten : ℕ) (s : Stored) → shown (keeping ms locks rows) H max forgotten ≡ s → is_full max H 1 ≡ false
+      → call_event (slice_get (objects_of ms) x) (seen H) x t (Some c) ≡ Some (as_event t x c a) → Comes s w t x c (Ok a) (shown (keeping now lists left) after max forgotten)
+  answer-comes max forgotten s same room defined =
       let same_types : types_of now ≡ types_of ms =
       types (keeping ms locks rows) (keeping now lists left) H (record { worker = w; kind = as_event t x c a })
       (answer-moved quiet op ms now locks lists rows left H w t x c a kept going done) in
-      subst (λ (z : Stored). Comes z w t x c (Ok a) (shown (keeping now lists left) after max)) same
-      (room, defined, ap (λ ts. stored ts after max) same_types ∙ ap (λ K. stored (types_of ms) K max) appended)
+      subst (λ (z : Stored). Comes z w t x c (Ok a) (shown (keeping now lists left) after max forgotten)) same
+      (room, defined, ap (λ ts. stored ts after max forgotten) same_types ∙ ap (λ K. stored (types_of ms) K max forgotten) appended)
 
 -- ---- where nothing comes of it
 
-module _ (ms : List Meaning) (locks : List Locks) (rows : List (Option Row)) (H : List Event) (max : ℕ) (s : Stored) (w t x c : ℕ)
-    (same : shown (keeping ms locks rows) H max ≡ s) where
+module _ (ms : List Meaning) (locks : List Locks) (rows : List (Option Row)) (H : List Event) (max forgotten : ℕ) (s : Stored) (w t x c : ℕ)
+    (same : shown (keeping ms locks rows) H max forgotten ≡ s) where
   -- there is no room for the event
   pub full-comes : is_full max H 1 ≡ true → Comes s w t x c (Err HistoryFull) s
   full-comes full = (refl, inl (subst (λ (z : Stored). is_full z.max z.history 1 ≡ true) same full, refl))
 
   -- memory was refused
   pub wanting-comes : (now : List Meaning) (lists : List Locks) (left : List (Option Row)) (after : List Event) → now ≡ ms → after ≡ H → is_full max H 1 ≡ false
-      → Comes s w t x c (Err NoMemory) (shown (keeping now lists left) after max)
+      → Comes s w t x c (Err NoMemory) (shown (keeping now lists left) after max forgotten)
   wanting-comes now lists left after unchanged stays room = (
-    ap (λ ns. stored (types_of ns) after max) unchanged ∙ ap (λ K. stored (types_of ms) K max) stays ∙ same,
+    ap (λ ns. stored (types_of ns) after max forgotten) unchanged ∙ ap (λ K. stored (types_of ms) K max forgotten) stays ∙ same,
     inr (subst (λ (z : Stored). is_full z.max z.history 1 ≡ false) same room, refl),
   )

@@ -83,8 +83,8 @@ module _ (moves : BeginMoves) (ms : List Meaning) (locks : List Locks) (rows now
       (subst (λ n. length H + n + 2 ≤ max) same limited)
 
   -- and callers see the event
-  pub begin-shown : TypesStay → (max : ℕ) (s : Stored) → shown (keeping ms locks rows) H max ≡ s → refusal (objects_of ms) max H command.Begin ≡ None
-      → Steps s w command.Begin (Ok t) (shown (keeping ms locks now) after max)
-  begin-shown types max s same unrefused =
-      event-shown types ℕ (keeping ms locks rows) (keeping ms locks now) H after w max (Begin t) command.Begin t s same begin-moved appended unrefused
+  pub begin-shown : TypesStay → (max forgotten : ℕ) (s : Stored) → shown (keeping ms locks rows) H max forgotten ≡ s → refusal (objects_of ms) max H command.Begin ≡ None
+      → Steps s w command.Begin (Ok t) (shown (keeping ms locks now) after max forgotten)
+  begin-shown types max forgotten s same unrefused =
+      event-shown types ℕ (keeping ms locks rows) (keeping ms locks now) H after w max forgotten (Begin t) command.Begin t s same begin-moved appended unrefused
       (ap (λ n. Some (Begin n)) (sym begin-number))

@@ -19,7 +19,7 @@ use Rattle.store.proofs.Opens.{open-alike}
 
 -- ---- what callers see
 
-module _ (ms : List Meaning) (locks : List Locks) (rows : List (Option Row)) (H : List Event) (max : ℕ) (s : Stored) (same : shown (keeping ms locks rows) H max ≡ s) where
+module _ (ms : List Meaning) (locks : List Locks) (rows : List (Option Row)) (H : List Event) (max forgotten : ℕ) (s : Stored) (same : shown (keeping ms locks rows) H max forgotten ≡ s) where
   -- whether a transaction is open
   pub open-shown : RowsSayWhoIsOpen → (t : ℕ) → IsKept (keeping ms locks rows) H → is_open (seen s.history) t ≡ table.is_open rows t
   open-shown says t kept = subst (λ (z : Stored). is_open (seen z.history) t ≡ table.is_open rows t) same (open-alike says ms locks rows H t kept)

@@ -26,17 +26,18 @@ use Rattle.store_laws.specs.Stored.{Stored, objects, after}
 use Rattle.store_laws.specs.Kept.{Keeping, keeping, objects_of, IsKept}
 use Rattle.store.specs.Ends.{closing, closing_abort, IsHandedOut}
 use Rattle.store.proofs.Stored.{shown}
-use Rattle.store.proofs.Opens.{some-of}
+use Rattle.store_laws.specs.Before.{RowsSayWhoIsOpen}
+use Rattle.store.proofs.Opens.{some-of, open-alike}
 
 -- ---- what callers see
 
 -- what is kept agrees with the history that they see
-pub kept-shown : (k : Keeping) (H : List Event) (max : ℕ) (s : Stored) → shown k H max ≡ s → IsKept k H → IsKept k s.history
-kept-shown k H max s same kept = subst (λ K. IsKept k K) (ap (λ (z : Stored). z.history) same) kept
+pub kept-shown : (k : Keeping) (H : List Event) (max forgotten : ℕ) (s : Stored) → shown k H max forgotten ≡ s → IsKept k H → IsKept k s.history
+kept-shown k H max forgotten s same kept = subst (λ K. IsKept k K) (ap (λ (z : Stored). z.history) same) kept
 
 -- which is a run at the objects that they see
-pub run-shown : (k : Keeping) (H : List Event) (max : ℕ) (s : Stored) → shown k H max ≡ s → IsKept k H → IsRun (objects s) s.history
-run-shown k H max s same kept = subst (λ (z : Stored). IsRun (objects z) z.history) same kept.run
+pub run-shown : (k : Keeping) (H : List Event) (max forgotten : ℕ) (s : Stored) → shown k H max forgotten ≡ s → IsKept k H → IsRun (objects s) s.history
+run-shown k H max forgotten s same kept = subst (λ (z : Stored). IsRun (objects z) z.history) same kept.run
 
 -- ---- one abort
 
@@ -98,6 +99,18 @@ closing-opened H n going =
 closing-ended : (H : List Event) (n : ℕ) → is_open (seen H) n ≡ false → H ++ closing_below H (n + 1) ≡ H ++ closing_below H n
 closing-ended H n ended =
     ap (λ es. H ++ es) (closing-more H n ∙ ap (λ b. closing_below H n ++ map (closing_abort H) (cond b (n ∷ []) [])) ended ∙ append-nil (closing_below H n))
+
+-- where none below n is open, there is nothing to abort there
+closing-none : (H : List Event) (n : ℕ) → ((t : ℕ) → t < n → is_open (seen H) t ≡ false) → H ++ closing_below H n ≡ H
+closing-none H zero none = append-nil H
+closing-none H (suc n) none =
+    subst (λ k. H ++ closing_below H k ≡ H) (add-one n) (closing-ended H n (none n (omega arith)) ∙ closing-none H n (λ t low. none t (omega (arith, low))))
+
+-- so a store is as it was where the rows of those below n say that they ended
+pub closed-none : RowsSayWhoIsOpen → (ms : List Meaning) (locks : List Locks) (rows : List (Option Row)) (s : Stored) (n : ℕ) → IsKept (keeping ms locks rows) s.history
+    → ((t : ℕ) → t < n → table.is_open rows t ≡ false) → s ≡ closed_below s n
+closed-none says ms locks rows s n kept none =
+    ap (λ K. record s { history = K }) (sym (closing-none s.history n (λ t low. open-alike says ms locks rows s.history t kept ∙ none t low)))
 
 -- ---- what is known meanwhile
 

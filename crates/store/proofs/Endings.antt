@@ -76,8 +76,8 @@ module _ (change : Meaning → ℕ → Meaning → Type 0) (ends : ℕ → Event
       (subst (λ n. length H + open_count (seen H) + n ≤ max) (sym free) (omega (arith, limited)))
 
   -- and callers see the event
-  pub end-shown : TypesStay → (T : Type 0) (x : T) (command : Command) (max : ℕ) (s : Stored) → shown (keeping ms locks rows) H max ≡ s
+  pub end-shown : TypesStay → (T : Type 0) (x : T) (command : Command) (max forgotten : ℕ) (s : Stored) → shown (keeping ms locks rows) H max forgotten ≡ s
       → refusal (objects_of ms) max H command ≡ None → event_of (objects_of ms) (seen H) command ≡ Some (ends t)
-      → Steps {T = T} s w command (Ok x) (shown (keeping ms_now locks_now now) after max)
-  end-shown types T x command max s same unrefused makes =
-      event-shown types T (keeping ms locks rows) (keeping ms_now locks_now now) H after w max (ends t) command x s same end-moved appended unrefused makes
+      → Steps {T = T} s w command (Ok x) (shown (keeping ms_now locks_now now) after max forgotten)
+  end-shown types T x command max forgotten s same unrefused makes =
+      event-shown types T (keeping ms locks rows) (keeping ms_now locks_now now) H after w max forgotten (ends t) command x s same end-moved appended unrefused makes

@@ -47,8 +47,8 @@ in-place along Intentions o base log x C V state stands is undo = cc
 
 -- ---- a store
 
-module _ (headline : CheckedHeadline) (ms : List Meaning) (locks : List Locks) (rows : List (Option Row)) (H : List Event) (max : ℕ) (kept : IsKept (keeping ms locks rows) H)
-    (s : Stored) (same : shown (keeping ms locks rows) H max ≡ s) where
+module _ (headline : CheckedHeadline) (ms : List Meaning) (locks : List Locks) (rows : List (Option Row)) (H : List Event) (max forgotten : ℕ) (kept : IsKept (keeping ms locks rows) H)
+    (s : Stored) (same : shown (keeping ms locks rows) H max forgotten ≡ s) where
   -- the checker said yes for each of its types
   accepted : AreChecked (types_of ms)
   accepted x c there =

@@ -12,3 +12,6 @@ pub mod Known
 pub mod Calls
 pub mod Executed
 pub mod Answered
+pub mod Pasts
+pub mod OpCalls
+pub mod OneAnswer

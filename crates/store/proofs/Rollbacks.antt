@@ -148,7 +148,7 @@ module _ (moves : RollbackMoves) (ms ms_now : List Meaning) (locks locks_now : L
       rollback-moved appended (omega (arith, limited, fits)) (subst (λ m. length H + m + 1 ≤ more) same reserved) (subst (λ m. length H + m + 1 ≤ max) same limited)
 
   -- and callers see the event
-  pub rollback-shown : TypesStay → (T : Type 0) (x : T) (max : ℕ) (s : Stored) → shown (keeping ms locks rows) H max ≡ s
-      → refusal (objects_of ms) max H (command.Rollback t n) ≡ None → Steps {T = T} s w (command.Rollback t n) (Ok x) (shown (keeping ms_now locks_now now) after max)
-  rollback-shown types T x max s same unrefused =
-      event-shown types T (keeping ms locks rows) (keeping ms_now locks_now now) H after w max (Rollback t n) (command.Rollback t n) x s same rollback-moved appended unrefused refl
+  pub rollback-shown : TypesStay → (T : Type 0) (x : T) (max forgotten : ℕ) (s : Stored) → shown (keeping ms locks rows) H max forgotten ≡ s
+      → refusal (objects_of ms) max H (command.Rollback t n) ≡ None → Steps {T = T} s w (command.Rollback t n) (Ok x) (shown (keeping ms_now locks_now now) after max forgotten)
+  rollback-shown types T x max forgotten s same unrefused =
+      event-shown types T (keeping ms locks rows) (keeping ms_now locks_now now) H after w max forgotten (Rollback t n) (command.Rollback t n) x s same rollback-moved appended unrefused refl

@@ -23,35 +23,35 @@ use Rattle.store.proofs.Steps.{refused-steps, accepted-steps, wanting-steps}
 
 -- ---- what callers see
 
-abbrev pub stored : List Checked → List Event → ℕ → Stored
-stored types H max = record { types = types; history = H; max = max }
+abbrev pub stored : List Checked → List Event → ℕ → ℕ → Stored
+stored types H max forgotten = record { types = types; history = H; max = max; forgotten = forgotten }
 
-abbrev pub shown : Keeping → List Event → ℕ → Stored
-shown k H max = stored (types_of k.meanings) H max
+abbrev pub shown : Keeping → List Event → ℕ → ℕ → Stored
+shown k H max forgotten = stored (types_of k.meanings) H max forgotten
 
 -- where the call is refused
-pub refused-shown : (T : Type 0) (k : Keeping) (H : List Event) (w max : ℕ) (command : Command) (r : Refusal) (s : Stored) → shown k H max ≡ s
+pub refused-shown : (T : Type 0) (k : Keeping) (H : List Event) (w max forgotten : ℕ) (command : Command) (r : Refusal) (s : Stored) → shown k H max forgotten ≡ s
     → refusal (objects_of k.meanings) max H command ≡ Some r → Steps {T = T} s w command (Err r) s
-refused-shown T k H w max command r s same reason =
-    subst (λ (z : Stored). Steps {T = T} z w command (Err r) z) same (refused-steps T (shown k H max) w command r reason)
+refused-shown T k H w max forgotten command r s same reason =
+    subst (λ (z : Stored). Steps {T = T} z w command (Err r) z) same (refused-steps T (shown k H max forgotten) w command r reason)
 
 -- where memory was refused: the history has the same events
-pub wanting-shown : (T : Type 0) (k : Keeping) (H after : List Event) (w max : ℕ) (command : Command) (s : Stored) → shown k H max ≡ s
-    → refusal (objects_of k.meanings) max H command ≡ None → after ≡ H → MayStep {T = T} s w command (Err NoMemory) (shown k after max)
-wanting-shown T k H after w max command s same unrefused stays =
-    subst (λ (z : Stored). MayStep {T = T} z w command (Err NoMemory) (shown k after max)) same
-    (wanting-steps T (shown k H max) w command (shown k after max) unrefused (ap (λ K. stored (types_of k.meanings) K max) stays))
+pub wanting-shown : (T : Type 0) (k : Keeping) (H after : List Event) (w max forgotten : ℕ) (command : Command) (s : Stored) → shown k H max forgotten ≡ s
+    → refusal (objects_of k.meanings) max H command ≡ None → after ≡ H → MayStep {T = T} s w command (Err NoMemory) (shown k after max forgotten)
+wanting-shown T k H after w max forgotten command s same unrefused stays =
+    subst (λ (z : Stored). MayStep {T = T} z w command (Err NoMemory) (shown k after max forgotten)) same
+    (wanting-steps T (shown k H max forgotten) w command (shown k after max forgotten) unrefused (ap (λ K. stored (types_of k.meanings) K max forgotten) stays))
 
 -- where there is an event
-pub event-shown : TypesStay → (T : Type 0) (old new : Keeping) (H after : List Event) (w max : ℕ) (happened : EventKind) (command : Command) (x : T) (s : Stored)
-    → shown old H max ≡ s → Moves old new H (record { worker = w; kind = happened }) → after ≡ H ++ (record { worker = w; kind = happened }) ∷ []
+pub event-shown : TypesStay → (T : Type 0) (old new : Keeping) (H after : List Event) (w max forgotten : ℕ) (happened : EventKind) (command : Command) (x : T) (s : Stored)
+    → shown old H max forgotten ≡ s → Moves old new H (record { worker = w; kind = happened }) → after ≡ H ++ (record { worker = w; kind = happened }) ∷ []
     → refusal (objects_of old.meanings) max H command ≡ None → event_of (objects_of old.meanings) (seen H) command ≡ Some happened
-    → Steps {T = T} s w command (Ok x) (shown new after max)
-event-shown types T old new H after w max happened command x s same moves appended unrefused makes =
+    → Steps {T = T} s w command (Ok x) (shown new after max forgotten)
+event-shown types T old new H after w max forgotten happened command x s same moves appended unrefused makes =
     let same_types : types_of new.meanings ≡ types_of old.meanings = types old new H (record { worker = w; kind = happened }) moves in
-    subst (λ (z : Stored). Steps {T = T} z w command (Ok x) (shown new after max)) same
-    (accepted-steps T (shown old H max) w command x happened (shown new after max) unrefused makes
-    (ap (λ ts. stored ts after max) same_types ∙ ap (λ K. stored (types_of old.meanings) K max) appended))
+    subst (λ (z : Stored). Steps {T = T} z w command (Ok x) (shown new after max forgotten)) same
+    (accepted-steps T (shown old H max forgotten) w command x happened (shown new after max forgotten) unrefused makes
+    (ap (λ ts. stored ts after max forgotten) same_types ∙ ap (λ K. stored (types_of old.meanings) K max forgotten) appended))
 
 -- ---- what is kept
 
@@ -60,12 +60,12 @@ pub event-store : StaysKept → RoomAfter → (old new : Keeping) (H after : Lis
     → IsStore old H room max → MayFollow (objects_of old.meanings) H e → Moves old new H e → after ≡ H ++ e ∷ [] → length H < 4294967295
     → length H + open_count (seen H) + takes e.kind ≤ more → length H + open_count (seen H) + takes e.kind ≤ max → IsStore new after more max
 event-store stays room_after old new H after e room more max store may moves appended short reserved limited =
-    let taken = room_after (objects_of old.meanings) H e store.kept.run may in
+    let longer = room_after (objects_of old.meanings) H e store.kept.run may in
     subst (λ K. IsStore new K more max) (sym appended)
     (record {
       kept = stays old new H e store.kept may moves short;
-      reserved = subst (λ n. n ≤ more) (sym taken) reserved;
-      limited = subst (λ n. n ≤ max) (sym taken) limited;
+      reserved = subst (λ n. n ≤ more) (sym longer) reserved;
+      limited = subst (λ n. n ≤ max) (sym longer) limited;
     })
 
 -- and so for all parts of a store

@@ -1,7 +1,7 @@
 -- The beginning and the end of a store.
 use Rattle.std.specs.Prelude.{◌≡◌, ℕ, ◌<◌, List, [], length, map, filter, ◌≤◌, Bool, true, false, ◌&&◌, nat_le, nat_lt, Some, slice_get, slice_index_or}
 use Rattle.std.specs.List.{range_with_len}
-use Rattle.type_table.specs.Limits.{most_events, most_objects}
+use Rattle.type_table.specs.Limits.{longest_history, most_objects}
 use Rattle.object_trait.specs.Meaning.{Meaning}
 use Rattle.object_trait.specs.Steps.{IsFresh, open_transactions}
 use Rattle.object_trait.specs.declared.event.Event.{Event}
@@ -20,7 +20,7 @@ AreFresh ms = (x : ℕ) (m : Meaning) → slice_get ms x ≡ Some m → IsFresh 
 
 -- a limit that a history may have
 abbrev pub is_limit : ℕ → Bool
-is_limit max = nat_lt 1 max && nat_le max most_events
+is_limit max = nat_lt 1 max && nat_le max longest_history
 
 -- why no store is made of these objects, memory aside: the first reason that holds
 abbrev pub Refuses : List Meaning → ℕ → NewRefusal → Type 0

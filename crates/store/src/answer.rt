@@ -5,22 +5,23 @@ ghost use Rattle.object_trait.specs.Object.{Object};
 ghost use Rattle.serial_order.specs.History.{seen, is_open};
 ghost use Rattle.serial_order.specs.Laws.{FirstOpIsLeast, AnswerMayFollow, MachineMayApply};
 ghost use Rattle.serial_order.specs.After.{LogsAreCounted};
+ghost use Rattle.serial_order.specs.Replay.{call_event};
 ghost use Rattle.object_calls.specs.Calls.{IsCall};
 ghost use Rattle.store_laws.specs.Stored.{objects};
-ghost use Rattle.store_laws.specs.Words.{as_event, AnswersAsDefined};
+ghost use Rattle.store_laws.specs.Words.{as_event};
 ghost use Rattle.store.specs.Calls.{Comes};
 
 use crate::executing::execute;
 use crate::room::has_room;
 use crate::store::Store;
-use object_calls::{Answer, Call, choose};
+use object_calls::{Answer, Call};
 use object_trait::{Event, EventKind, Recovery};
 use serial_order::{
     Refusal, answer_may_follow, first_op_is_least, logs_are_counted, machine_may_apply,
 };
 use store_laws::{
-    answers_as_defined, held_are_operations, op_moves, quiet_moves, room_after, rows_are_counted,
-    rows_say_who_is_open, stays_kept, types_stay,
+    op_moves, quiet_moves, room_after, rows_are_counted, rows_say_who_is_open, stays_kept,
+    types_stay,
 };
 
 impl<R: Recovery> Store<R> {
@@ -30,9 +31,26 @@ impl<R: Recovery> Store<R> {
         requires call { (o : Object) × (slice_get (objects self.old) x ≡ Some o) × IsCall o.table call }
         ensures { Comes self.old w t x call.first result self.new }
     {
+        let answer = self.chosen(t, x, call);
+        self.give(w, t, x, call, answer)
+    }
+
+    /// Gives t's call at object x the answer that it has there.
+    pub(crate) fn give(
+        &mut self,
+        w: u8,
+        t: u32,
+        x: u8,
+        call: Call,
+        answer: Answer,
+    ) -> Result<Answer, Refusal>
+        requires still_open { is_open (seen self.old.history) t ≡ true }
+        requires call { (o : Object) × (slice_get (objects self.old) x ≡ Some o) × IsCall o.table call }
+        requires chosen { call_event (slice_get (objects self.old) x) (seen self.old.history) x t (Some call.first) ≡ Some (as_event t x call.first answer) }
+        ensures { Comes self.old w t x call.first result self.new }
+    {
         rows_say_who_is_open();
         rows_are_counted();
-        held_are_operations();
         answers_are_known();
         quiet_moves();
         op_moves();
@@ -40,13 +58,12 @@ impl<R: Recovery> Store<R> {
         room_after();
         types_stay();
         let opened = self.transactions.open_count();
-        if !has_room(&self.history, opened, 1, self.max_events) {
+        if !has_room(self.forgotten, &self.history, opened, 1, self.max_events) {
             return Err(Refusal::HistoryFull);
         }
         if self.history.reserve(opened as usize + 1).is_err() {
             return Err(Refusal::NoMemory);
         }
-        let answer = choose(&self.objects[x as usize], &self.locks[x as usize], t, call);
         if let Answer::Reply(k) = answer {
             let executed = execute(
                 &mut self.objects,
@@ -66,16 +83,13 @@ impl<R: Recovery> Store<R> {
     }
 }
 
-/// What is known of the answer of a call: it is the one that the history defines, and may follow, and
-/// its operation may be executed.
+/// What is known of the answer of a call: its event may follow, and its operation may be executed.
 fn answers_are_known()
-    ensures defined { AnswersAsDefined }
     ensures least { FirstOpIsLeast }
     ensures follows { AnswerMayFollow }
     ensures applies { MachineMayApply }
     ensures counted { LogsAreCounted }
 {
-    answers_as_defined();
     first_op_is_least();
     answer_may_follow();
     machine_may_apply();

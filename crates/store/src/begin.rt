@@ -32,7 +32,7 @@ impl<R: Recovery> Store<R> {
         if opened >= MOST_OPEN {
             return Err(Refusal::TooManyOpen);
         }
-        if !has_room(&self.history, opened, 2, self.max_events) {
+        if !has_room(self.forgotten, &self.history, opened, 2, self.max_events) {
             return Err(Refusal::HistoryFull);
         }
         if self.history.reserve(opened as usize + 2).is_err() {

@@ -7,7 +7,7 @@ ghost use Rattle.serial_order.specs.History.{seen, is_open};
 ghost use Rattle.serial_order.specs.Replay.{call_at};
 ghost use Rattle.serial_order.specs.declared.command.Command.TheVariants as command;
 ghost use Rattle.store_laws.specs.Stored.{objects, refusal_of, MayStep};
-ghost use Rattle.store.specs.Calls.{Answers, unnumbered};
+ghost use Rattle.store.specs.Calls.{Answers, unnumbered, op_call_at};
 
 use crate::store::Store;
 use object_calls::{Answer, CallTable};
@@ -71,12 +71,22 @@ impl<R: Recovery> Store<R> {
         Some(call.first)
     }
 
+    /// The number of the call of operation k at object x: None where either isn't there.
+    pub fn call_of_op(&self, x: u32, k: u8) -> Option<u8>
+        ensures { result ≡ op_call_at (slice_get (objects self.now) x) k }
+    {
+        let object = self.objects.get(x as usize)?;
+        let op = object.checked().table().ops().get(usize::from(k))?;
+        let call = self.calls[x as usize].by_bytes(op.call.as_bytes())?;
+        Some(call.first)
+    }
+
     /// The calls of object x, for a call of transaction t.
     ///
     /// # Errors
     ///
     /// `NotOpen` or `NoObject`.
-    fn calls_for(&self, t: u32, x: u32) -> Result<&CallTable, Refusal>
+    pub(crate) fn calls_for(&self, t: u32, x: u32) -> Result<&CallTable, Refusal>
         ensures still_open { OnOk result (is_open (seen self.now.history) t ≡ true) }
         ensures few { OnOk result (x < 256) }
         ensures calls { IfOk result (λ calls. (o : Object) × (slice_get (objects self.now) x ≡ Some o) × IsCallTable o.table calls.now) }

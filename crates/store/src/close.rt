@@ -1,6 +1,6 @@
 //! The end of a store.
 
-ghost use Rattle.std.specs.Prelude.{◌≡◌, ℕ, [], ◌∷◌, ◌++◌, true, false, map, Some, slice_get};
+ghost use Rattle.std.specs.Prelude.{◌≡◌, ℕ, [], ◌∷◌, ◌++◌, true, false, map, drop, Some, slice_get};
 ghost use Rattle.object_trait.specs.Meaning.{Meaning};
 ghost use Rattle.serial_order.specs.History.{seen, is_open};
 ghost use Rattle.serial_order.specs.Machine.{IsRun};
@@ -18,29 +18,41 @@ impl<R: Recovery> Store<R> {
     /// Aborts each open transaction, in ascending order of numbers, as the worker that began it, and
     /// hands out the history and the objects, in their order. None of them has an open entry.
     pub fn close(mut self) -> (Vec<Event>, Vec<R>)
-        ensures history { result.0.items ≡ self.history ++ closing self.history }
-        ensures run { IsRun (objects self) result.0.items }
+        ensures history { result.0.items ≡ drop self.forgotten (self.history ++ closing self.history) }
+        ensures run { IsRun (objects self) (self.history ++ closing self.history) }
         ensures types { types_of (map R.meaning result.1.items) ≡ self.types }
-        ensures objects { (x : ℕ) (m : Meaning) → slice_get (map R.meaning result.1.items) x ≡ Some m → IsHandedOut m x result.0.items }
+        ensures objects { (x : ℕ) (m : Meaning) → slice_get (map R.meaning result.1.items) x ≡ Some m → IsHandedOut m x (self.history ++ closing self.history) }
     {
-        run_goes_on();
-        seen_after();
-        transactions_in_run();
-        opens_after();
-        beginners_after();
         idle_is_closed();
-        for t in 0..self.transactions.begun() {
-            self.abort_open(t);
-        }
+        self.abort_all();
         let Store {
             objects,
             calls: _,
             locks: _,
             transactions: _,
+            past: _,
+            forgotten: _,
             history,
             max_events: _,
         } = self;
         (history, objects)
+    }
+
+    /// Aborts each open transaction, in ascending order of numbers, as the worker that began it. It
+    /// takes no memory.
+    pub fn abort_all(&mut self)
+        ensures aborts { self.new ≡ record self.old { history = self.old.history ++ closing self.old.history } }
+        ensures none { (t : ℕ) → is_open (seen self.new.history) t ≡ false }
+    {
+        rows_say_who_is_open();
+        run_goes_on();
+        seen_after();
+        transactions_in_run();
+        opens_after();
+        beginners_after();
+        for t in self.transactions.oldest()..self.transactions.begun() {
+            self.abort_open(t);
+        }
     }
 
     /// Aborts t where it is open, as the worker that began it.

@@ -7,11 +7,14 @@ mod call;
 mod close;
 mod ends;
 mod executing;
+mod expected;
+mod forget;
 mod parts;
 mod refusals;
 mod rollback;
 mod room;
 mod store;
+mod would;
 
 pub use object_calls::Answer;
 pub use refusals::NewRefusal;

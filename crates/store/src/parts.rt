@@ -11,7 +11,7 @@ use object_calls::CallTable;
 use object_trait::Recovery;
 use op_locks::OpLocks;
 use std::alloc::{AllocError, Global};
-use type_table::{MOST_EVENTS, MOST_OBJECTS};
+use type_table::{LONGEST_HISTORY, MOST_OBJECTS};
 
 /// The least limit of events: a begin and an end.
 const LEAST_EVENTS: u32 = 2;
@@ -65,7 +65,7 @@ pub(crate) fn parts_of<R: Recovery>(
 fn is_limit(max_events: u32) -> bool
     ensures { result ≡ is_limit max_events }
 {
-    LEAST_EVENTS <= max_events && max_events <= MOST_EVENTS
+    LEAST_EVENTS <= max_events && max_events <= LONGEST_HISTORY
 }
 
 /// Whether each object is as it was made.

@@ -12,7 +12,7 @@ pub enum NewRefusal {
     /// An object isn't as it was made.
     #[error("NotFresh")]
     NotFresh,
-    /// The limit of events is below 2 or above 1,000,000.
+    /// The limit of events is below 2.
     #[error("BadMax")]
     BadMax,
     /// Memory was refused.

@@ -42,7 +42,7 @@ impl<R: Recovery> Store<R> {
             return Err(Refusal::BadRollback);
         }
         let opened = self.transactions.open_count();
-        if !has_room(&self.history, opened, 1, self.max_events) {
+        if !has_room(self.forgotten, &self.history, opened, 1, self.max_events) {
             return Err(Refusal::HistoryFull);
         }
         if self.history.reserve(opened as usize + 1).is_err() {

@@ -1,6 +1,6 @@
 //! The store, and what is read of it.
 
-ghost use Rattle.std.specs.Prelude.{◌≡◌, ◌≤◌, [], map, length, nat_lt, is_some, IfOk, IfErr, IfSome};
+ghost use Rattle.std.specs.Prelude.{◌≡◌, ◌≤◌, [], map, length, drop, nat_lt, is_some, IfOk, IfErr, IfSome};
 ghost use Rattle.serial_order.specs.History.{begins};
 ghost use Rattle.serial_order.specs.Machine.{IsRun};
 ghost use Rattle.serial_order.specs.Serial.{IsSerial};
@@ -14,6 +14,7 @@ use object_calls::CallTable;
 use object_trait::{Event, Recovery};
 use op_locks::OpLocks;
 use open_transactions::OpenTransactions;
+use past::Past;
 use serial_order::checked_headline;
 use std::alloc::Global;
 use std::marker::Model;
@@ -32,12 +33,16 @@ pub struct Store<R: Recovery> {
     // What open transactions hold at each object.
     pub(crate) locks: Vec<OpLocks>,
     pub(crate) transactions: OpenTransactions,
+    // The events that were forgotten, which only contracts read, and how many they are.
+    pub(crate) past: Past,
+    pub(crate) forgotten: u32,
+    // The events since.
     pub(crate) history: Vec<Event>,
     pub(crate) max_events: u32,
 }
 
 impl<R: Recovery> Model for Store<R> {
-    ghost use Rattle.std.specs.Prelude.{map, vec_capacity};
+    ghost use Rattle.std.specs.Prelude.{◌≡◌, ◌+◌, ◌++◌, map, length, vec_capacity};
     ghost use Rattle.store_laws.specs.Stored.{Stored, types_of};
     ghost use Rattle.store.specs.Whole.{IsWhole};
 
@@ -45,11 +50,12 @@ impl<R: Recovery> Model for Store<R> {
 
     ghost view = { λ s. record {
       types = types_of (map R.meaning s.objects.items);
-      history = s.history.items;
+      history = s.past.items ++ s.history.items;
       max = s.max_events;
+      forgotten = s.forgotten;
     } };
 
-    ghost invariant = { λ s. IsWhole (map R.meaning s.objects.items) s.calls.items s.locks.items s.transactions.rows s.history.items (vec_capacity s.history) s.max_events };
+    ghost invariant = { λ s. (s.forgotten ≡ length s.past.items) × IsWhole (map R.meaning s.objects.items) s.calls.items s.locks.items s.transactions.rows (s.past.items ++ s.history.items) (s.forgotten + vec_capacity s.history) s.max_events };
 }
 
 impl<R: Recovery> Store<R> {
@@ -65,7 +71,7 @@ impl<R: Recovery> Store<R> {
         max_events: u32,
     ) -> Result<Store<R>, (Vec<R>, NewRefusal)>
         ensures made { IfOk result (λ s. MayBegin (map R.meaning objects.items) max_events
-            × (s ≡ record { types = types_of (map R.meaning objects.items); history = []; max = max_events })) }
+            × (s ≡ record { types = types_of (map R.meaning objects.items); history = []; max = max_events; forgotten = 0 })) }
         ensures refused { IfErr result (λ e. Refuses (map R.meaning objects.items) max_events e.1) }
         ensures back { IfErr result (λ e. e.0.items ≡ objects.items) }
     {
@@ -79,15 +85,19 @@ impl<R: Recovery> Store<R> {
             calls,
             locks,
             transactions: OpenTransactions::new(alloc),
+            past: Past::new(),
+            forgotten: 0,
             history: Vec::new(alloc),
             max_events,
         })
     }
 
-    /// The events so far, oldest first: a run of the machine, whose committed transactions, run one
-    /// after another in commit order, give the same replies.
+    /// The events so far that weren't forgotten, oldest first. All that there were are a run of the
+    /// machine, whose committed transactions, run one after another in commit order, give the same
+    /// replies.
     pub fn history(&self) -> &[Event]
-        ensures exact { result.now ≡ self.now.history }
+        ensures exact { result.now ≡ drop self.now.forgotten self.now.history }
+        ensures whole { self.now.forgotten ≡ 0 → result.now ≡ self.now.history }
         ensures run { IsRun (objects self.now) self.now.history }
         ensures serial { IsSerial (objects self.now) self.now.history }
         ensures room { length self.now.history ≤ self.now.max }

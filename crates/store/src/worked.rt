@@ -1,7 +1,7 @@
 //! Worked stores: each function does nothing, and its contract is what comes out of them.
 #![tactic(auto)]
 
-ghost use Rattle.std.specs.Prelude.{◌≡◌, ◌<◌, List, ◌++◌, [], ◌∷◌, length, take, true, false, Ok};
+ghost use Rattle.std.specs.Prelude.{◌≡◌, ◌<◌, List, ◌++◌, [], ◌∷◌, length, take, drop, true, false, Ok};
 ghost use Rattle.object_trait.specs.Meaning.{Meaning};
 ghost use Rattle.object_trait.specs.Examples.{held, counter_at};
 ghost use Rattle.store_laws.specs.Examples.{stored, new_counters, counted, one_up, one_back};
@@ -23,12 +23,12 @@ pub fn the_open_are_aborted_in_order()
     ensures { closing two_left_open ≡ by 4 (EventKind.Abort 0) ∷ by 4 (EventKind.Abort 2) ∷ [] }
 {}
 
-/// A history may have 2 events at the least, and 1,000,000 at the most.
+/// A history may have 2 events at the least, and 4,294,967,295 at the most.
 pub fn limits_have_a_range()
     ensures too_low { is_limit 1 ≡ false }
     ensures least { is_limit 2 ≡ true }
-    ensures most { is_limit 1000000 ≡ true }
-    ensures too_high { is_limit 1000001 ≡ false }
+    ensures most { is_limit 4294967295 ≡ true }
+    ensures too_high { is_limit 4294967296 ≡ false }
 {}
 
 /// That there is no object comes before any other reason.
@@ -71,7 +71,7 @@ pub fn a_number_of_no_call_is_refused()
 /// A store has one end, after which it isn't there: with it, how many events there were. A store that
 /// is let go in another way, or used behind it, is refused.
 pub fn a_store_is_closed<R: Recovery>(store: Store<R>) -> usize
-    ensures { result ≡ length (store.history ++ closing store.history) }
+    ensures { result ≡ length (drop store.forgotten (store.history ++ closing store.history)) }
 {
     let (history, _) = store.close();
     history.len()

@@ -87,10 +87,10 @@ module _ (file : JobsFile) (types : List Checked) (tries : ℕ) (o : Opening) (l
   told (Err (CannotRead path)) old new t = absurd t
 
 -- the work begins at a new store of these types
-pub begins : (file : JobsFile) (tries : ℕ) (store : Stored) (types given : List Checked) → store ≡ record { types = given; history = []; max = file.max } → given ≡ types
+pub begins : (file : JobsFile) (tries : ℕ) (store : Stored) (types given : List Checked) → store ≡ record { types = given; history = []; max = file.max; forgotten = 0 } → given ≡ types
     → record { store = store; jobs = map calls_in file.jobs.items; tries = tries } ≡ opening_of file types tries
 begins file tries store types given made are =
-    ap (λ (s : Stored). record { store = s; jobs = map calls_in file.jobs.items; tries = tries }) (made ∙ ap (λ (l : List Checked). record { types = l; history = []; max = file.max }) are)
+    ap (λ (s : Stored). record { store = s; jobs = map calls_in file.jobs.items; tries = tries }) (made ∙ ap (λ (l : List Checked). record { types = l; history = []; max = file.max; forgotten = 0 }) are)
 
 -- ---- what was written
 

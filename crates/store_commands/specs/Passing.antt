@@ -28,7 +28,7 @@ tables s = map (λ (c : Checked). c.file.table) s.types
 
 -- a new store of these types, with this limit
 abbrev pub new_store : List Checked → ℕ → Stored
-new_store types max = record { types = types; history = []; max = max }
+new_store types max = record { types = types; history = []; max = max; forgotten = 0 }
 
 -- the history of a store is a run of the machine, serial, and within its limit
 pub record HasSerialRun (s : Stored) : Type 0 where

@@ -16,7 +16,7 @@ use store::Store;
 use table_checker::CheckedType;
 use type_table::TypeTable;
 
-/// Audits the history of a store of these types, and writes the lines.
+/// Audits the whole history of a store of these types, and writes the lines.
 ///
 /// # Errors
 ///
@@ -29,6 +29,7 @@ pub(crate) fn tell_audit<'a, R: Recovery, W: Out>(
 ) -> Result<Verdict, Fault<'a>>
     requires out_takes { W.fault out.old ≡ None }
     requires types { store.now.types ≡ map value_of types.now }
+    requires whole { store.now.forgotten ≡ 0 }
     ensures { TellsAudit store.now result (W.taken out.old) (W.taken out.new) }
 {
     let outcome = audit_of(alloc, store, types);
@@ -40,14 +41,15 @@ pub(crate) fn tell_audit<'a, R: Recovery, W: Out>(
     }
 }
 
-/// The audit of the history of a store of these types. It is a yes, or memory was refused: the history
-/// of a store is serial.
+/// The audit of the whole history of a store of these types. It is a yes, or memory was refused: the
+/// history of a store is serial.
 pub(crate) fn audit_of<R: Recovery>(
     alloc: Global,
     store: &Store<R>,
     types: &[Arc<CheckedType>],
 ) -> Result<Audit, AuditFault>
-    requires { store.now.types ≡ map value_of types.now }
+    requires types { store.now.types ≡ map value_of types.now }
+    requires whole { store.now.forgotten ≡ 0 }
     ensures { IsPassed store.now result }
 {
     run_is_history();

@@ -114,7 +114,8 @@ fn do_jobs<R: Recovery + Send, H: AllocGlobal + Threads + Wait + Sync>(
     }
 }
 
-/// Tells what came back of workers at a store of these types, and closes it.
+/// Tells what came back of workers at a store of these types, of whose history nothing is forgotten, and
+/// closes it.
 fn end_work<'a, R: Recovery, W: Out>(
     alloc: Global,
     worked: Worked<R>,
@@ -124,6 +125,7 @@ fn end_work<'a, R: Recovery, W: Out>(
 ) -> Result<Verdict, Fault<'a>>
     requires out_takes { W.fault out.old ≡ None }
     requires types { worked.store.types ≡ map value_of types.now }
+    requires whole { worked.store.forgotten ≡ 0 }
     ensures { TellsWork worked.store objects.now worked.reports.items worked.fault result (W.taken out.old) (W.taken out.new) }
 {
     let Worked {
@@ -153,6 +155,7 @@ fn tell_work<'a, R: Recovery, W: Out>(
 ) -> Result<Verdict, Fault<'a>>
     requires out_takes { W.fault out.old ≡ None }
     requires types { store.now.types ≡ map value_of types.now }
+    requires whole { store.now.forgotten ≡ 0 }
     ensures { TellsWork store.now objects.now reports.now fault result (W.taken out.old) (W.taken out.new) }
 {
     if did_nothing(fault, reports) {

@@ -80,7 +80,7 @@ one_back =
 
 -- the two counters with this history, and room for four events
 abbrev pub stored : List Event → Stored
-stored H = record { types = undo_counter ∷ deferred_counter ∷ []; history = H; max = 4 }
+stored H = record { types = undo_counter ∷ deferred_counter ∷ []; history = H; max = 4; forgotten = 0 }
 
 -- worker 7 asked a command, which left this history
 abbrev pub by_worker : Command → Option Refusal → List Event → Asked

@@ -9,11 +9,13 @@ use Rattle.serial_order.specs.declared.command.Command.{Command}
 use Rattle.serial_order.specs.declared.refusal.Refusal.{Refusal}
 use Rattle.serial_order.specs.declared.refusal.Refusal.TheVariants.{NoMemory}
 
--- the objects' types, the history, and the most events that it may have
+-- the objects' types, the whole history, the most events that it may have, and how many of its first events were forgotten: the others
+-- are in memory
 pub record Stored : Type 0 where
   pub types : List Checked
   pub history : List Event
   pub max : ℕ
+  pub forgotten : ℕ
 
 -- the types of objects of these meanings
 abbrev pub types_of : List Meaning → List Checked

@@ -13,9 +13,13 @@ most_ops = 64
 abbrev pub most_objects : ℕ
 most_objects = 256
 
--- the most events of a history, and commands of a script
+-- the most events of a history's text, and commands of a script
 abbrev pub most_events : ℕ
 most_events = 1000000
+
+-- the most events that a store makes
+abbrev pub longest_history : ℕ
+longest_history = 4294967295
 
 -- the most open transactions of a store
 abbrev pub most_open : ℕ

@@ -14,7 +14,8 @@ use store_text::ObjectLine;
 use worker_turns::Report;
 
 /// Writes what workers did at a store: the canonical text of its history, a line for the kept state of
-/// each object, the lines of an audit, and a line for each job. It takes no memory itself.
+/// each object, the lines of an audit, and a line for each job. Nothing of the history is forgotten. It
+/// takes no memory itself.
 ///
 /// # Errors
 ///
@@ -26,7 +27,8 @@ pub fn write_work<R: Recovery, W: Out>(
     reports: &[Report],
     out: &mut W,
 ) -> Result<(), OutFault>
-    requires { W.fault out.old ≡ None }
+    requires out_takes { W.fault out.old ≡ None }
+    requires whole { store.now.forgotten ≡ 0 }
     ensures { PutsWork store.now objects.now audit.now reports.now (W.taken out.old) (W.taken out.new) (W.fault out.new) result }
 {
     texts_in_turn();

@@ -1,5 +1,5 @@
 -- What a call that the store answered tells.
-use Rattle.std.proofs.Common.{◌≡◌, ℕ, zero, suc, ◌+◌, Bool, true, false, not, ◌⊎◌, List, [], ◌∷◌, ◌++◌, length, Option, Some, None, is_some, Ok, slice_get, inl, inr, refl, sym, ap, ◌∙◌, subst}
+use Rattle.std.proofs.Common.{◌≡◌, ℕ, zero, suc, ◌+◌, ◌≤◌, Bool, true, false, not, ◌⊎◌, List, [], ◌∷◌, ◌++◌, length, Option, Some, None, is_some, Ok, slice_get, inl, inr, refl, sym, ap, ◌∙◌, subst}
 use Rattle.std.specs.Prelude.{if◌then◌else◌, slice_index_or}
 use Rattle.std.proofs.lemmas.Bool.{false≢true, and_parts}
 use Rattle.std.proofs.lemmas.List.{append_cancel_left}
@@ -165,13 +165,14 @@ calls-reply old w t done call p new k its receipts gets =
     inl (Op t (call.0) k, reply, makes, ap (λ rs. record p { receipts = rs; phase = Going t (done + 1) }) gets)
 
 module _ (old : Stored) (w t done : ℕ) (call : Call) (p : Progress) (new : Stored) (a : Answer) (its : IsAnswered old w t call a new)
-    (held receipts : List Receipt) (kept : held ≡ p.receipts)
+    (held receipts : List Receipt) (kept : held ≡ p.receipts) (within : old.forgotten ≤ length old.history)
     (notes : (H : List Event) (v : ℕ) (happened : EventKind) → new.history ≡ H ++ (record { worker = v; kind = happened }) ∷ []
-    → receipts ≡ held ++ receipt H v happened ∷ []) where
+    → new.forgotten ≤ length H → receipts ≡ held ++ receipt H v happened ∷ []) where
   -- it gets the receipt of the event
   got : (happened : EventKind) → new ≡ noted old w happened → receipts ≡ p.receipts ++ receipt old.history w happened ∷ []
   got happened makes =
-      notes old.history w happened (ap (λ (s : Stored). s.history) makes) ∙ ap (λ rs. rs ++ receipt old.history w happened ∷ []) kept
+      notes old.history w happened (ap (λ (s : Stored). s.history) makes) (subst (λ n. n ≤ length old.history) (sym (ap (λ (s : Stored). s.forgotten) makes)) within)
+      ∙ ap (λ rs. rs ++ receipt old.history w happened ∷ []) kept
 
   -- without a reply its try is broken
   breaking : (e : EventKind) × IsNoReply (objects old) t call e × (new ≡ noted old w e)

@@ -50,7 +50,7 @@ impl Worker {
             self.end(Outcome::Refused(Refusal::NoMemory));
             return;
         }
-        let position = store.history().len();
+        let position = store.event_count() as usize;
         match store.begin(w) {
             Ok(t) => {
                 take(&mut self.receipts, position, w, EventKind::Begin { t });
@@ -104,7 +104,7 @@ impl Worker {
             self.refuse(store, w, t, Refusal::NoMemory);
             return;
         }
-        let position = store.history().len();
+        let position = store.event_count() as usize;
         match store.call_bytes(w, t, x, name.as_bytes()) {
             Ok(answer) => {
                 self.phase = match answer {
@@ -130,7 +130,7 @@ impl Worker {
         ensures { Commits t store.old w self.old store.new self.new }
     {
         self.phase = Phase::Idle;
-        let position = store.history().len();
+        let position = store.event_count() as usize;
         // t is open, so it isn't refused
         let _ = store.commit(w, t);
         take(&mut self.receipts, position, w, EventKind::Commit { t });
@@ -183,7 +183,7 @@ fn abort<R: Recovery>(receipts: &mut Vec<Receipt>, store: &mut Store<R>, w: u8, 
     ensures makes { Makes store.old w (Abort t) store.new }
     ensures gets { receipts.new.items ≡ receipts.old.items ++ receipt store.old.history w (Abort t) ∷ [] }
 {
-    let position = store.history().len();
+    let position = store.event_count() as usize;
     // t is open, so it isn't refused
     let _ = store.abort(w, t);
     take(receipts, position, w, EventKind::Abort { t });
@@ -202,18 +202,17 @@ fn take(receipts: &mut Vec<Receipt>, position: usize, w: u8, kind: EventKind)
     });
 }
 
-/// Takes the receipt of the last event of a store.
+/// Takes the receipt of the last event of a store, which isn't forgotten.
 fn note<R: Recovery>(receipts: &mut Vec<Receipt>, store: &Store<R>)
     requires { vec_len receipts.old < vec_capacity receipts.old }
     ensures gets { (H : List EventValue) (w : ℕ) (happened : EventKindValue) → store.now.history ≡ H ++ (record { worker = w; kind = happened }) ∷ []
-        → receipts.new.items ≡ receipts.old.items ++ receipt H w happened ∷ [] }
+        → store.now.forgotten ≤ length H → receipts.new.items ≡ receipts.old.items ++ receipt H w happened ∷ [] }
     ensures one { vec_len receipts.new ≤ vec_len receipts.old + 1 }
     ensures room { vec_capacity receipts.new ≡ vec_capacity receipts.old }
 {
-    let history = store.history();
-    if let Some(event) = history.last() {
+    if let Some(event) = store.history().last() {
         receipts.push_reserved(Receipt {
-            position: history.len() - 1,
+            position: store.event_count() as usize - 1,
             event: *event,
         });
     }

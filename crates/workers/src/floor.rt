@@ -20,7 +20,7 @@ pub trait Opened {
 }
 
 impl Opened for Brand {
-    ghost opening = { record { store = record { types = []; history = []; max = 0 }; jobs = []; tries = 0 } };
+    ghost opening = { record { store = record { types = []; history = []; max = 0; forgotten = 0 }; jobs = []; tries = 0 } };
 }
 
 /// The store and its workers. Whenever the lock is free, each worker's receipts are its events since

@@ -4,7 +4,8 @@ use super::fresh::Fresh;
 use super::outcome::Outcome;
 use super::workload::{Command, Workload, commands_of};
 use crate::bench_error::BenchError;
-use object_trait::Recovery;
+use object_trait::{Event, Recovery};
+use replay::replay;
 use std::alloc::Global;
 use std::io;
 use std::rt::Clock;
@@ -39,7 +40,7 @@ pub fn least_of<R: Clock + AllocGlobal, M: Fresh>(
         outcome: Outcome::new(),
     };
     for _ in 0..rounds {
-        let store = store_of::<M>(rt.alloc(), checked, workload.objects)?;
+        let store = store_of::<M>(rt.alloc(), checked, workload.objects, MOST_EVENTS)?;
         let measured = round(rt, store, workload.objects, &commands)?;
         least = Measured {
             nanoseconds: least.nanoseconds.min(measured.nanoseconds),
@@ -49,17 +50,18 @@ pub fn least_of<R: Clock + AllocGlobal, M: Fresh>(
     Ok(least)
 }
 
-/// A store of so many new objects of a checked type.
-fn store_of<M: Fresh>(
+/// A store of so many new objects of a checked type, whose history may have so many events.
+pub fn store_of<M: Fresh>(
     alloc: Global,
     checked: &Arc<CheckedType>,
     objects: u32,
+    max_events: u32,
 ) -> Result<Store<M>, BenchError> {
     let mut fresh = Vec::new(alloc);
     for _ in 0..objects {
         fresh.push(M::fresh(alloc, checked.clone()?)?)?;
     }
-    match Store::new(alloc, fresh, MOST_EVENTS) {
+    match Store::new(alloc, fresh, max_events) {
         Ok(store) => Ok(store),
         Err((_, refusal)) => Err(BenchError::NoStore(refusal)),
     }
@@ -67,7 +69,7 @@ fn store_of<M: Fresh>(
 
 /// The numbers of the calls of a type, as a store of it tells them.
 fn numbers_of<M: Fresh>(alloc: Global, checked: &Arc<CheckedType>) -> Result<Vec<u8>, BenchError> {
-    let store = store_of::<M>(alloc, checked, 1)?;
+    let store = store_of::<M>(alloc, checked, 1, MOST_EVENTS)?;
     let mut numbers = Vec::new(alloc);
     let mut pushed = Ok(());
     for op in checked.table().ops() {
@@ -139,5 +141,78 @@ fn is_accepted<M: Recovery>(store: &mut Store<M>, command: Command) -> bool {
         Command::Commit { t } => store.commit(WORKER, t).is_ok(),
         Command::Abort { t } => store.abort(WORKER, t).is_ok(),
         Command::Rollback { t, n } => store.rollback(WORKER, t, n).is_ok(),
+    }
+}
+
+/// The least nanoseconds of a run, and of a new store that follows its events.
+#[derive(Clone, Copy)]
+pub struct Followed {
+    pub run: u128,
+    pub follow: u128,
+}
+
+/// The least times of so many rounds of a workload at objects of a checked type, and of following them.
+pub fn least_followed<R: Clock + AllocGlobal, M: Fresh>(
+    rt: &R,
+    checked: &Arc<CheckedType>,
+    workload: Workload,
+    rounds: u32,
+) -> Result<Followed, BenchError> {
+    let numbers = numbers_of::<M>(rt.alloc(), checked)?;
+    let commands = commands_of(rt.alloc(), workload, numbers)?;
+    let mut least = Followed {
+        run: u128::MAX,
+        follow: u128::MAX,
+    };
+    for _ in 0..rounds {
+        let store = store_of::<M>(rt.alloc(), checked, workload.objects, MOST_EVENTS)?;
+        let (run, events) = run_once(rt, store, &commands)?;
+        let store = store_of::<M>(rt.alloc(), checked, workload.objects, MOST_EVENTS)?;
+        let follow = follow_once(rt, store, &events)?;
+        least = Followed {
+            run: least.run.min(run),
+            follow: least.follow.min(follow),
+        };
+    }
+    Ok(least)
+}
+
+/// The time of a run in a new store, and its events.
+fn run_once<R: Clock, M: Recovery>(
+    rt: &R,
+    store: Store<M>,
+    commands: &[Command],
+) -> Result<(u128, Vec<Event>), BenchError> {
+    let mut store = store;
+    let mut outcome = Outcome::new();
+    let time = time_of(rt, &mut store, commands, &mut outcome);
+    let (history, _) = store.close();
+    Ok((time?, history))
+}
+
+/// The time in which a new store follows these events.
+fn follow_once<R: Clock, M: Recovery>(
+    rt: &R,
+    store: Store<M>,
+    events: &[Event],
+) -> Result<u128, BenchError> {
+    let mut store = store;
+    let time = time_to_follow(rt, &mut store, events);
+    let _ = store.close();
+    time
+}
+
+/// The nanoseconds in which a store follows these events.
+fn time_to_follow<R: Clock, M: Recovery>(
+    rt: &R,
+    store: &mut Store<M>,
+    events: &[Event],
+) -> Result<u128, BenchError> {
+    let start = Instant::now(rt)?;
+    let told = replay(store, events);
+    let time = start.elapsed(rt)?;
+    match told {
+        Ok(()) => Ok(time.as_nanos()),
+        Err(_) => Err(BenchError::Strayed),
     }
 }

@@ -3,6 +3,8 @@
 mod boxed;
 mod calls;
 mod closed;
+mod followed;
+mod forgotten;
 pub mod full;
 mod laws;
 mod made;

@@ -1,6 +1,7 @@
-use Rattle.std.proofs.Common.{ap, ◌∙◌}
+use Rattle.std.proofs.Common.{ap}
 use Rattle.store_laws.specs.Stored.{Stored}
 use Rattle.script_run.specs.Turns.{by_script}
+use Rattle.script_run.proofs.Lasting.{still-within}
 use Rattle.script_run.proofs.Asked.{asked-refused, asked-accepted, accepted-line}
 use Rattle.script_run.proofs.asking.run_command.Goals as goal
 
@@ -12,4 +13,4 @@ returns-in-None g c =
     let s = c.args.store.now in
     let its = asked-accepted c.command_appends.ensures.accepted s c.ask.new.store c.args.command.now c.in-None.ensures in
     accepted-line s c.ask.new.store c.args.command.now its
-    (c.write_last.ensures s.history (by_script its.happened) (c.history.ensures.exact ∙ ap (λ (z : Stored). z.history) its.now))
+    (c.write_last.ensures s.history (by_script its.happened) (ap (λ (z : Stored). z.history) its.now) (still-within s c.ask.new.store _ c.known.ensures.within its.now))

@@ -12,7 +12,7 @@ loop-t-init g c = none-met c.args.store.now (g.W.Out.taken c.args.out.now) (no_t
 pub loop-t-preserved : goal.loop-t-preserved
 loop-t-preserved g c =
     met-more c.seen_after.ensures c.transactions_in_run.ensures c.opens_after.ensures (objects c.loop-t.store) c.args.store.now c.loop-t.store c.abort_open.new.store c.loop-t.t
-    c.known.ensures c.loop-t.invariant c.in_ok-abort_open.ensures
+    c.known.ensures.run c.loop-t.invariant c.in_ok-abort_open.ensures
 
 pub returns-in_err-abort_open : goal.returns-in_err-abort_open
 returns-in_err-abort_open g c =

@@ -3,6 +3,7 @@ use Rattle.object_trait.specs.declared.event.EventKind.TheVariants.{Abort}
 use Rattle.store_laws.specs.Stored.{Stored}
 use Rattle.script_run.specs.Turns.{by_script, event_turn}
 use Rattle.script_run.proofs.Aborts.{aborted, was_open, abort-appends}
+use Rattle.script_run.proofs.Lasting.{still-within}
 use Rattle.script_run.proofs.Turns.{one_turn}
 use Rattle.script_run.proofs.closing.abort_open.Goals as goal
 
@@ -14,4 +15,4 @@ returns-in-Ok g c =
     let is = c.in-Ok.ensures.1 ∙ abort-appends s c.args.t going in
     aborted s new c.args.t going
     (one_turn s new (event_turn s.history (Abort c.args.t)) is
-    (c.write_last.ensures s.history (by_script (Abort c.args.t)) (c.history.ensures.exact ∙ ap (λ (z : Stored). z.history) is)))
+    (c.write_last.ensures s.history (by_script (Abort c.args.t)) (ap (λ (z : Stored). z.history) is) (still-within s new _ c.known.ensures.within is)))

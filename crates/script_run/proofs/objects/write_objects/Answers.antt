@@ -10,7 +10,7 @@ use Rattle.script_run.proofs.objects.write_objects.Goals as goal
 
 -- any store
 some_store : Stored
-some_store = record { types = []; history = []; max = 0 }
+some_store = record { types = []; history = []; max = 0; forgotten = 0 }
 
 pub loop-object-init : goal.loop-object-init
 loop-object-init g c = λ s. no_turns s (g.W.Out.taken c.args.out.now) c.requires

@@ -1,14 +1,15 @@
 //! Many commands from a generator, at stores and at lists of what happened.
 
-use super::scripts::{are_closed, outcome, store_of};
+use super::scripts::{are_closed, called, outcome, store_of};
 use history_audit::{Audit, audit};
-use object_trait::{EventKind, Recovery};
+use object_trait::{Event, EventKind, Recovery};
 use objects::Object;
 use rand_core::utils::NextWord;
 use rand_pcg::Lcg64Xsh32;
-use reference_store::asked::Ask;
+use reference_store::asked::{Ask, Told};
 use reference_store::checked_types::checked_of;
 use reference_store::reference::Reference;
+use replay::replay;
 use std::alloc::{AllocError, Global};
 use std::process::Abort;
 use std::sync::Arc;
@@ -76,11 +77,13 @@ fn sorts_of(store: usize) -> [&'static Sort; 4] {
     ]
 }
 
-/// What commands are drawn from: a generator, and the sorts of a store's objects.
+/// What commands are drawn from: a generator, the sorts of a store's objects, and whether events are
+/// forgotten between commands.
 #[derive(Drop)]
 struct Dice {
     words: Lcg64Xsh32,
     sorts: [&'static Sort; 4],
+    forgets: bool,
 }
 
 impl Dice {
@@ -96,6 +99,15 @@ impl Dice {
             return lately;
         }
         reference.open_at(self.below(3)).unwrap_or(lately)
+    }
+
+    /// How many events to forget.
+    fn forgotten(&mut self) -> usize {
+        if self.forgets {
+            self.below(5) as usize
+        } else {
+            0
+        }
     }
 
     /// A small number.
@@ -177,7 +189,16 @@ fn keep_alike<R: Recovery>(rt: &impl Abort, store: &Store<R>, reference: &Refere
     }
 }
 
-/// That each of many commands is answered alike.
+/// What a call would be answered now, where it is one.
+fn foretold<R: Recovery>(store: &Store<R>, ask: Ask) -> Option<Told> {
+    match ask {
+        Ask::Call(t, x, name) => Some(called(store.would(t, x, name))),
+        Ask::Number(t, x, c) => Some(called(store.would_op(t, x, c))),
+        _ => None,
+    }
+}
+
+/// That each of many commands is answered alike, and each call as it would be.
 fn answer_alike<R: Recovery>(
     rt: &impl Abort,
     store: &mut Store<R>,
@@ -188,8 +209,11 @@ fn answer_alike<R: Recovery>(
         let ask = dice.ask(reference);
         let w = dice.byte(16);
         let wanted = reference.told(w, ask)?;
+        let would = foretold(store, ask).unwrap_or(wanted);
         let got = outcome(store, w, ask);
         assert!(rt; got == wanted);
+        assert!(rt; would == wanted);
+        store.forget(dice.forgotten());
         keep_alike(rt, store, reference);
     }
     Ok(())
@@ -218,7 +242,32 @@ fn is_audited_alike(rt: &impl Abort, audit: &Audit, reference: &Reference) {
     }
 }
 
-/// One store, from its beginning to its end, and the audit of its history.
+/// That the events that weren't forgotten are the last ones: all, where none was.
+fn are_last(rt: &impl Abort, history: &[Event], events: &[Event], forgets: bool) {
+    assert!(rt; events.ends_with(history));
+    assert!(rt; forgets || history.len() == events.len());
+}
+
+/// That a new store of these types follows the events, to objects of the same states.
+fn is_followed(
+    rt: &(impl Abort + AllocGlobal),
+    types: &[Arc<CheckedType>],
+    objects: &[Object],
+    events: &[Event],
+    max_events: u32,
+) -> Result<(), Fail> {
+    let mut store = store_of(rt, objects_of(rt.alloc(), types)?, max_events)?;
+    let told = replay(&mut store, events);
+    let (history, again) = store.close();
+    assert!(rt; told == Ok(()));
+    assert!(rt; history.as_slice() == events);
+    for (one, other) in objects.iter().zip(&again) {
+        assert!(rt; one.state() == other.state());
+    }
+    Ok(())
+}
+
+/// One store, from its beginning to its end, the audit of its history, and a store that follows it.
 fn live_alike(
     rt: &(impl Abort + AllocGlobal),
     dice: &mut Dice,
@@ -231,18 +280,23 @@ fn live_alike(
     let (history, objects) = store.close();
     alike?;
     reference.close()?;
-    assert!(rt; history.as_slice() == reference.events());
+    are_last(rt, &history, reference.events(), dice.forgets);
     are_closed(rt, &objects);
-    let audit = audit(rt.alloc(), &history, &tables_of(rt.alloc(), &types)?)?;
+    let audit = audit(
+        rt.alloc(),
+        reference.events(),
+        &tables_of(rt.alloc(), &types)?,
+    )?;
     is_audited_alike(rt, &audit, &reference);
-    Ok(())
+    is_followed(rt, &types, &objects, reference.events(), max_events)
 }
 
 /// All stores of a seed.
-fn are_alike(rt: &(impl Abort + AllocGlobal), seed: u64) -> Result<(), Fail> {
+fn are_alike(rt: &(impl Abort + AllocGlobal), seed: u64, forgets: bool) -> Result<(), Fail> {
     let mut dice = Dice {
         words: Lcg64Xsh32::new(seed, 0),
         sorts: sorts_of(0),
+        forgets,
     };
     for store in 0..STORES {
         dice.sorts = sorts_of(store);
@@ -254,7 +308,7 @@ fn are_alike(rt: &(impl Abort + AllocGlobal), seed: u64) -> Result<(), Fail> {
 #[test]
 fn commands_are_answered_as_by_lists(rt: HostRuntime) -> Result<(), Fail> {
     for seed in 0..SEEDS {
-        are_alike(&rt, seed)?;
+        are_alike(&rt, seed, seed % 2 == 1)?;
     }
     Ok(())
 }

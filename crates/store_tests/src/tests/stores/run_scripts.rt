@@ -27,11 +27,12 @@ fn script_of(alloc: Global, text: &[u8]) -> Result<Script, Fail> {
 }
 
 /// Whether a store has no history and as many objects as a script.
+#[tactic(auto, using(std::proofs::lemmas::List::nil_from_length))]
 fn is_ready<R: Recovery>(store: &Store<R>, script: &Script) -> bool
     ensures fresh { result ≡ true → store.now.history ≡ [] }
     ensures objects { result ≡ true → length store.now.types ≡ length script.now.objects.items }
 {
-    store.history().is_empty() && store.object_count() as usize == script.objects.len()
+    store.event_count() == 0 && store.object_count() as usize == script.objects.len()
 }
 
 /// What is left of a run: the store, what the output holds, and what stopped it.

@@ -30,7 +30,8 @@ fn begin<R: Recovery>(store: &mut Store<R>, w: u8) -> Told {
     }
 }
 
-fn called(answer: Result<Answer, Refusal>) -> Told {
+/// What comes of a call that is answered so.
+pub fn called(answer: Result<Answer, Refusal>) -> Told {
     match answer {
         Ok(answer) => answered(answer),
         Err(refusal) => Told::Refused(refusal),

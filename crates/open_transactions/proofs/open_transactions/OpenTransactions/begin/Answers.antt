@@ -6,14 +6,14 @@ use Rattle.open_transactions.proofs.open_transactions.OpenTransactions.begin.Goa
 
 pub invariant_of-self : goal.invariant_of-self
 invariant_of-self c =
-    rw (c.push_reserved.ensures.items, c.push_reserved-2.ensures.items)
-    (begin-known c.self.inside.slots.items c.self.inside.slot_of.items c.self.invariant c.args.self.now.rows (ap (λ a. a.rows) c.self.view_is) c.len-slot.result
-    (omega (arith, c.len-slot.ensures, c.self.inside.slots.ok.0)) c.requires.few c.requires.fits _ (omega (arith, c.len-number.ensures, c.self.inside.slot_of.ok.0)))
+    rw (c.push_reserved.ensures.items, c.push_reserved-2.ensures.slots)
+    (begin-known c.self.inside.slots.items c.self.inside.index.slots c.self.invariant c.args.self.now.rows (ap (λ a. a.rows) c.self.view_is) c.len-slot.result
+    (omega (arith, c.len-slot.ensures, c.self.inside.slots.ok.0)) c.requires.few c.requires.fits _ c.begun-number.ensures)
 
 pub returns-clause-rows : goal.returns-clause-rows
 returns-clause-rows c =
-    rw (c.push_reserved.ensures.items, c.push_reserved-2.ensures.items)
-    (begin-shows c.self.inside.slots.items c.self.inside.slot_of.items c.self.invariant c.args.self.now.rows (ap (λ a. a.rows) c.self.view_is) c.len-slot.result
+    rw (c.push_reserved.ensures.items, c.push_reserved-2.ensures.slots)
+    (begin-shows c.self.inside.slots.items c.self.inside.index.slots c.self.invariant c.args.self.now.rows (ap (λ a. a.rows) c.self.view_is) c.len-slot.result
     (omega (arith, c.len-slot.ensures, c.self.inside.slots.ok.0)) c.requires.few c.requires.fits _
     ∙ ap (λ places. c.args.self.now.rows ++ Some (record { worker = c.args.worker; places = places }) ∷ []) c.new-places.ensures.items)
 

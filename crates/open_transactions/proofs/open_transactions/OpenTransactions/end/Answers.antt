@@ -1,27 +1,31 @@
 use Rattle.std.proofs.Common.{◌+◌, ap, ◌∙◌, arith}
 use Rattle.open_transactions.specs.Transactions.{count_open}
-use Rattle.open_transactions.proofs.Calls.{moved-began, end-known, end-shows}
+use Rattle.open_transactions.proofs.Calls.{moved-slotted, still-slotted, end-known, end-shows}
 use Rattle.open_transactions.proofs.Counts.{count-less}
 use Rattle.open_transactions.proofs.open_transactions.OpenTransactions.end.Goals as goal
 
-pub index_mut-requires : goal.index_mut-requires
-index_mut-requires c =
-    let began =
-    moved-began c.self.inside.slots.items c.self.inside.slot_of.items c.self.invariant c.args.self.now.rows (ap (λ a. a.rows) c.self.view_is) c.args.t
-    c.index-slot.result.now c.requires c.index-slot.ensures c.len-last.result (omega (arith, c.len-last.ensures, c.self.inside.slots.ok.0)) c.index.result.now c.index.ensures in
-    omega (arith, began, c.self.inside.slot_of.ok.0)
+pub put-requires-clause-still_open : goal.put-requires-clause-still_open
+put-requires-clause-still_open c =
+    moved-slotted c.self.inside.slots.items c.self.inside.index.slots c.self.invariant c.args.self.now.rows (ap (λ a. a.rows) c.self.view_is) c.args.t
+    c.slot-slot.result c.requires c.slot-slot.ensures c.len-last.result (omega (arith, c.len-last.ensures, c.self.inside.slots.ok.0)) c.index.result.now c.index.ensures
+
+pub end-requires : goal.end-requires
+end-requires c =
+    rw c.put.ensures.slots
+    (still-slotted c.self.inside.slots.items c.self.inside.index.slots c.self.invariant c.args.self.now.rows (ap (λ a. a.rows) c.self.view_is) c.args.t
+    c.slot-slot.result c.requires c.slot-slot.ensures c.len-last.result (omega (arith, c.len-last.ensures, c.self.inside.slots.ok.0)) c.index.result.now c.index.ensures)
 
 pub invariant_of-self : goal.invariant_of-self
 invariant_of-self c =
-    rw c.swap_remove.ensures.items
-    (end-known c.self.inside.slots.items c.self.inside.slot_of.items c.self.invariant c.args.self.now.rows (ap (λ a. a.rows) c.self.view_is) c.args.t
-    c.index-slot.result.now c.requires c.index-slot.ensures c.len-last.result (omega (arith, c.len-last.ensures, c.self.inside.slots.ok.0)) c.index.result.now c.index.ensures c.swap_remove.result)
+    rw (c.end.ensures, c.put.ensures.slots, c.swap_remove.ensures.items)
+    (end-known c.self.inside.slots.items c.self.inside.index.slots c.self.invariant c.args.self.now.rows (ap (λ a. a.rows) c.self.view_is) c.args.t
+    c.slot-slot.result c.requires c.slot-slot.ensures c.len-last.result (omega (arith, c.len-last.ensures, c.self.inside.slots.ok.0)) c.index.result.now c.index.ensures c.swap_remove.result)
 
 pub returns-clause-rows : goal.returns-clause-rows
 returns-clause-rows c =
-    rw c.swap_remove.ensures.items
-    (end-shows c.self.inside.slots.items c.self.inside.slot_of.items c.self.invariant c.args.self.now.rows (ap (λ a. a.rows) c.self.view_is) c.args.t
-    c.index-slot.result.now c.requires c.index-slot.ensures c.len-last.result (omega (arith, c.len-last.ensures, c.self.inside.slots.ok.0)) c.index.result.now c.index.ensures c.swap_remove.result)
+    rw (c.end.ensures, c.put.ensures.slots, c.swap_remove.ensures.items)
+    (end-shows c.self.inside.slots.items c.self.inside.index.slots c.self.invariant c.args.self.now.rows (ap (λ a. a.rows) c.self.view_is) c.args.t
+    c.slot-slot.result c.requires c.slot-slot.ensures c.len-last.result (omega (arith, c.len-last.ensures, c.self.inside.slots.ok.0)) c.index.result.now c.index.ensures c.swap_remove.result)
 
 pub returns-clause-count : goal.returns-clause-count
 returns-clause-count c = ap (λ rows. count_open rows + 1) (returns-clause-rows c) ∙ count-less c.args.self.now.rows c.args.t c.requires

@@ -1,4 +1,4 @@
-use Rattle.std.proofs.Common.{◌≡◌, true, false, length, map, vec_capacity, sym, refl, ◌∙◌, arith}
+use Rattle.std.proofs.Common.{◌≡◌, ◌+◌, ◌++◌, true, false, length, map, vec_capacity, sym, refl, ◌∙◌, arith}
 use Rattle.std.proofs.lemmas.List.{length-map}
 use Rattle.object_trait.specs.Steps.{IsAbort}
 use Rattle.object_trait.specs.declared.event.EventKind.TheVariants.{Abort}
@@ -9,64 +9,68 @@ use Rattle.open_transactions.specs.Transactions.{count_open}
 use Rattle.store_laws.specs.Kept.{Keeping, keeping, objects_of}
 use Rattle.store.proofs.Stored.{refused-shown}
 use Rattle.store.proofs.Opens.{open-alike, lists-alike, places-inside}
+use Rattle.store.proofs.Pasts.{past-more, past-length}
 use Rattle.store.proofs.Endings.{abort-refusal, end-room, end-whole, end-shown}
 use Rattle.store.proofs.store.Store.abort.Goals as goal
 
 pub returns-then-not-is_open : goal.returns-then-not-is_open
 returns-then-not-is_open g c =
     let inside = c.self.inside in
-    let H = inside.history.items in
+    let H = inside.past.items ++ inside.history.items in
     let ms = map g.R.Recovery.meaning inside.objects.items in
     let k : Keeping = keeping ms inside.locks.items inside.transactions.rows in
     let closed : is_open (seen H) c.args.t ≡ false =
-    open-alike c.rows_say_who_is_open.ensures ms inside.locks.items inside.transactions.rows H c.args.t c.self.invariant.store.kept ∙ sym c.is_open.ensures ∙ c.if-not-is_open.true in
-    refused-shown (Unit {0}) k H c.args.w inside.max_events (command.Abort c.args.t) NotOpen c.args.self.now c.self.view_is
+    open-alike c.rows_say_who_is_open.ensures ms inside.locks.items inside.transactions.rows H c.args.t c.self.invariant.1.store.kept ∙ sym c.is_open.ensures ∙ c.if-not-is_open.true in
+    refused-shown (Unit {0}) k H c.args.w inside.max_events inside.forgotten (command.Abort c.args.t) NotOpen c.args.self.now c.self.view_is
     (abort-refusal (objects_of ms) inside.max_events H c.args.t false closed)
 
 pub abort_at-requires-clause-as_many : goal.abort_at-requires-clause-as_many
 abort_at-requires-clause-as_many g c =
     λ κs outlives.
     let inside = c.self.inside in
-    lists-alike (map g.R.Recovery.meaning inside.objects.items) inside.locks.items inside.transactions.rows inside.history.items (length inside.objects.items) c.self.invariant.store.kept
+    lists-alike (map g.R.Recovery.meaning inside.objects.items) inside.locks.items inside.transactions.rows (inside.past.items ++ inside.history.items) (length inside.objects.items) c.self.invariant.1.store.kept
     (length-map inside.objects.items g.R.Recovery.meaning)
 
 pub abort_at-requires-clause-inside : goal.abort_at-requires-clause-inside
 abort_at-requires-clause-inside g c =
     λ κs outlives.
     let inside = c.self.inside in
-    places-inside (map g.R.Recovery.meaning inside.objects.items) inside.locks.items inside.transactions.rows inside.history.items c.args.t c.places.result.now c.self.invariant.store.kept
+    places-inside (map g.R.Recovery.meaning inside.objects.items) inside.locks.items inside.transactions.rows (inside.past.items ++ inside.history.items) c.args.t c.places.result.now c.self.invariant.1.store.kept
     (sym c.is_open.ensures ∙ c.if-not-is_open.false) c.places.ensures c.places_are_inside.ensures (length inside.objects.items) (length-map inside.objects.items g.R.Recovery.meaning)
 
 pub push_reserved-requires : goal.push_reserved-requires
 push_reserved-requires g c =
     let inside = c.self.inside in
-    let room = end-room c.rows_are_counted.ensures (map g.R.Recovery.meaning inside.objects.items) inside.locks.items inside.transactions.rows inside.history.items (vec_capacity inside.history) inside.max_events (count_open c.end.new.self.rows)
-    c.self.invariant.store c.end.ensures.count in
-    omega (arith, room.0, inside.history.ok.0)
+    let room = end-room c.rows_are_counted.ensures (map g.R.Recovery.meaning inside.objects.items) inside.locks.items inside.transactions.rows (inside.past.items ++ inside.history.items) (inside.forgotten + vec_capacity inside.history) inside.max_events (count_open c.end.new.self.rows)
+    c.self.invariant.1.store c.end.ensures.count in
+    let long = past-length inside.past.items inside.history.items inside.forgotten c.self.invariant.0 in
+    omega (arith, long, room.0, inside.history.ok.0)
 
 pub invariant_of-self : goal.invariant_of-self
 invariant_of-self g c =
     let inside = c.self.inside in
-    let H = inside.history.items in
+    let H = inside.past.items ++ inside.history.items in
     let ms = map g.R.Recovery.meaning inside.objects.items in
     let going = sym c.is_open.ensures ∙ c.if-not-is_open.false in
-    let may = open-alike c.rows_say_who_is_open.ensures ms inside.locks.items inside.transactions.rows H c.args.t c.self.invariant.store.kept ∙ going in
-    end-whole IsAbort Abort c.abort_moves.ensures ms (map g.R.Recovery.meaning c.abort_at.new.objects.items) inside.locks.items c.abort_at.new.locks.items
-    inside.transactions.rows c.end.new.self.rows H c.push_reserved.new.self.items c.args.w c.args.t c.places.result.now c.self.invariant.store.kept
-    going c.places.ensures c.abort_at.ensures.objects c.abort_at.ensures.locks c.end.ensures.rows c.push_reserved.ensures.items
-    c.stays_kept.ensures c.room_after.ensures c.types_stay.ensures c.rows_are_counted.ensures may refl inside.calls.items (vec_capacity inside.history) (vec_capacity c.push_reserved.new.self) inside.max_events c.self.invariant
-    (omega (arith, c.push_reserved.ensures.capacity)) (omega arith) c.end.ensures.count
+    let may = open-alike c.rows_say_who_is_open.ensures ms inside.locks.items inside.transactions.rows H c.args.t c.self.invariant.1.store.kept ∙ going in (
+      c.self.invariant.0,
+      end-whole IsAbort Abort c.abort_moves.ensures ms (map g.R.Recovery.meaning c.abort_at.new.objects.items) inside.locks.items c.abort_at.new.locks.items
+          inside.transactions.rows c.end.new.self.rows H (inside.past.items ++ c.push_reserved.new.self.items) c.args.w c.args.t c.places.result.now c.self.invariant.1.store.kept
+          going c.places.ensures c.abort_at.ensures.objects c.abort_at.ensures.locks c.end.ensures.rows (past-more inside.past.items inside.history.items c.push_reserved.new.self.items (record { worker = c.args.w; kind = Abort c.args.t }) c.push_reserved.ensures.items)
+          c.stays_kept.ensures c.room_after.ensures c.types_stay.ensures c.rows_are_counted.ensures may refl inside.calls.items (inside.forgotten + vec_capacity inside.history) (inside.forgotten + vec_capacity c.push_reserved.new.self) inside.max_events c.self.invariant.1
+          (omega (arith, c.push_reserved.ensures.capacity)) (omega arith) c.end.ensures.count,
+    )
 
 pub returns : goal.returns
 returns g c =
     let inside = c.self.inside in
-    let H = inside.history.items in
+    let H = inside.past.items ++ inside.history.items in
     let ms = map g.R.Recovery.meaning inside.objects.items in
     let going = sym c.is_open.ensures ∙ c.if-not-is_open.false in
     let opened : is_open (seen H) c.args.t ≡ true =
-    open-alike c.rows_say_who_is_open.ensures ms inside.locks.items inside.transactions.rows H c.args.t c.self.invariant.store.kept ∙ going in
+    open-alike c.rows_say_who_is_open.ensures ms inside.locks.items inside.transactions.rows H c.args.t c.self.invariant.1.store.kept ∙ going in
     end-shown IsAbort Abort c.abort_moves.ensures ms (map g.R.Recovery.meaning c.abort_at.new.objects.items) inside.locks.items c.abort_at.new.locks.items
-    inside.transactions.rows c.end.new.self.rows H c.push_reserved.new.self.items c.args.w c.args.t c.places.result.now c.self.invariant.store.kept
-    going c.places.ensures c.abort_at.ensures.objects c.abort_at.ensures.locks c.end.ensures.rows c.push_reserved.ensures.items
-    c.types_stay.ensures (Unit {0}) tt (command.Abort c.args.t) inside.max_events c.args.self.now c.self.view_is
+    inside.transactions.rows c.end.new.self.rows H (inside.past.items ++ c.push_reserved.new.self.items) c.args.w c.args.t c.places.result.now c.self.invariant.1.store.kept
+    going c.places.ensures c.abort_at.ensures.objects c.abort_at.ensures.locks c.end.ensures.rows (past-more inside.past.items inside.history.items c.push_reserved.new.self.items (record { worker = c.args.w; kind = Abort c.args.t }) c.push_reserved.ensures.items)
+    c.types_stay.ensures (Unit {0}) tt (command.Abort c.args.t) inside.max_events inside.forgotten c.args.self.now c.self.view_is
     (abort-refusal (objects_of ms) inside.max_events H c.args.t true opened) refl

@@ -7,84 +7,90 @@ use Rattle.serial_order.specs.declared.refusal.Refusal.TheVariants.{TooManyOpen,
 use Rattle.open_transactions.specs.Transactions.{begun_by}
 use Rattle.store_laws.specs.Kept.{Keeping, keeping, objects_of}
 use Rattle.store.proofs.Stored.{refused-shown, wanting-shown}
-use Rattle.store.proofs.Rooms.{succeeded, rows-fit, room-is, room-test}
+use Rattle.store.proofs.Rooms.{succeeded, rows-fit, room-is}
+use Rattle.store.proofs.Pasts.{past-more, past-length, past-test}
 use Rattle.store.proofs.Begins.{begin-many, begin-full, begin-unrefused, begin-whole, begin-shown}
 use Rattle.store.proofs.store.Store.begin.Goals as goal
 
 pub returns-then-opened-ge-MOST_OPEN-clause-step : goal.returns-then-opened-ge-MOST_OPEN-clause-step
 returns-then-opened-ge-MOST_OPEN-clause-step g c =
     let inside = c.self.inside in
-    let H = inside.history.items in
+    let H = inside.past.items ++ inside.history.items in
     let k : Keeping = keeping (map g.R.Recovery.meaning inside.objects.items) inside.locks.items inside.transactions.rows in
-    let counts : c.open_count-opened.result ≡ open_count (seen H) = c.open_count-opened.ensures.exact ∙ sym (c.rows_are_counted.ensures k H c.self.invariant.store.kept) in
-    inl (refused-shown ℕ k H c.args.w inside.max_events command.Begin TooManyOpen c.args.self.now c.self.view_is
+    let counts : c.open_count-opened.result ≡ open_count (seen H) = c.open_count-opened.ensures.exact ∙ sym (c.rows_are_counted.ensures k H c.self.invariant.1.store.kept) in
+    inl (refused-shown ℕ k H c.args.w inside.max_events inside.forgotten command.Begin TooManyOpen c.args.self.now c.self.view_is
     (begin-many (objects_of k.meanings) inside.max_events H c.open_count-opened.result counts c.if-opened-ge-MOST_OPEN.true))
 
 pub returns-then-not-has_room-clause-step : goal.returns-then-not-has_room-clause-step
 returns-then-not-has_room-clause-step g c =
     let inside = c.self.inside in
-    let H = inside.history.items in
+    let H = inside.past.items ++ inside.history.items in
     let opened = c.open_count-opened.result in
     let k : Keeping = keeping (map g.R.Recovery.meaning inside.objects.items) inside.locks.items inside.transactions.rows in
-    let counts : opened ≡ open_count (seen H) = c.open_count-opened.ensures.exact ∙ sym (c.rows_are_counted.ensures k H c.self.invariant.store.kept) in
-    inl (refused-shown ℕ k H c.args.w inside.max_events command.Begin HistoryFull c.args.self.now c.self.view_is
-    (begin-full (objects_of k.meanings) inside.max_events H opened counts c.if-opened-ge-MOST_OPEN.false (room-test c.deref.result.now H opened 2 inside.max_events c.has_room.result false c.has_room.ensures c.deref.ensures.value c.if-not-has_room.true)))
+    let counts : opened ≡ open_count (seen H) = c.open_count-opened.ensures.exact ∙ sym (c.rows_are_counted.ensures k H c.self.invariant.1.store.kept) in
+    inl (refused-shown ℕ k H c.args.w inside.max_events inside.forgotten command.Begin HistoryFull c.args.self.now c.self.view_is
+    (begin-full (objects_of k.meanings) inside.max_events H opened counts c.if-opened-ge-MOST_OPEN.false (past-test inside.past.items c.deref.result.now inside.history.items inside.forgotten opened 2 inside.max_events c.has_room.result false c.self.invariant.0 c.has_room.ensures c.deref.ensures.value c.if-not-has_room.true)))
 
 pub returns-then-is_err-clause-step : goal.returns-then-is_err-clause-step
 returns-then-is_err-clause-step g c =
     let inside = c.self.inside in
-    let H = inside.history.items in
+    let H = inside.past.items ++ inside.history.items in
     let opened = c.open_count-opened.result in
     let k : Keeping = keeping (map g.R.Recovery.meaning inside.objects.items) inside.locks.items inside.transactions.rows in
-    let counts : opened ≡ open_count (seen H) = c.open_count-opened.ensures.exact ∙ sym (c.rows_are_counted.ensures k H c.self.invariant.store.kept) in
-    wanting-shown ℕ k H c.reserve.new.self.items c.args.w inside.max_events command.Begin c.args.self.now c.self.view_is
-    (begin-unrefused (objects_of k.meanings) inside.max_events H opened counts c.if-opened-ge-MOST_OPEN.false (room-test c.deref.result.now H opened 2 inside.max_events c.has_room.result true c.has_room.ensures c.deref.ensures.value c.if-not-has_room.false)) c.reserve.ensures.items
+    let counts : opened ≡ open_count (seen H) = c.open_count-opened.ensures.exact ∙ sym (c.rows_are_counted.ensures k H c.self.invariant.1.store.kept) in
+    wanting-shown ℕ k H (inside.past.items ++ c.reserve.new.self.items) c.args.w inside.max_events inside.forgotten command.Begin c.args.self.now c.self.view_is
+    (begin-unrefused (objects_of k.meanings) inside.max_events H opened counts c.if-opened-ge-MOST_OPEN.false (past-test inside.past.items c.deref.result.now inside.history.items inside.forgotten opened 2 inside.max_events c.has_room.result true c.self.invariant.0 c.has_room.ensures c.deref.ensures.value c.if-not-has_room.false)) (ap (λ K. inside.past.items ++ K) c.reserve.ensures.items)
 
 pub returns-then-is_err-2-clause-step : goal.returns-then-is_err-2-clause-step
 returns-then-is_err-2-clause-step g c =
     let inside = c.self.inside in
-    let H = inside.history.items in
+    let H = inside.past.items ++ inside.history.items in
     let opened = c.open_count-opened.result in
     let k : Keeping = keeping (map g.R.Recovery.meaning inside.objects.items) inside.locks.items inside.transactions.rows in
-    let counts : opened ≡ open_count (seen H) = c.open_count-opened.ensures.exact ∙ sym (c.rows_are_counted.ensures k H c.self.invariant.store.kept) in
-    wanting-shown ℕ k H c.reserve.new.self.items c.args.w inside.max_events command.Begin c.args.self.now c.self.view_is
-    (begin-unrefused (objects_of k.meanings) inside.max_events H opened counts c.if-opened-ge-MOST_OPEN.false (room-test c.deref.result.now H opened 2 inside.max_events c.has_room.result true c.has_room.ensures c.deref.ensures.value c.if-not-has_room.false)) c.reserve.ensures.items
+    let counts : opened ≡ open_count (seen H) = c.open_count-opened.ensures.exact ∙ sym (c.rows_are_counted.ensures k H c.self.invariant.1.store.kept) in
+    wanting-shown ℕ k H (inside.past.items ++ c.reserve.new.self.items) c.args.w inside.max_events inside.forgotten command.Begin c.args.self.now c.self.view_is
+    (begin-unrefused (objects_of k.meanings) inside.max_events H opened counts c.if-opened-ge-MOST_OPEN.false (past-test inside.past.items c.deref.result.now inside.history.items inside.forgotten opened 2 inside.max_events c.has_room.result true c.self.invariant.0 c.has_room.ensures c.deref.ensures.value c.if-not-has_room.false)) (ap (λ K. inside.past.items ++ K) c.reserve.ensures.items)
 
 pub begin-t-requires-clause-fits : goal.begin-t-requires-clause-fits
 begin-t-requires-clause-fits g c =
     let inside = c.self.inside in
-    let H = inside.history.items in
+    let H = inside.past.items ++ inside.history.items in
     let opened = c.open_count-opened.result in
-    let limited = room-is (length H + opened + 2) inside.max_events (room-test c.deref.result.now H opened 2 inside.max_events c.has_room.result true c.has_room.ensures c.deref.ensures.value c.if-not-has_room.false) in
+    let limited = room-is (length H + opened + 2) inside.max_events (past-test inside.past.items c.deref.result.now inside.history.items inside.forgotten opened 2 inside.max_events c.has_room.result true c.self.invariant.0 c.has_room.ensures c.deref.ensures.value c.if-not-has_room.false) in
     let few = rows-fit c.rows_are_few.ensures (map g.R.Recovery.meaning inside.objects.items) inside.locks.items inside.transactions.rows c.reserve_begin.new.self.rows H inside.max_events
-    c.self.invariant.store.kept c.reserve_begin.ensures.rows (omega (arith, limited)) in
+    c.self.invariant.1.store.kept c.reserve_begin.ensures.rows (omega (arith, limited)) in
     omega (arith, few)
 
 pub invariant_of-self-2 : goal.invariant_of-self-2
 invariant_of-self-2 g c =
     let inside = c.self.inside in
-    let H = inside.history.items in
+    let H = inside.past.items ++ inside.history.items in
     let opened = c.open_count-opened.result in
-    let limited = room-is (length H + opened + 2) inside.max_events (room-test c.deref.result.now H opened 2 inside.max_events c.has_room.result true c.has_room.ensures c.deref.ensures.value c.if-not-has_room.false) in
+    let limited = room-is (length H + opened + 2) inside.max_events (past-test inside.past.items c.deref.result.now inside.history.items inside.forgotten opened 2 inside.max_events c.has_room.result true c.self.invariant.0 c.has_room.ensures c.deref.ensures.value c.if-not-has_room.false) in
     let made : vec_len c.reserve.new.self + (opened + 2) ≤ vec_capacity c.reserve.new.self = succeeded c.reserve.result (sym c.is_err.ensures.value ∙ c.if-is_err.false) c.reserve.ensures.ok in
-    begin-whole c.begin_moves.ensures (map g.R.Recovery.meaning inside.objects.items) inside.locks.items inside.transactions.rows c.begin-t.new.self.rows H c.push_reserved.new.self.items
-    c.args.w c.begin-t.result c.self.invariant.store.kept (c.begin-t.ensures.number ∙ ap length c.reserve_begin.ensures.rows)
-    (c.begin-t.ensures.rows ∙ ap (λ r. r ++ Some (begun_by c.args.w) ∷ []) c.reserve_begin.ensures.rows)
-    (c.push_reserved.ensures.items ∙ ap (λ K. K ++ (record { worker = c.args.w; kind = Begin c.begin-t.result }) ∷ []) c.reserve.ensures.items)
-    c.stays_kept.ensures c.room_after.ensures c.types_stay.ensures c.rows_are_counted.ensures inside.calls.items opened (vec_capacity inside.history) (vec_capacity c.push_reserved.new.self) inside.max_events c.self.invariant c.open_count-opened.ensures.exact
-    (omega arith) (omega (arith, made, c.reserve.ensures.len, c.push_reserved.ensures.capacity, inside.history.ok.0)) limited
+    let long = past-length inside.past.items inside.history.items inside.forgotten c.self.invariant.0 in (
+      c.self.invariant.0,
+      begin-whole c.begin_moves.ensures (map g.R.Recovery.meaning inside.objects.items) inside.locks.items inside.transactions.rows c.begin-t.new.self.rows H (inside.past.items ++ c.push_reserved.new.self.items)
+          c.args.w c.begin-t.result c.self.invariant.1.store.kept (c.begin-t.ensures.number ∙ ap length c.reserve_begin.ensures.rows)
+          (c.begin-t.ensures.rows ∙ ap (λ r. r ++ Some (begun_by c.args.w) ∷ []) c.reserve_begin.ensures.rows)
+          (past-more inside.past.items inside.history.items c.push_reserved.new.self.items (record { worker = c.args.w; kind = Begin c.begin-t.result })
+          (c.push_reserved.ensures.items ∙ ap (λ K. K ++ (record { worker = c.args.w; kind = Begin c.begin-t.result }) ∷ []) c.reserve.ensures.items))
+          c.stays_kept.ensures c.room_after.ensures c.types_stay.ensures c.rows_are_counted.ensures inside.calls.items opened (inside.forgotten + vec_capacity inside.history) (inside.forgotten + vec_capacity c.push_reserved.new.self) inside.max_events c.self.invariant.1 c.open_count-opened.ensures.exact
+          (omega arith) (omega (arith, long, made, c.reserve.ensures.len, c.push_reserved.ensures.capacity, inside.history.ok.0)) limited,
+    )
 
 pub returns-clause-step : goal.returns-clause-step
 returns-clause-step g c =
     let inside = c.self.inside in
-    let H = inside.history.items in
+    let H = inside.past.items ++ inside.history.items in
     let opened = c.open_count-opened.result in
     let ms = map g.R.Recovery.meaning inside.objects.items in
     let k : Keeping = keeping ms inside.locks.items inside.transactions.rows in
-    let counts : opened ≡ open_count (seen H) = c.open_count-opened.ensures.exact ∙ sym (c.rows_are_counted.ensures k H c.self.invariant.store.kept) in
-    inl (begin-shown c.begin_moves.ensures ms inside.locks.items inside.transactions.rows c.begin-t.new.self.rows H c.push_reserved.new.self.items
-    c.args.w c.begin-t.result c.self.invariant.store.kept (c.begin-t.ensures.number ∙ ap length c.reserve_begin.ensures.rows)
+    let counts : opened ≡ open_count (seen H) = c.open_count-opened.ensures.exact ∙ sym (c.rows_are_counted.ensures k H c.self.invariant.1.store.kept) in
+    inl (begin-shown c.begin_moves.ensures ms inside.locks.items inside.transactions.rows c.begin-t.new.self.rows H (inside.past.items ++ c.push_reserved.new.self.items)
+    c.args.w c.begin-t.result c.self.invariant.1.store.kept (c.begin-t.ensures.number ∙ ap length c.reserve_begin.ensures.rows)
     (c.begin-t.ensures.rows ∙ ap (λ r. r ++ Some (begun_by c.args.w) ∷ []) c.reserve_begin.ensures.rows)
-    (c.push_reserved.ensures.items ∙ ap (λ K. K ++ (record { worker = c.args.w; kind = Begin c.begin-t.result }) ∷ []) c.reserve.ensures.items)
-    c.types_stay.ensures inside.max_events c.args.self.now c.self.view_is
-    (begin-unrefused (objects_of ms) inside.max_events H opened counts c.if-opened-ge-MOST_OPEN.false (room-test c.deref.result.now H opened 2 inside.max_events c.has_room.result true c.has_room.ensures c.deref.ensures.value c.if-not-has_room.false)))
+    (past-more inside.past.items inside.history.items c.push_reserved.new.self.items (record { worker = c.args.w; kind = Begin c.begin-t.result })
+    (c.push_reserved.ensures.items ∙ ap (λ K. K ++ (record { worker = c.args.w; kind = Begin c.begin-t.result }) ∷ []) c.reserve.ensures.items))
+    c.types_stay.ensures inside.max_events inside.forgotten c.args.self.now c.self.view_is
+    (begin-unrefused (objects_of ms) inside.max_events H opened counts c.if-opened-ge-MOST_OPEN.false (past-test inside.past.items c.deref.result.now inside.history.items inside.forgotten opened 2 inside.max_events c.has_room.result true c.self.invariant.0 c.has_room.ensures c.deref.ensures.value c.if-not-has_room.false)))

@@ -1,38 +1,27 @@
-use Rattle.std.proofs.Common.{◌≡◌, length, map, sym, ap, ◌∙◌, append-nil, arith}
-use Rattle.serial_order.specs.Machine.{IsRun}
-use Rattle.store_laws.specs.Stored.{Stored, objects}
-use Rattle.store_laws.specs.Kept.{Keeping, keeping, IsKept}
-use Rattle.store.proofs.Closings.{kept-shown, run-shown, closed-each, next-turn, closed-all, handed-out}
+use Rattle.std.proofs.Common.{◌++◌, ◌≡◌, ℕ, false, Some, slice_get, drop, map, sym, ap, subst, ◌∙◌}
+use Rattle.object_trait.specs.Meaning.{Meaning}
+use Rattle.serial_order.specs.History.{seen, is_open}
+use Rattle.store_laws.specs.Stored.{Stored}
+use Rattle.store_laws.specs.Kept.{keeping}
+use Rattle.store.specs.Ends.{IsHandedOut}
+use Rattle.store.proofs.Pasts.{past-drop}
+use Rattle.store.proofs.Closings.{run-shown, handed-out}
 use Rattle.store.proofs.store.Store.close.Goals as goal
-
-pub loop-t-init : goal.loop-t-init
-loop-t-init g c = let s = c.args.self in ap (λ K. record s { history = K }) (sym (append-nil s.history))
-
-pub loop-t-preserved : goal.loop-t-preserved
-loop-t-preserved g c =
-    let s = c.args.self in
-    let inside = c.self.inside in
-    let k : Keeping = keeping (map g.R.Recovery.meaning inside.objects.items) inside.locks.items inside.transactions.rows in
-    let run : IsRun (objects s) s.history = run-shown k inside.history.items inside.max_events s c.self.view_is c.self.invariant.store.kept in
-    next-turn (objects s) s c.loop-t.self c.abort_open.new.self c.loop-t.t
-    (closed-each c.run_goes_on.ensures c.seen_after.ensures c.transactions_in_run.ensures c.opens_after.ensures c.beginners_after.ensures (objects s) s.history run c.loop-t.t)
-    c.loop-t.invariant c.abort_open.ensures.aborts c.abort_open.ensures.stays
 
 pub returns : goal.returns
 returns g c =
     let s = c.args.self in
-    let inside = c.self.inside in
-    let k : Keeping = keeping (map g.R.Recovery.meaning inside.objects.items) inside.locks.items inside.transactions.rows in
-    let kept : IsKept k s.history = kept-shown k inside.history.items inside.max_events s c.self.view_is c.self.invariant.store.kept in
-    let run : IsRun (objects s) s.history = run-shown k inside.history.items inside.max_events s c.self.view_is c.self.invariant.store.kept in
-    let left = c.self-2.inside in
-    let many : c.loop-t.t ≡ length inside.transactions.rows = omega (arith, c.loop-t.auto.t-end, c.loop-t-test.false, c.begun-t-end.ensures) in
-    let closed = closed-all c.run_goes_on.ensures c.seen_after.ensures c.transactions_in_run.ensures c.opens_after.ensures c.beginners_after.ensures s k
-    left.history.items c.loop-t.t kept run many (ap (λ (z : Stored). z.history) (c.self-2.view_is ∙ c.loop-t.invariant)) in
+    let left = c.self.inside in
+    let ms = map g.R.Recovery.meaning left.objects.items in
+    let K = left.past.items ++ left.history.items in
+    let is = c.self.view_is ∙ c.abort_all.ensures.aborts in
+    let whole = ap (λ (z : Stored). z.history) is in
     record {
-      history = closed.whole;
-      run = closed.run;
-      types = ap (λ (z : Stored). z.types) (c.self-2.view_is ∙ c.loop-t.invariant);
-      objects = handed-out c.idle_is_closed.ensures (map g.R.Recovery.meaning left.objects.items) left.locks.items left.transactions.rows left.history.items
-          c.self-2.invariant.store.kept closed.none;
+      history = sym (past-drop left.past.items left.history.items left.forgotten c.self.invariant.0)
+          ∙ ap (λ n. drop n K) (ap (λ (z : Stored). z.forgotten) is) ∙ ap (λ J. drop s.forgotten J) whole;
+      run = run-shown (keeping ms left.locks.items left.transactions.rows) K left.max_events left.forgotten _ is c.self.invariant.1.store.kept;
+      types = ap (λ (z : Stored). z.types) is;
+      objects = subst (λ J. (x : ℕ) (m : Meaning) → slice_get ms x ≡ Some m → IsHandedOut m x J) whole
+          (handed-out c.idle_is_closed.ensures ms left.locks.items left.transactions.rows K c.self.invariant.1.store.kept
+          (subst (λ (z : Stored). (t : ℕ) → is_open (seen z.history) t ≡ false) (sym c.self.view_is) c.abort_all.ensures.none));
     }

@@ -1,4 +1,4 @@
-use Rattle.std.proofs.Common.{◌≡◌, ◌++◌, ◌∷◌, [], refl, subst}
+use Rattle.std.proofs.Common.{◌≡◌, ◌≤◌, ◌++◌, ◌∷◌, [], refl, subst}
 use Rattle.object_trait.specs.declared.event.EventKind.TheVariants.{Op}
 use Rattle.jobs_text.specs.Jobs.{Call, calls_in}
 use Rattle.worker_turns.specs.Progress.{Progress}
@@ -26,10 +26,11 @@ returns-after-answer g c =
       | in-Reply v ↦
           let k = v.in-Reply.k in
           let gets : v.take.new.receipts.items ≡ shown.receipts ++ receipt old.history c.args.w (Op c.args.t c.args.x k) ∷ [] =
-          rw (v.take.ensures.gets, c.reserve.ensures.items, c.history-position.ensures.exact) refl in
+          rw (v.take.ensures.gets, c.reserve.ensures.items, c.event_count-position.ensures.exact) refl in
           rw (← c.self.view_is, v.self-inside-is, v.self-is)
           (calls-reply old c.args.w c.args.t c.args.done call shown new k (subst (λ a. IsAnswered old c.args.w c.args.t call a new) v.in-Reply.is its) v.take.new.receipts.items gets)
       | in-Busy v ↦
           rw (← c.self.view_is, v.self-inside-is, v.self-is)
-          (calls-busy old c.args.w c.args.t c.args.done call shown new c.in-Ok.answer its held v.note.new.receipts.items c.reserve.ensures.items v.note.ensures.gets v.in-Busy.is)
+          (calls-busy old c.args.w c.args.t c.args.done call shown new c.in-Ok.answer its held v.note.new.receipts.items c.reserve.ensures.items
+          (subst (λ n. old.forgotten ≤ n) c.event_count-position.ensures.exact c.event_count-position.ensures.within) v.note.ensures.gets v.in-Busy.is)
     ]

@@ -1,6 +1,6 @@
 use Rattle.std.proofs.Common.{◌≡◌}
 use Rattle.store.proofs.Closings.{closed_below}
-use Rattle.store.proofs.store.Store.close.Given as goal
+use Rattle.store.proofs.store.Store.abort_all.Given as goal
 
 -- those below t were met
 abbrev pub invariant-loop-t : goal.invariant-loop-t
