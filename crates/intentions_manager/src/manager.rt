@@ -5,8 +5,8 @@ ghost use Rattle.object_trait.specs.Steps.{IsFresh};
 use crate::entries::{carry_from, place_of_last, take_out};
 use crate::views::{View, drop_view, place_of, put_view, seen_at, seen_by, stepped, walked};
 use object_trait::{
-    LogEntry, Recovery, WrongKind, checked_is_covered, fresh_is_sound, keeps_first, keeps_none,
-    keeps_others, keeps_parts, opens_are_counted, opens_commute, sound_after_apply,
+    LogEntry, Recovery, Renew, WrongKind, checked_is_covered, fresh_is_sound, keeps_first,
+    keeps_none, keeps_others, keeps_parts, opens_are_counted, opens_commute, sound_after_apply,
     sound_after_commit, sound_after_strike,
 };
 use std::alloc::{AllocError, Global};
@@ -55,18 +55,27 @@ impl IntentionsManager {
         ensures fresh { IfOk result (λ m. IsFresh m × (m.checked ≡ checked.value)) }
         ensures back { IfErr result (λ e. e.0 ≡ checked) }
     {
-        if checked.kind() != Kind::Intentions {
-            return Err((checked, WrongKind));
+        match checked.kind() {
+            Kind::Intentions => Ok(IntentionsManager::fresh(alloc, checked)),
+            Kind::Undo => Err((checked, WrongKind)),
         }
+    }
+
+    /// The object of a type that was checked for deferred update, at the initial state.
+    fn fresh(alloc: Global, checked: Arc<CheckedType>) -> IntentionsManager
+        requires { checked.value.kind ≡ Intentions }
+        ensures fresh { IsFresh result }
+        ensures checked { result.checked ≡ checked.value }
+    {
         checked_is_covered();
         fresh_is_sound();
         let base = checked.file().table.initial();
-        Ok(IntentionsManager {
+        IntentionsManager {
             checked,
             base,
             log: Vec::new(alloc),
             views: Vec::new(alloc),
-        })
+        }
     }
 }
 
@@ -179,5 +188,13 @@ impl Recovery for IntentionsManager {
 
     fn is_fresh(&self) -> bool {
         self.log.is_empty() && self.base == self.checked.table().initial()
+    }
+}
+
+impl Renew for IntentionsManager {
+    fn renewed(&self, alloc: Global, checked: Arc<CheckedType>) -> IntentionsManager {
+        // (read for what is known of this object, that its type is for deferred update)
+        let _base = self.base;
+        IntentionsManager::fresh(alloc, checked)
     }
 }

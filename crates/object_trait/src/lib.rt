@@ -6,6 +6,7 @@ mod event;
 mod laws;
 mod log_entry;
 mod recovery;
+mod renew;
 mod wrong_kind;
 
 pub use any_object::AnyObject;
@@ -18,6 +19,7 @@ pub use laws::{
 };
 pub use log_entry::LogEntry;
 pub use recovery::Recovery;
+pub use renew::Renew;
 pub use wrong_kind::WrongKind;
 
 pub mod worked;

@@ -1,7 +1,7 @@
 ghost use Rattle.std.specs.Prelude.{◌≡◌};
 
 use intentions_manager::IntentionsManager;
-use object_trait::Recovery;
+use object_trait::{Recovery, Renew};
 use std::alloc::{AllocError, Global};
 use std::sync::Arc;
 use table_checker::CheckedType;
@@ -100,5 +100,11 @@ impl Recovery for Object {
             Object::Undo(manager) => manager.is_fresh(),
             Object::Intentions(manager) => manager.is_fresh(),
         }
+    }
+}
+
+impl Renew for Object {
+    fn renewed(&self, alloc: Global, checked: Arc<CheckedType>) -> Object {
+        Object::new(alloc, checked)
     }
 }

@@ -219,6 +219,16 @@ closed-all goes_on now in_run opens began s k K n kept run many is =
     subst (λ J. IsClosed s J) (sym whole)
     (record { whole = refl; run = below.run; none = none-open (objects s) s.history (s.history ++ closing s.history) below })
 
+-- and of a store as it is, where the rows of all say that they ended
+pub closed-already : RunGoesOn → SeenAfter → TransactionsInRun → OpensAfter → BeginnersAfter → RowsSayWhoIsOpen → (ms : List Meaning) (locks : List Locks)
+    (rows : List (Option Row)) (K : List Event) (max forgotten n : ℕ) (s : Stored) → shown (keeping ms locks rows) K max forgotten ≡ s → IsKept (keeping ms locks rows) K
+    → n ≡ length rows → ((t : ℕ) → t < n → table.is_open rows t ≡ false) → IsClosed s s.history
+closed-already goes_on now in_run opens began says ms locks rows K max forgotten n s same its many ended =
+    let k = keeping ms locks rows in
+    let kept = kept-shown k K max forgotten s same its in
+    closed-all goes_on now in_run opens began s k s.history n kept (run-shown k K max forgotten s same its) many
+    (ap (λ (z : Stored). z.history) (closed-none says ms locks rows s n kept ended))
+
 -- no open transaction has an operation anywhere
 none-idle : (K : List Event) (x : ℕ) → ((t : ℕ) → is_open (seen K) t ≡ false) → IsIdle x K
 none-idle K x none = recursion_from_All (λ (e : Entry). is_open (seen K) e.by ≡ false) (standing_at x K) (λ k d low. none _)

@@ -15,3 +15,4 @@ pub mod Answered
 pub mod Pasts
 pub mod OpCalls
 pub mod OneAnswer
+pub mod Renewals

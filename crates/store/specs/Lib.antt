@@ -3,4 +3,5 @@ pub mod Executed
 pub mod Calls
 pub mod Ends
 pub mod KeptState
+pub mod Renews
 pub mod Examples

@@ -11,13 +11,15 @@ mod expected;
 mod forget;
 mod parts;
 mod refusals;
+mod renew;
+mod renewed;
 mod rollback;
 mod room;
 mod store;
 mod would;
 
 pub use object_calls::Answer;
-pub use refusals::NewRefusal;
+pub use refusals::{NewRefusal, RenewRefusal};
 pub use store::Store;
 
 pub mod worked;

@@ -19,3 +19,14 @@ pub enum NewRefusal {
     #[error("NoMemory")]
     NoMemory,
 }
+
+/// Why a store doesn't begin anew. It comes back.
+#[derive(Clone, Copy, Debug, PartialEq, Eq, Error)]
+pub enum RenewRefusal {
+    /// A transaction is open.
+    #[error("StillOpen")]
+    StillOpen,
+    /// Memory was refused.
+    #[error("NoMemory")]
+    NoMemory,
+}

@@ -4,3 +4,4 @@ pub mod Found
 pub mod Covering
 pub mod Examples
 pub mod Answers
+pub mod BeginsAt

@@ -6,3 +6,4 @@ pub mod Refusal
 pub mod Answer
 pub mod Laws
 pub mod Examples
+pub mod At

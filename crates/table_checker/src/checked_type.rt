@@ -1,8 +1,10 @@
-ghost use Rattle.std.specs.Prelude.{◌≡◌, ◌↔◌, true, length};
+ghost use Rattle.std.specs.Prelude.{◌≡◌, ◌↔◌, true, length, is_some, IfOk, IfSome, OnErr};
 ghost use Rattle.table_checker.specs.Checked.{condition_of};
 
 use crate::condition::Condition;
+use crate::laws::at_is_checked;
 use crate::scan::passes_everywhere;
+use std::alloc::{AllocError, Global};
 use std::marker::Model;
 use type_table::{ConflictTable, Kind, TypeTable};
 use type_text::TypeFile;
@@ -26,6 +28,8 @@ impl Model for CheckedType {
 
 impl CheckedType {
     ghost use Rattle.table_checker.specs.Checked.{IsChecked, IsStrong};
+    ghost use Rattle.table_checker.specs.At.{checked_at};
+    ghost use Rattle.type_table.specs.StateSet.{has};
     ghost use Rattle.type_table.specs.ConflictTable.{IsSquare};
     ghost use Rattle.type_text.specs.TypeFile.{conflicts_of};
 
@@ -35,6 +39,42 @@ impl CheckedType {
         ensures { result ≡ record { kind = kind; file = file } }
     {
         CheckedType { kind, file }
+    }
+
+    /// The same type, beginning at this state, without a second check: None where the state isn't one of
+    /// the file's set.
+    ///
+    /// # Errors
+    ///
+    /// Memory was refused, which is asked for only where the state is one of the set.
+    pub fn at(&self, alloc: Global, state: u16) -> Result<Option<CheckedType>, AllocError>
+        ensures there { IfOk result (λ found. is_some found ≡ has self.now.file.reach state) }
+        ensures same { IfOk result (λ found. IfSome found (λ c. c ≡ checked_at self.now state)) }
+        ensures refused { OnErr result (has self.now.file.reach state ≡ true) }
+    {
+        if !self.reaches(state) {
+            return Ok(None);
+        }
+        let file = self.file.copy(alloc)?;
+        let mut checked = CheckedType::new(self.kind, file);
+        checked.begin_at(state);
+        Ok(Some(checked))
+    }
+
+    /// Whether the state is one of the file's set.
+    fn reaches(&self, state: u16) -> bool
+        ensures { result ≡ has self.now.file.reach state }
+    {
+        state < self.file.table.states() && self.file.reach.has(state)
+    }
+
+    /// It begins at this state of its set from now on.
+    fn begin_at(&mut self, state: u16)
+        requires { has self.old.file.reach state ≡ true }
+        ensures { self.new ≡ checked_at self.old state }
+    {
+        at_is_checked();
+        self.file.table.begin_at(state);
     }
 
     /// The kind of recovery for which the file was accepted.

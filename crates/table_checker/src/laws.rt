@@ -1,6 +1,7 @@
 //! Laws of the checker: each is a function that does nothing, whose contract is the law. It calls the
 //! laws on which it depends.
 
+ghost use Rattle.table_checker.specs.At.{AtIsChecked, AtIsStrong};
 ghost use Rattle.table_checker.specs.Answer.{OneAnswer};
 ghost use Rattle.table_checker.specs.Laws.{YesCovers, StrongYesCovers};
 
@@ -28,4 +29,16 @@ pub fn strong_yes_covers()
 #[tactic(auto, using(crate::proofs::Answers::one_answer))]
 pub fn one_answer()
     ensures { OneAnswer }
+{}
+
+/// A checked type is one at any state of its set.
+#[tactic(auto, using(crate::proofs::BeginsAt::at_is_checked))]
+pub fn at_is_checked()
+    ensures { AtIsChecked }
+{}
+
+/// And strongly where it was.
+#[tactic(auto, using(crate::proofs::BeginsAt::at_is_strong))]
+pub fn at_is_strong()
+    ensures { AtIsStrong }
 {}

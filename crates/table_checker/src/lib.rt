@@ -14,7 +14,7 @@ mod scan;
 pub use checked_type::{CheckedType, condition_of};
 pub use checker::{check, check_parallel};
 pub use condition::Condition;
-pub use laws::{one_answer, strong_yes_covers, yes_covers};
+pub use laws::{at_is_checked, at_is_strong, one_answer, strong_yes_covers, yes_covers};
 pub use refusal::CheckRefusal;
 pub use scan::first_failing_state;
 pub use type_table::Kind;

@@ -1,10 +1,21 @@
 -- Runs along lists of operations.
 use Rattle.std.proofs.Common.{◌≡◌, ℕ, ◌+◌, ◌<◌, length, get_or, drop, ◌∙◌, List, [], ◌∷◌, ◌++◌, Option, Some, None, refl, ap}
 use Rattle.std.proofs.lemmas.List.{at_drop_more}
-use Rattle.type_table.specs.Table.{Table, next}
+use Rattle.type_table.specs.Table.{Table, next, table_at}
 use Rattle.type_table.specs.Run.{next_of, run, Looks, AreEqui}
-use Rattle.type_table.specs.Laws.{LooksExtends, EquiExtends}
+use Rattle.type_table.specs.Laws.{RunsAlike, LooksExtends, EquiExtends}
 use Rattle.type_table.proofs.Legal.{run_from_none}
+
+-- a step doesn't depend on the initial state
+step-at : (T : Table) (s e k : ℕ) → next (table_at T s) e k ≡ next T e k
+unfolding next
+step-at T s e k = refl
+
+-- nor does where a list leads
+pub runs_alike : RunsAlike
+runs_alike T s from [] = refl
+runs_alike T s None (k ∷ ks) = runs_alike T s None ks
+runs_alike T s (Some e) (k ∷ ks) = ap (λ o. run (table_at T s) o ks) (step-at T s e k) ∙ runs_alike T s (next T e k) ks
 
 pub run-append : (T : Table) (from : Option ℕ) (v w : List ℕ) → run T from (v ++ w) ≡ run T (run T from v) w
 run-append T from [] w = refl

@@ -1,12 +1,16 @@
 -- Statements of laws of types.
 use Rattle.std.specs.Prelude.{◌≡◌, ℕ, ◌<◌, Bool, true, ◌++◌, List, length, Option, Some}
-use Rattle.type_table.specs.Table.{Table, IsTable, next}
+use Rattle.type_table.specs.Table.{Table, IsTable, next, table_at}
 use Rattle.type_table.specs.Run.{run, IsLegal, Looks, AreEqui}
 use Rattle.type_table.specs.StateSet.{IsClosed}
 
 -- a run along one list and then another
 abbrev pub RunsAlong : Type 0
 RunsAlong = (T : Table) (from : Option ℕ) (v w : List ℕ) → run T from (v ++ w) ≡ run T (run T from v) w
+
+-- where a list leads doesn't depend on the state at which a type begins
+abbrev pub RunsAlike : Type 0
+RunsAlike = (T : Table) (s : ℕ) (from : Option ℕ) (ks : List ℕ) → run (table_at T s) from ks ≡ run T from ks
 
 -- extension: what looks like another looks like it after the same operations
 abbrev pub LooksAfter : Type 0

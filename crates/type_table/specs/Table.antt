@@ -18,6 +18,10 @@ pub record Table : Type 0 where
   pub ops : List Op
   pub steps : List (Option ℕ)
 
+-- the same type, beginning at another state
+abbrev pub table_at : Table → ℕ → Table
+table_at T s = record T { initial = s }
+
 -- the next state, where operation k is legal in state s
 unfoldable pub next : Table → ℕ → ℕ → Option ℕ
 next T s k = if nat_lt k (length T.ops) then option_and_then (λ entry. entry) (slice_get T.steps (s * length T.ops + k)) else None

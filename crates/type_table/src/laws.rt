@@ -1,12 +1,18 @@
 //! Laws of types and of lists of operations: each is a function that does nothing, whose contract is
 //! the law. It calls the laws on which it depends.
 
-ghost use Rattle.type_table.specs.Laws.{RunsAlong, LooksAfter, LooksExtends, EquiAfter, EquiExtends, StepsWithin, EndsInside, EndsWithin, LegalEnds};
+ghost use Rattle.type_table.specs.Laws.{RunsAlike, RunsAlong, LooksAfter, LooksExtends, EquiAfter, EquiExtends, StepsWithin, EndsInside, EndsWithin, LegalEnds};
 ghost use Rattle.type_table.specs.Lists.{ListsForward, ListsBackward, ListsBackwardBothWays};
 
 /// A run along a list put together is a run along its parts.
 pub fn runs_along()
     ensures { RunsAlong }
+{}
+
+/// Where a list leads doesn't depend on the state at which a type begins.
+#[tactic(auto, using(crate::proofs::Runs::runs_alike))]
+pub fn runs_alike()
+    ensures { RunsAlike }
 {}
 
 /// Extension: what looks like another looks like it after the same operations.

@@ -16,7 +16,8 @@ pub use conflict_table::ConflictTable;
 pub use kind::Kind;
 pub use laws::{
     ends_inside, ends_within, equi_after, equi_extends, legal_ends, lists_backward,
-    lists_backward_both_ways, lists_forward, looks_after, looks_extends, runs_along, steps_within,
+    lists_backward_both_ways, lists_forward, looks_after, looks_extends, runs_alike, runs_along,
+    steps_within,
 };
 pub use limits::{
     LONGEST_HISTORY, LONGEST_LINE, LONGEST_NAME, MOST_EVENTS, MOST_OBJECTS, MOST_OPEN, MOST_OPS,

@@ -35,7 +35,7 @@ impl Model for TypeTable {
 }
 
 impl TypeTable {
-    ghost use Rattle.type_table.specs.Table.{Table, IsTable, AreSteps, table_fault, next, first_op, is_same_call};
+    ghost use Rattle.type_table.specs.Table.{Table, IsTable, AreSteps, table_at, table_fault, next, first_op, is_same_call};
 
     /// A table of these parts. `steps` has the entry of state s and operation k at
     /// `s * ops.len() + k`.
@@ -88,6 +88,14 @@ impl TypeTable {
             ops,
             steps,
         })
+    }
+
+    /// It begins at this state from now on.
+    pub fn begin_at(&mut self, state: u16)
+        requires { state < self.old.states }
+        ensures { self.new ≡ table_at self.old state }
+    {
+        self.initial = state;
     }
 
     /// The name of the type.

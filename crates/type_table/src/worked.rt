@@ -2,7 +2,7 @@
 #![tactic(auto, unfolding(crate::specs::Table::next, crate::specs::Table::table_fault))]
 
 ghost use Rattle.std.specs.Prelude.{◌≡◌, false, true, [], ◌∷◌, Some, None, codes};
-ghost use Rattle.type_table.specs.Table.{AreSteps, next, table_fault, first_op, is_same_call};
+ghost use Rattle.type_table.specs.Table.{AreSteps, next, table_at, table_fault, first_op, is_same_call};
 ghost use Rattle.type_table.specs.Run.{run, Looks};
 ghost use Rattle.type_table.specs.StateSet.{IsClosed};
 ghost use Rattle.type_table.specs.ConflictTable.{conflicts};
@@ -30,6 +30,12 @@ pub fn counter_runs()
     ensures legal { run counter (Some 0) (0 ∷ 0 ∷ 1 ∷ []) ≡ Some 1 }
     ensures illegal { run counter (Some 0) (0 ∷ 1 ∷ 1 ∷ 0 ∷ []) ≡ None }
     ensures empty { run counter (Some 2) [] ≡ Some 2 }
+{}
+
+/// The counter that begins full.
+pub fn counter_at_two()
+    ensures initial { (table_at counter 2).initial ≡ 2 }
+    ensures alike { run (table_at counter 2) (Some 2) (1 ∷ 0 ∷ []) ≡ run counter (Some 2) (1 ∷ 0 ∷ []) }
 {}
 
 pub fn counter_calls()

@@ -9,10 +9,12 @@ use crate::stepping::{next_state, rerun};
 use crate::undo_entry::UndoEntry;
 use crate::undo_manager::UndoManager;
 use object_trait::{
-    LogEntry, Recovery, keeps_first, keeps_none, keeps_others, keeps_parts, opens_are_counted,
-    sound_after_apply, sound_after_commit, sound_after_strike, struck_log_is_legal,
+    LogEntry, Recovery, Renew, keeps_first, keeps_none, keeps_others, keeps_parts,
+    opens_are_counted, sound_after_apply, sound_after_commit, sound_after_strike,
+    struck_log_is_legal,
 };
-use std::alloc::AllocError;
+use std::alloc::{AllocError, Global};
+use std::sync::Arc;
 use table_checker::CheckedType;
 use type_table::{ends_within, runs_along, steps_within};
 
@@ -93,5 +95,13 @@ impl Recovery for UndoManager {
 
     fn is_fresh(&self) -> bool {
         self.base == self.checked.table().initial() && self.log.is_empty()
+    }
+}
+
+impl Renew for UndoManager {
+    fn renewed(&self, alloc: Global, checked: Arc<CheckedType>) -> UndoManager {
+        // (read for what is known of this object, that its type is for update in place)
+        let _state = self.state;
+        UndoManager::fresh(alloc, checked)
     }
 }

@@ -62,7 +62,7 @@ impl UndoManager {
     }
 
     /// The object of a type that was checked for update in place, at the initial state.
-    fn fresh(alloc: Global, checked: Arc<CheckedType>) -> UndoManager
+    pub(crate) fn fresh(alloc: Global, checked: Arc<CheckedType>) -> UndoManager
         requires { checked.value.kind ≡ Kind.Undo }
         ensures fresh { IsFresh result }
         ensures checked { result.checked ≡ checked.value }

@@ -3,6 +3,7 @@
 mod boxed;
 mod calls;
 mod closed;
+mod epochs;
 mod followed;
 mod forgotten;
 pub mod full;

@@ -1,0 +1,87 @@
+-- Epochs: histories one after another, each from the states that were kept at the end of the one before it.
+use Rattle.std.specs.Prelude.{◌≡◌, ℕ, List, [], ◌∷◌, ◌++◌, map, true, false, Some, slice_get}
+use Rattle.type_table.specs.Run.{run, IsLegal, Looks, AreEqui}
+use Rattle.type_table.specs.StateSet.{has}
+use Rattle.table_checker.specs.Checked.{Checked, IsChecked, IsStrong}
+use Rattle.object_trait.specs.Object.{object_of}
+use Rattle.object_trait.specs.Meaning.{Meaning, state_of}
+use Rattle.object_trait.specs.Sound.{IsSound}
+use Rattle.object_trait.specs.declared.event.Event.{Event}
+use Rattle.serial_order.specs.Operations.{ops}
+use Rattle.serial_order.specs.History.{seen, is_open}
+use Rattle.serial_order.specs.Machine.{IsRun}
+use Rattle.serial_order.specs.Serial.{serial_at}
+use Rattle.serial_order.specs.Stand.{StandsFor, IsIdle, KeptAgreesBy}
+use Rattle.serial_order.specs.Laws.{AreChecked}
+use Rattle.table_checker.specs.At.{checked_at}
+
+-- a history, and at its end the state that was kept of each object
+pub record Epoch : Type 0 where
+  pub history : List Event
+  pub kept : List ℕ
+
+-- each type at the state that was kept of its object
+abbrev pub types_at : List Checked → List ℕ → List Checked
+types_at [] kept = []
+types_at (c ∷ types) [] = []
+types_at (c ∷ types) (s ∷ kept) = checked_at c s ∷ types_at types kept
+
+-- s may be the state that is kept of the object at x: one of its type's set, at a time when no open transaction has an operation there
+pub record IsKeptAt (c : Checked) (s x : ℕ) (H : List Event) : Type 0 where
+  pub inside : has c.file.reach s ≡ true
+  pub idle : IsIdle x H
+  pub agrees : KeptAgreesBy c.kind (object_of c) (Some s) x H
+
+-- an epoch of objects of these types
+pub record IsEpoch (types : List Checked) (e : Epoch) : Type 0 where
+  pub run : IsRun (map object_of types) e.history
+  pub kept : (x : ℕ) (c : Checked) (s : ℕ) → slice_get types x ≡ Some c → slice_get e.kept x ≡ Some s → IsKeptAt c s x e.history
+
+-- each epoch begins at the states that were kept at the end of the one before it
+abbrev pub AreEpochs : List Checked → List Epoch → Type 0
+AreEpochs types [] = Unit {0}
+AreEpochs types (e ∷ es) = IsEpoch types e × AreEpochs (types_at types e.kept) es
+
+-- the types, at the states that were kept at the end of the last epoch
+abbrev pub types_after : List Checked → List Epoch → List Checked
+types_after types [] = types
+types_after types (e ∷ es) = types_after (types_at types e.kept) es
+
+-- the operations of the committed transactions at x, epoch after epoch, and in each in commit order
+abbrev pub serial_over : ℕ → List Epoch → List ℕ
+serial_over x [] = []
+serial_over x (e ∷ es) = ops (serial_at x e.history) ++ serial_over x es
+
+-- the serial order over all epochs is legal at x from the first initial state, and so is that of the history that goes on from the last
+-- kept state. This state agrees with the serial one
+pub record IsSerialOver (c last : Checked) (x : ℕ) (es : List Epoch) : Type 0 where
+  pub legal : IsLegal c.file.table (Some c.file.table.initial) (serial_over x es)
+  pub looks : Looks c.file.table (Some last.file.table.initial) (run c.file.table (Some c.file.table.initial) (serial_over x es))
+  pub equi : IsStrong c → AreEqui c.file.table (Some last.file.table.initial) (run c.file.table (Some c.file.table.initial) (serial_over x es))
+
+abbrev pub EpochsAreSerial : Type 0
+EpochsAreSerial =
+    (types : List Checked) (es : List Epoch) → AreChecked types → AreEpochs types es
+    → (x : ℕ) (c last : Checked) → slice_get types x ≡ Some c → slice_get (types_after types es) x ≡ Some last
+    → IsSerialOver c last x es
+    × ((H : List Event) → IsRun (map object_of (types_after types es)) H
+    → IsLegal c.file.table (Some c.file.table.initial) (serial_over x es ++ ops (serial_at x H)))
+
+-- one epoch more, at the types of the last kept states
+abbrev pub EpochsGoOn : Type 0
+EpochsGoOn =
+    (types : List Checked) (es : List Epoch) (e : Epoch) → AreEpochs types es → IsEpoch (types_after types es) e
+    → AreEpochs types (es ++ e ∷ []) × (types_after types (es ++ e ∷ []) ≡ types_at (types_after types es) e.kept)
+
+-- the state of a sound object is one of its type's set
+abbrev pub StatesAreInside : Type 0
+StatesAreInside = (m : Meaning) (s : ℕ) → IsChecked m.checked → IsSound m → state_of m ≡ Some s → has m.checked.file.reach s ≡ true
+
+-- where no transaction is open, a history and the states of objects that represent it are an epoch
+abbrev pub ClosedIsEpoch : Type 0
+ClosedIsEpoch =
+    (ms : List Meaning) (e : Epoch) → AreChecked (map (λ (m : Meaning). m.checked) ms) → IsRun (map object_of (map (λ (m : Meaning). m.checked) ms)) e.history
+    → ((t : ℕ) → is_open (seen e.history) t ≡ false)
+    → ((x : ℕ) (m : Meaning) → slice_get ms x ≡ Some m → IsSound m × StandsFor m x e.history)
+    → ((x : ℕ) (m : Meaning) (s : ℕ) → slice_get ms x ≡ Some m → slice_get e.kept x ≡ Some s → state_of m ≡ Some s)
+    → IsEpoch (map (λ (m : Meaning). m.checked) ms) e

@@ -1,0 +1,107 @@
+-- A store that begins anew at the states of its objects.
+use Rattle.std.proofs.Common.{◌≡◌, ℕ, zero, suc, ◌+◌, ◌<◌, ◌≤◌, List, [], ◌∷◌, ◌++◌, map, length, false, Option, Some, None, slice_get, refl, sym, ap, subst, ◌∙◌, inl, inr, arith}
+use Rattle.std.proofs.lemmas.List.{length-append, length-map}
+use Rattle.std.proofs.lemmas.Option.{none-some, same_Some}
+use Rattle.type_table.proofs.Elements.{cases-more, found-map}
+use Rattle.table_checker.specs.Checked.{Checked, IsChecked}
+use Rattle.table_checker.specs.At.{checked_at}
+use Rattle.object_trait.specs.Meaning.{Meaning, state_of}
+use Rattle.object_trait.specs.declared.event.Event.{Event}
+use Rattle.serial_order.specs.History.{seen, is_open}
+use Rattle.serial_order.specs.Laws.{AreChecked}
+use Rattle.epochs.specs.Epochs.{types_at, ClosedIsEpoch}
+use Rattle.op_locks.specs.Locks.{Locks}
+use Rattle.open_transactions.specs.Transactions.{Row}
+use Rattle.store_laws.specs.Kept.{keeping, IsKept}
+use Rattle.store_laws.specs.Stored.{Stored, types_of}
+use Rattle.store.specs.Renews.{IsRenewed, AreRenewed, Renews}
+use Rattle.store.proofs.Stored.{stored, shown}
+
+-- ---- one object after another
+
+-- the first i of them
+pub record AreFirstRenewed (ms now : List Meaning) (capacity i : ℕ) : Type 0 where
+  pub as_many : length now ≡ i
+  pub room : length ms ≤ capacity
+  pub each : (x : ℕ) (m new : Meaning) → slice_get ms x ≡ Some m → slice_get now x ≡ Some new → IsRenewed m new
+
+-- and one more
+pub renewed-more : (ms now more : List Meaning) (new : Meaning) (capacity i : ℕ) (m : Meaning) → AreFirstRenewed ms now capacity i → slice_get ms i ≡ Some m
+    → IsRenewed m new → more ≡ now ++ new ∷ [] → AreFirstRenewed ms more capacity (i + 1)
+renewed-more ms now more new capacity i m first is renewed pushed =
+    record {
+      as_many = ap length pushed ∙ length-append now (new ∷ []) ∙ ap (λ n. n + 1) first.as_many;
+      room = first.room;
+      each = λ x old n there here.
+          elim (cases-more now new x n (ap (λ ns. slice_get ns x) (sym pushed) ∙ here)) [
+            | inl before ↦ first.each x old n there before
+            | inr last ↦
+                let same : x ≡ i = last.0 ∙ first.as_many in
+                let one : m ≡ old = same_Some m old (sym is ∙ subst (λ y. slice_get ms y ≡ Some old) same there) in
+                subst (λ k. IsRenewed old k) last.1 (subst (λ k. IsRenewed k new) one renewed)
+          ];
+    }
+
+-- so all of them
+pub renewed-all : (ms now : List Meaning) (capacity i : ℕ) → AreFirstRenewed ms now capacity i → i ≡ length ms → AreRenewed ms now
+renewed-all ms now capacity i first all = record { as_many = first.as_many ∙ all; each = first.each }
+
+-- ---- the states that were kept
+
+-- their list, and the types at them
+pub record AreKept (ms now : List Meaning) : Type 0 where
+  pub kept : List ℕ
+  pub as_many : length kept ≡ length ms
+  pub types : types_of now ≡ types_at (types_of ms) kept
+  pub states : (x : ℕ) (m : Meaning) (s : ℕ) → slice_get ms x ≡ Some m → slice_get kept x ≡ Some s → state_of m ≡ Some s
+
+-- one in front
+states-more : (m : Meaning) (ms : List Meaning) (k : ℕ) (kept : List ℕ) → state_of m ≡ Some k
+    → ((x : ℕ) (n : Meaning) (s : ℕ) → slice_get ms x ≡ Some n → slice_get kept x ≡ Some s → state_of n ≡ Some s)
+    → (x : ℕ) (n : Meaning) (s : ℕ) → slice_get (m ∷ ms) x ≡ Some n → slice_get (k ∷ kept) x ≡ Some s → state_of n ≡ Some s
+states-more m ms k kept first rest zero n s there here = subst (λ o. state_of o ≡ Some s) (same_Some m n there) (first ∙ here)
+states-more m ms k kept first rest (suc x) n s there here = rest x n s there here
+
+pub kept-of : (ms now : List Meaning) → AreRenewed ms now → AreKept ms now
+kept-of [] [] all = record { kept = []; as_many = refl; types = refl; states = λ x m s there here. absurd (none-some m there) }
+kept-of [] (n ∷ now) all = absurd (omega (arith, all.as_many))
+kept-of (m ∷ ms) [] all = absurd (omega (arith, all.as_many))
+kept-of (m ∷ ms) (n ∷ now) all =
+    let first = all.each 0 m n refl refl in
+    let rest = kept-of ms now (record { as_many = omega (arith, all.as_many); each = λ x. all.each (suc x) }) in
+    record {
+      kept = first.kept ∷ rest.kept;
+      as_many = ap suc rest.as_many;
+      types = ap (λ (c : Checked). c ∷ types_of now) first.checked ∙ ap (λ ts. checked_at m.checked first.kept ∷ ts) rest.types;
+      states = states-more m ms first.kept rest.kept first.state rest.states;
+    }
+
+-- ---- the store
+
+module _ (ms : List Meaning) (locks : List Locks) (rows : List (Option Row)) (K : List Event) (kept : IsKept (keeping ms locks rows) K) where
+  -- the checker said yes for each of its types
+  accepted : AreChecked (types_of ms)
+  accepted x c there =
+      let found = found-map (λ (m : Meaning). m.checked) ms x c there in
+      subst IsChecked found.2 (kept.objects x found.0 found.1).checked
+
+  -- its history is an epoch, and the new one is of the types at the kept states
+  pub renews-shown : ClosedIsEpoch → (now : List Meaning) (max forgotten : ℕ) (new : Stored) → ((t : ℕ) → is_open (seen K) t ≡ false) → AreRenewed ms now
+      → new ≡ stored (types_of now) [] max 0 → Renews (shown (keeping ms locks rows) K max forgotten) new
+  renews-shown closed now max forgotten new none all made =
+      let its = kept-of ms now all in
+      record {
+        kept = its.kept;
+        as_many = its.as_many ∙ sym (length-map ms (λ (m : Meaning). m.checked));
+        epoch = closed ms (record { history = K; kept = its.kept }) accepted kept.run none
+            (λ x m there. let o = kept.objects x m there in (o.sound, o.represents)) its.states;
+        is = made ∙ ap (λ ts. stored ts [] max 0) its.types;
+      }
+
+-- and so as its callers see it
+pub renews : ClosedIsEpoch → (ms now : List Meaning) (locks : List Locks) (rows : List (Option Row)) (K : List Event) (max forgotten : ℕ) (s new : Stored)
+    → shown (keeping ms locks rows) K max forgotten ≡ s → IsKept (keeping ms locks rows) K → ((t : ℕ) → is_open (seen s.history) t ≡ false) → AreRenewed ms now
+    → new ≡ stored (types_of now) [] max 0 → Renews s new
+renews closed ms now locks rows K max forgotten s new same kept none all made =
+    subst (λ (z : Stored). Renews z new) same
+    (renews-shown ms locks rows K kept closed now max forgotten new (subst (λ (z : Stored). (t : ℕ) → is_open (seen z.history) t ≡ false) (sym same) none) all made)

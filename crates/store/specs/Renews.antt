@@ -1,0 +1,42 @@
+-- A store that begins anew at the states that it kept.
+use Rattle.std.specs.Prelude.{◌≡◌, ℕ, List, [], length, true, false, Some, slice_get}
+use Rattle.type_table.specs.StateSet.{has}
+use Rattle.table_checker.specs.At.{checked_at}
+use Rattle.object_trait.specs.Meaning.{Meaning, state_of}
+use Rattle.object_trait.specs.Steps.{IsFresh}
+use Rattle.serial_order.specs.History.{seen, is_open}
+use Rattle.epochs.specs.Epochs.{IsEpoch, types_at}
+use Rattle.store_laws.specs.Stored.{Stored}
+use Rattle.store.specs.declared.refusals.RenewRefusal.{RenewRefusal}
+use Rattle.store.specs.declared.refusals.RenewRefusal.TheVariants.{StillOpen, NoMemory}
+
+-- ---- an object
+
+-- as it is made of its type at the state that was kept
+pub record IsRenewed (m new : Meaning) : Type 0 where
+  pub kept : ℕ
+  pub state : state_of m ≡ Some kept
+  pub fresh : IsFresh new
+  pub checked : new.checked ≡ checked_at m.checked kept
+
+pub record AreRenewed (ms now : List Meaning) : Type 0 where
+  pub as_many : length now ≡ length ms
+  pub each : (x : ℕ) (m new : Meaning) → slice_get ms x ≡ Some m → slice_get now x ≡ Some new → IsRenewed m new
+
+-- each state is one of its type's set
+abbrev pub AreInside : List Meaning → Type 0
+AreInside ms = (x : ℕ) (m : Meaning) (s : ℕ) → slice_get ms x ≡ Some m → state_of m ≡ Some s → has m.checked.file.reach s ≡ true
+
+-- ---- a store
+
+-- the history so far and the states that were kept are an epoch, and the new store is of the types at these states, with no event yet
+pub record Renews (old new : Stored) : Type 0 where
+  pub kept : List ℕ
+  pub as_many : length kept ≡ length old.types
+  pub epoch : IsEpoch old.types (record { history = old.history; kept = kept })
+  pub is : new ≡ record { types = types_at old.types kept; history = []; max = old.max; forgotten = 0 }
+
+-- why none begins: a transaction is open, or none is and memory was refused
+abbrev pub RefusesRenew : Stored → RenewRefusal → Type 0
+RefusesRenew s StillOpen = (t : ℕ) × (is_open (seen s.history) t ≡ true)
+RefusesRenew s NoMemory = (t : ℕ) → is_open (seen s.history) t ≡ false

@@ -1,0 +1,194 @@
+//! Epochs: stores that begin anew at the states that they kept.
+
+use super::objects_of;
+use super::scripts::{Row, answers, outcome, store_of};
+use history_audit::{Audit, audit};
+use object_trait::{Event, Recovery};
+use objects::Object;
+use rand_core::utils::NextWord;
+use rand_pcg::Lcg64Xsh32;
+use reference_store::asked::{Ask, Told};
+use reference_store::checked_types::{Sort, checked_of};
+use std::alloc::Global;
+use std::process::Abort;
+use std::test::Fail;
+use store::{RenewRefusal, Store};
+use test_support::type_texts::{COUNTER, COUNTER_OF_FOUR, SEMIQUEUE, TWIN};
+use type_table::{Kind, TypeTable};
+
+/// A store of one object that begins anew, and the events of its epoch; else why not. Where one allocation
+/// is refused, it is as it was, and the next try has its memory.
+fn renewed(
+    rt: &(impl Abort + AllocGlobal),
+    store: Store<Object>,
+) -> Result<(Store<Object>, Vec<Event>), (Store<Object>, RenewRefusal)> {
+    let before = (store.event_count(), store.kept(0));
+    match store.renew(rt.alloc()) {
+        Err((back, RenewRefusal::NoMemory)) => {
+            assert!(rt; (back.event_count(), back.kept(0)) == before);
+            back.renew(rt.alloc())
+        }
+        told => told,
+    }
+}
+
+/// A counter of 0, 1 or 2 is counted up to 2, and one transaction stays open.
+static FULL: [Row; 5] = [
+    (1, Ask::Begin, Told::Begun(0)),
+    (1, Ask::Call(0, 0, "inc:1"), Told::Reply(0)),
+    (1, Ask::Call(0, 0, "inc:1"), Told::Reply(0)),
+    (1, Ask::Commit(0), Told::Done),
+    (1, Ask::Begin, Told::Begun(1)),
+];
+
+/// The next epoch: it begins full, with transaction 0.
+static NEXT: [Row; 5] = [
+    (2, Ask::Kept(0), Told::Kept(Some(2))),
+    (2, Ask::Begin, Told::Begun(0)),
+    (2, Ask::Call(0, 0, "inc:1"), Told::None),
+    (2, Ask::Call(0, 0, "dec:1"), Told::Reply(1)),
+    (2, Ask::Commit(0), Told::Done),
+];
+
+/// The end of the first epoch, which begins no other while a transaction is open.
+fn full_counter(rt: &(impl Abort + AllocGlobal)) -> Result<Store<Object>, Fail> {
+    let objects = objects_of(rt.alloc(), &[(Kind::Undo, COUNTER)])?;
+    let mut store = store_of(rt, objects, 8)?;
+    answers(rt, &mut store, &FULL);
+    match renewed(rt, store) {
+        Ok((store, _)) => {
+            let _ = store.close();
+            panic!(rt; "an epoch began with a transaction open")
+        }
+        Err((mut store, refusal)) => {
+            assert!(rt; refusal == RenewRefusal::StillOpen);
+            assert!(rt; store.history().len() == 5);
+            store.abort_all();
+            Ok(store)
+        }
+    }
+}
+
+#[test]
+fn an_epoch_begins_at_the_kept_state(rt: HostRuntime) -> Result<(), Fail> {
+    let mut store = full_counter(&rt)?;
+    store.forget(2);
+    match renewed(&rt, store) {
+        Ok((mut store, events)) => {
+            assert!(rt; events.len() == 4);
+            assert!(rt; store.event_count() == 0);
+            answers(&rt, &mut store, &NEXT);
+            let (history, objects) = store.close();
+            assert!(rt; history.len() == 4);
+            for object in &objects {
+                assert!(rt; object.state() == 1);
+            }
+            Ok(())
+        }
+        Err((store, _)) => {
+            let _ = store.close();
+            panic!(rt; "no epoch began")
+        }
+    }
+}
+
+/// How many epochs follow one another.
+const EPOCHS: u32 = 1000;
+
+/// How many commands each of them has.
+const COMMANDS: u32 = 40;
+
+/// The states of the first two objects are told apart by their calls, those of the others aren't all.
+static OBJECTS: [Sort; 4] = [
+    (Kind::Undo, COUNTER_OF_FOUR),
+    (Kind::Intentions, COUNTER_OF_FOUR),
+    (Kind::Undo, SEMIQUEUE),
+    (Kind::Intentions, TWIN),
+];
+
+/// Some command, where so many transactions began.
+fn any_ask(words: &mut Lcg64Xsh32, begun: u32) -> Ask {
+    let t = words.next_word() % begun.max(1);
+    let x = words.next_word() % 4;
+    match words.next_word() % 16 {
+        0..4 => Ask::Begin,
+        4..12 => Ask::Number(t, x, (words.next_word() % 3) as u8),
+        12..14 => Ask::Commit(t),
+        14 => Ask::Abort(t),
+        _ => Ask::Rollback(t, 1),
+    }
+}
+
+/// The serial states behind the events of an epoch that begins at the states of these tables.
+fn serial_states(
+    rt: &(impl Abort + AllocGlobal),
+    tables: &[TypeTable],
+    events: &[Event],
+) -> Vec<u16> {
+    let alloc = rt.alloc();
+    let tables: Vec<&TypeTable> = tables.iter().collect(alloc).expect(rt, "no room");
+    let Audit { order: _, finals } = audit(alloc, events, &tables).expect(rt, "not serial");
+    finals
+}
+
+/// The tables begin at these states from now on.
+fn begin_at(rt: &impl Abort, tables: &mut Vec<TypeTable>, states: &[u16]) {
+    for (table, state) in tables.iter_mut().zip(states) {
+        assert!(rt; *state < table.states());
+        table.begin_at(*state);
+    }
+}
+
+/// Commands from the generator, and then the aborts of what is open.
+fn live(store: &mut Store<Object>, words: &mut Lcg64Xsh32) {
+    for _ in 0..COMMANDS {
+        let ask = any_ask(words, store.begun());
+        let _ = outcome(store, 1, ask);
+    }
+    store.abort_all();
+}
+
+/// An epoch is audited from the serial states of the one before it, and the next one begins.
+fn next_epoch(
+    rt: &(impl Abort + AllocGlobal),
+    mut store: Store<Object>,
+    words: &mut Lcg64Xsh32,
+    tables: &mut Vec<TypeTable>,
+) -> Store<Object> {
+    live(&mut store, words);
+    let states = serial_states(rt, tables, store.history());
+    assert!(rt; store.kept(0) == states.get(0).copied());
+    assert!(rt; store.kept(1) == states.get(1).copied());
+    begin_at(rt, tables, &states);
+    match store.renew(rt.alloc()) {
+        Ok((next, _)) => next,
+        Err((store, _)) => {
+            let _ = store.close();
+            panic!(rt; "no epoch began")
+        }
+    }
+}
+
+/// A table for each object.
+fn tables_of(alloc: Global, sorts: &[Sort]) -> Result<Vec<TypeTable>, Fail> {
+    let mut tables = Vec::new(alloc);
+    for (kind, text) in sorts {
+        let checked = checked_of(alloc, text, *kind)?;
+        let table = checked.table().copy(alloc)?;
+        tables.push(table).ok().ok_or("no room")?;
+    }
+    Ok(tables)
+}
+
+#[test]
+fn a_thousand_epochs_are_one_serial_order(rt: HostRuntime) -> Result<(), Fail> {
+    let mut tables = tables_of(rt.alloc(), &OBJECTS)?;
+    let mut store = store_of(&rt, objects_of(rt.alloc(), &OBJECTS)?, 1000)?;
+    let mut words = Lcg64Xsh32::new(7, 0);
+    for _ in 0..EPOCHS {
+        store = next_epoch(&rt, store, &mut words, &mut tables);
+    }
+    let (history, _) = store.close();
+    assert!(rt; history.is_empty());
+    Ok(())
+}
