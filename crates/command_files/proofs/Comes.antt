@@ -2,7 +2,7 @@
 use Rattle.std.proofs.Common.{◌≡◌, ℕ, List, Option, Result, Ok, Err, refl, inl, inr, ⊎_elim}
 use Rattle.command_files.specs.Answers.{Answers, Comes, ComesOr, Faults, Refuses}
 use Rattle.command_files.specs.declared.fault.Fault.{Fault}
-use Rattle.command_files.specs.declared.fault.Fault.TheVariants.{Usage, Text, NoType, BadParameter, TooLarge, CannotRead, NoMemory, Output}
+use Rattle.command_files.specs.declared.fault.Fault.TheVariants.{Usage, Text, NoType, OtherObjects, BadParameter, TooLarge, CannotRead, NoMemory, Output}
 use Rattle.command_files.specs.declared.status.Verdict.{Verdict}
 
 -- of texts that are written as a whole and that may be begun, and of what is amiss
@@ -11,6 +11,7 @@ pub faults : (whole whole' begun begun' : List ℕ → Type 0) (bad bad' : Type 
 faults whole whole' begun begun' bad bad' (Usage text) old new all more worse f = (worse f.0, f.1)
 faults whole whole' begun begun' bad bad' (Text path fault) old new all more worse f = (worse f.0, f.1)
 faults whole whole' begun begun' bad bad' (NoType path x place) old new all more worse f = (worse f.0, f.1)
+faults whole whole' begun begun' bad bad' (OtherObjects path first) old new all more worse f = (worse f.0, f.1)
 faults whole whole' begun begun' bad bad' BadParameter old new all more worse f = (worse f.0, f.1)
 faults whole whole' begun begun' bad bad' TooLarge old new all more worse f = (worse f.0, f.1)
 faults whole whole' begun begun' bad bad' (CannotRead path) old new all more worse f = f
@@ -42,6 +43,7 @@ pub refuses : (whole begun : List ℕ → Type 0) (bad bad' : Type 0) (old : Opt
 refuses whole begun bad bad' old (Usage text) worse refused = (worse refused, refl)
 refuses whole begun bad bad' old (Text path fault) worse refused = (worse refused, refl)
 refuses whole begun bad bad' old (NoType path x place) worse refused = (worse refused, refl)
+refuses whole begun bad bad' old (OtherObjects path first) worse refused = (worse refused, refl)
 refuses whole begun bad bad' old BadParameter worse refused = (worse refused, refl)
 refuses whole begun bad bad' old TooLarge worse refused = (worse refused, refl)
 refuses whole begun bad bad' old (CannotRead path) worse refused = refl
@@ -53,6 +55,7 @@ pub refused_more : (bad bad' : Type 0) (fault : Fault) → (bad → bad') → Re
 refused_more bad bad' (Usage text) worse refused = worse refused
 refused_more bad bad' (Text path fault) worse refused = worse refused
 refused_more bad bad' (NoType path x place) worse refused = worse refused
+refused_more bad bad' (OtherObjects path first) worse refused = worse refused
 refused_more bad bad' BadParameter worse refused = worse refused
 refused_more bad bad' TooLarge worse refused = worse refused
 refused_more bad bad' (CannotRead path) worse refused = refused

@@ -28,6 +28,11 @@ pub enum Fault<'a> {
         x: usize,
         place: u8,
     },
+    /// The history at a path isn't one of the objects of the first one.
+    OtherObjects {
+        path: &'a str,
+        first: &'a str,
+    },
     /// The parameters of a family are none.
     BadParameter,
     /// A family is too large at its parameters.
@@ -51,6 +56,7 @@ impl Fault<'_> {
             Fault::Usage { .. }
             | Fault::Text { .. }
             | Fault::NoType { .. }
+            | Fault::OtherObjects { .. }
             | Fault::BadParameter
             | Fault::TooLarge => Status::BadInput,
             Fault::CannotRead { .. } | Fault::NoMemory | Fault::Output => Status::Failed,
@@ -64,6 +70,9 @@ impl Fault<'_> {
             Fault::Text { path, fault } => format!(in alloc; "colock: {path}: {fault}\n"),
             Fault::NoType { path, x, place } => {
                 format!(in alloc; "colock: {path}: object {x}: no type {place}\n")
+            }
+            Fault::OtherObjects { path, first } => {
+                format!(in alloc; "colock: {path}: not the objects of {first}\n")
             }
             Fault::BadParameter => String::from_str(alloc, "colock: BadParameter\n"),
             Fault::TooLarge => String::from_str(alloc, "colock: TooLarge\n"),

@@ -1,10 +1,10 @@
 -- What words ask for, worked by hand, and the texts.
-use Rattle.std.proofs.Common.{◌≡◌, ◌++◌, arith, refl, inr, ℕ, [], ◌∷◌}
+use Rattle.std.proofs.Common.{◌≡◌, ◌≢◌, ◌++◌, arith, refl, inr, ℕ, [], ◌∷◌}
 use Rattle.std.specs.Prelude.{codes, Some, None}
 use Rattle.type_table.specs.declared.kind.Kind.TheVariants.{Undo}
 use Rattle.command_words.specs.Help.{EndsLine, text_of_topic, version_text}
-use Rattle.command_words.specs.Lines.{IsClear, IsGiven, IsNumber, IsWholeWork, Work, apart, dashes, done, joined, operand, seed, tries, workers}
-use Rattle.command_words.specs.Words.{AskFor, order, check, make, run, work, help, version}
+use Rattle.command_words.specs.Lines.{Audit, IsClear, IsGiven, IsNumber, IsWholeWork, Line, SaysAudit, Setting, Work, apart, dashes, done, following, joined, operand, seed, tries, values_of, workers}
+use Rattle.command_words.specs.Words.{AskFor, audit, order, check, make, run, work, help, version}
 use Rattle.command_words.specs.declared.task.Topic.{Topic}
 use Rattle.command_words.specs.declared.task.Topic.TheVariants as topic
 
@@ -26,6 +26,38 @@ runs = (omega arith, refl)
 no_types : AskFor (codes "run" ∷ codes "a.script" ∷ []) (order (run (codes "a.script") [])) → ⊥
 no_types (some, are) = omega (arith, some)
 
+-- the histories that follow are told from the types by `--then`, and may come in either form
+abbrev audit_line : Line
+audit_line = apart following (codes "b.history") (operand (codes "a.history") (joined following (codes "c.history") (operand (codes "a.type") done)))
+
+abbrev audited : Audit
+audited = record { history = codes "a.history"; later = codes "b.history" ∷ codes "c.history" ∷ []; types = codes "a.type" ∷ [] }
+
+alone : (other : Setting) → other ≢ following → values_of other audit_line ≡ []
+alone workers differs = refl
+alone tries differs = refl
+alone seed differs = refl
+alone following differs = absurd (differs refl)
+
+audits : AskFor (codes "audit" ∷ codes "--then" ∷ codes "b.history" ∷ codes "a.history" ∷ codes "--then=c.history" ∷ codes "a.type" ∷ []) (audit audited)
+audits = (
+  omega arith,
+  (
+    audit_line,
+    refl,
+    record {
+      clear = (λ hyphen. absurd (omega (arith, hyphen)), (λ hyphen. absurd (omega (arith, hyphen)), tt));
+      operands = refl;
+      later = refl;
+      alone = alone;
+    },
+  ),
+)
+
+-- no audit has another option
+no_seed : (a : Audit) → SaysAudit (joined seed (codes "7") audit_line) a → ⊥
+no_seed a says = let none = says.alone seed (λ is. cc) in cc
+
 -- options stand anywhere, in either form, and `--tries` may be left out
 works : AskFor (codes "work" ∷ codes "a.jobs" ∷ codes "--workers" ∷ codes "2" ∷ codes "a.type" ∷ codes "b.type" ∷ [])
     (work (record { jobs = codes "a.jobs"; types = codes "a.type" ∷ codes "b.type" ∷ []; workers = 2; tries = 3; seed = None }))
@@ -40,6 +72,7 @@ works = (
       workers = (codes "2", refl, ((omega arith, (omega arith, tt)), refl));
       tries = refl;
       seed = refl;
+      following = refl;
     },
   ),
 )
@@ -58,6 +91,7 @@ stresses = (
       workers = (codes "+16", refl, ((omega arith, (omega arith, (omega arith, tt))), refl));
       tries = (codes "1", refl, ((omega arith, (omega arith, tt)), refl));
       seed = (codes "0", refl, ((omega arith, (omega arith, tt)), refl));
+      following = refl;
     },
   ),
 )

@@ -1,5 +1,5 @@
--- The walk of `work` and `stress` over words that come to no fault.
-use Rattle.std.proofs.Common.{◌≡◌, ◌∙◌, ◌++◌, ◌&&◌, ap, ap₂, refl, subst, sym, true, false, Bool, ℕ, List, [], ◌∷◌, Bor, append_assoc}
+-- The walk of a command over a store's objects that takes options, over words that come to no fault.
+use Rattle.std.proofs.Common.{◌≡◌, ◌∙◌, ◌++◌, ◌&&◌, ap, ap₂, refl, subst, sym, true, false, Bool, ℕ, List, [], ◌∷◌, append_assoc}
 use Rattle.std.specs.Prelude.{codes, Some, None, Option, if◌then◌else◌}
 use Rattle.std.specs.Option.{option_map_or}
 use Rattle.std.specs.Str.{bytes_eq}
@@ -11,13 +11,14 @@ use Rattle.clap.specs.Kinds.{Kinds}
 use Rattle.clap.specs.Faults.{flag_word_fault, long_fault, settle_fault, step_fault, turn_fault, use_fault, walk_fault}
 use Rattle.clap.specs.Simple.{Shape}
 use Rattle.clap.specs.declared.error.kind.ErrorKind.TheVariants.{InvalidValue}
-use Rattle.command_words.specs.Lines.{IsClear, Line, Setting, apart, dashes, done, joined, line_words, operand, operands_of, seed, setting_name, tries, value_for, values_of, workers}
+use Rattle.command_words.specs.Lines.{IsClear, Line, Setting, apart, dashes, done, following, joined, line_words, operand, operands_of, seed, setting_name, tries, value_for, values_of, workers}
 use Rattle.command_words.specs.Words.{Text}
 use Rattle.command_words.proofs.Leaves.{waits}
-use Rattle.command_words.proofs.LeafLemmas.{IsBetween, Place, Reads, after_reads, at, dashes_pass, end_of, ends, faults, held_at, one_word}
+use Rattle.command_words.proofs.LeafLemmas.{IsBetween, Place, Reads, after_reads, at, dashes_pass, end_of, ends, faults, held_at, one_word, start}
 use Rattle.command_words.proofs.LongWords.{long_text, long_word, not_long}
 use Rattle.command_words.proofs.OptionLemmas.{by_test, holding, never, no_letter, or_else_none}
-use Rattle.command_words.proofs.WorkLeaf.{IsSetting, Offers, Tallies, Tally, letters_refused, long_setting, no_override, path_built, path_by_id, path_by_index, path_used, setting_by_id, setting_by_long, setting_rule, types_built, types_by_id, types_by_index, types_used, value_clear, value_used, with_operand, with_value, work_leaf}
+use Rattle.command_words.proofs.LineRules.{IsSetting, Offers, TakesLine, letters_refused, long_setting, path_built, path_by_id, path_by_index, setting_by_id, setting_by_long, setting_rule, types_built, types_by_id, types_by_index}
+use Rattle.command_words.proofs.LineTally.{Tallies, Tally, none_tallied, nothing_given, path_used, types_used, value_clear, value_used, with_operand, with_value}
 
 -- ---- places
 
@@ -45,12 +46,9 @@ joined_word : (s : Setting) (text : Text) → codes "--" ++ setting_name s ++ co
 joined_word workers text = refl
 joined_word tries text = refl
 joined_word seed text = refl
+joined_word following text = refl
 
-module _ (listed : Bor (List (Bor Text))) (seeded : Bool) where
-  -- the command
-  abbrev pub command : Shape
-  command = work_leaf listed seeded
-
+module _ (command : Shape) (options : List Setting) (built : TakesLine command options) where
   -- the rows at a place, once what is pending is settled, and the faults of settling it
   abbrev pub rows_at : Place → List Row
   rows_at p = (settled command.rules (held_at p)).rows
@@ -62,7 +60,15 @@ module _ (listed : Bor (List (Bor Text))) (seeded : Bool) where
   pub record Stands (p : Place) (t : Tally) : Type 0 where
     pub between : IsBetween command p
     pub position : p.position ≡ position_of t.operands
-    pub tallied : settles p ≡ [] → Tallies seeded (rows_at p) t
+    pub tallied : settles p ≡ [] → Tallies options (rows_at p) t
+
+  -- where the walk begins, nothing was given
+  pub begins : Stands start nothing_given
+  begins = record {
+    between = record { free = λ _ _. refl; nameless = λ _. refl };
+    position = refl;
+    tallied = λ _. none_tallied options;
+  }
 
   -- the places after a further operand, and after an option in its two forms
   abbrev pub after_operand : Place → List Text → Text → Place
@@ -93,16 +99,16 @@ module _ (listed : Bor (List (Bor Text))) (seeded : Bool) where
   -- its faults are those of what is pending
   pub position_fault : (p : Place) (operands : List Text) (h : Held) → p.position ≡ position_of operands
       → step_fault command p.position h value ≡ settle_fault command.rules command.args_override_self h
-  position_fault p [] h is = simp (is, path_by_index listed seeded) (no_choice (is_pending path_built h.pending) [] (settle_fault command.rules command.args_override_self h))
-  position_fault p (path ∷ types) h is = simp (is, types_by_index listed seeded) (no_choice (is_pending types_built h.pending) [] (settle_fault command.rules command.args_override_self h))
+  position_fault p [] h is = simp (is, path_by_index command options built) (no_choice (is_pending path_built h.pending) [] (settle_fault command.rules command.args_override_self h))
+  position_fault p (path ∷ types) h is = simp (is, types_by_index command options built) (no_choice (is_pending types_built h.pending) [] (settle_fault command.rules command.args_override_self h))
 
   -- and it moves the walk to the place after it
   pub operand_moves : (p : Place) (operands : List Text) (word : Text) (t : Bool) → p.position ≡ position_of operands
       → to_positional command.rules (arg_by_index command.rules p.position) word (at t p) (held_at p) ≡ at t (after_operand p operands word)
-  operand_moves p [] word true is = simp (is, path_by_index listed seeded, no_choice) refl
-  operand_moves p [] word false is = simp (is, path_by_index listed seeded, no_choice) refl
-  operand_moves p (path ∷ types) word true is = simp (is, types_by_index listed seeded, no_choice) refl
-  operand_moves p (path ∷ types) word false is = simp (is, types_by_index listed seeded, no_choice) refl
+  operand_moves p [] word true is = simp (is, path_by_index command options built, no_choice) refl
+  operand_moves p [] word false is = simp (is, path_by_index command options built, no_choice) refl
+  operand_moves p (path ∷ types) word true is = simp (is, types_by_index command options built, no_choice) refl
+  operand_moves p (path ∷ types) word false is = simp (is, types_by_index command options built, no_choice) refl
 
   -- so what was given has one operand more
   pub operand_stands : (p : Place) (t : Tally) (word : Text) → Stands p t → settles p ≡ [] → Stands (after_operand p t.operands word) (with_operand t word)
@@ -112,14 +118,14 @@ module _ (listed : Bor (List (Bor Text))) (seeded : Bool) where
       by_operands [] first = record {
         between = record { free = λ _ _. refl; nameless = λ _. refl };
         position = sym (ap (λ (os : List Text). position_of (os ++ word ∷ [])) first);
-        tallied = λ _. subst (λ (o : Option Rule). Tallies seeded (used_by_id o (word ∷ []) (rows_at p)) (with_operand t word)) (sym (path_by_id listed seeded))
-            (path_used seeded (rows_at p) t word first (stands.tallied clear));
+        tallied = λ _. subst (λ (o : Option Rule). Tallies options (used_by_id o (word ∷ []) (rows_at p)) (with_operand t word)) (sym (path_by_id command options built))
+            (path_used options (rows_at p) t word first (stands.tallied clear));
       }
       by_operands (path ∷ types) others = record {
         between = record { free = λ _ _. refl; nameless = λ _. refl };
         position = sym (ap (λ (os : List Text). position_of (os ++ word ∷ [])) others);
-        tallied = λ _. subst (λ (o : Option Rule). Tallies seeded (used_by_id o (word ∷ []) (rows_at p)) (with_operand t word)) (sym (types_by_id listed seeded))
-            (types_used seeded (rows_at p) t word path types others (stands.tallied clear));
+        tallied = λ _. subst (λ (o : Option Rule). Tallies options (used_by_id o (word ∷ []) (rows_at p)) (with_operand t word)) (sym (types_by_id command options built))
+            (types_used options (rows_at p) t word path types others (stands.tallied clear));
       }
 
   -- ---- where the walk ends
@@ -129,7 +135,7 @@ module _ (listed : Bor (List (Bor Text))) (seeded : Bool) where
     pub total : Tally
     pub operands_are : total.operands ≡ t.operands ++ operands
     pub values_are : (s : Setting) → total.values s ≡ t.values s ++ values s
-    pub tallied : Tallies seeded (settled command.rules h).rows total
+    pub tallied : Tallies options (settled command.rules h).rows total
     pub fault : ends command h ≡ []
 
   -- at the end nothing more is given
@@ -173,33 +179,33 @@ module _ (listed : Bor (List (Bor Text))) (seeded : Bool) where
   -- ---- options
 
   -- the use of an option whose value waits to be settled, and its fault
-  value_rows : (p : Place) (s : Setting) (text : Text) → Offers seeded s
+  value_rows : (p : Place) (s : Setting) (text : Text) → Offers options s
       → rows_at (after_apart p s text) ≡ used (setting_rule s) (text ∷ []) (rows_at p)
-  value_rows p s text offered = ap (λ (o : Option Rule). used_by_id o (text ∷ []) (rows_at p)) (setting_by_id listed seeded s offered)
+  value_rows p s text offered = ap (λ (o : Option Rule). used_by_id o (text ∷ []) (rows_at p)) (setting_by_id command options built s offered)
 
-  pub value_settles : (p : Place) (s : Setting) (text : Text) → Offers seeded s
+  pub value_settles : (p : Place) (s : Setting) (text : Text) → Offers options s
       → settles (after_apart p s text) ≡ use_fault command.args_override_self (setting_rule s) (text ∷ []) (rows_at p)
   value_settles p s text offered =
-      ap (λ (o : Option Rule). option_map_or (λ (a : Rule). use_fault command.args_override_self a (text ∷ []) (rows_at p)) o []) (setting_by_id listed seeded s offered)
+      ap (λ (o : Option Rule). option_map_or (λ (a : Rule). use_fault command.args_override_self a (text ∷ []) (rows_at p)) o []) (setting_by_id command options built s offered)
 
   -- a value that comes to no fault is one more of the option's
-  value_given : (p : Place) (t : Tally) (s : Setting) (text : Text) → Offers seeded s → Stands p t → settles p ≡ []
+  value_given : (p : Place) (t : Tally) (s : Setting) (text : Text) → Offers options s → Stands p t → settles p ≡ []
       → use_fault command.args_override_self (setting_rule s) (text ∷ []) (rows_at p) ≡ []
-      → Tallies seeded (used (setting_rule s) (text ∷ []) (rows_at p)) (with_value t s text)
+      → Tallies options (used (setting_rule s) (text ∷ []) (rows_at p)) (with_value t s text)
   value_given p t s text offered stands clear none =
-      value_used seeded (rows_at p) t s text offered
-      (value_clear s text (rows_at p) (subst (λ (again : Bool). use_fault again (setting_rule s) (text ∷ []) (rows_at p) ≡ []) (no_override listed seeded) none))
+      value_used options (rows_at p) t s text offered
+      (value_clear s text (rows_at p) (t.values s) ((stands.tallied clear).settings s) (subst (λ (again : Bool). use_fault again (setting_rule s) (text ∷ []) (rows_at p) ≡ []) built.again none))
       (stands.tallied clear)
 
-  pub apart_stands : (p : Place) (t : Tally) (s : Setting) (text : Text) → Offers seeded s → Stands p t → settles p ≡ [] → Stands (after_apart p s text) (with_value t s text)
+  pub apart_stands : (p : Place) (t : Tally) (s : Setting) (text : Text) → Offers options s → Stands p t → settles p ≡ [] → Stands (after_apart p s text) (with_value t s text)
   apart_stands p t s text offered stands clear = record {
     between = record { free = λ _ _. refl; nameless = λ _. refl };
     position = stands.position;
-    tallied = λ none. subst (λ (rows : List Row). Tallies seeded rows (with_value t s text)) (sym (value_rows p s text offered))
+    tallied = λ none. subst (λ (rows : List Row). Tallies options rows (with_value t s text)) (sym (value_rows p s text offered))
         (value_given p t s text offered stands clear (sym (value_settles p s text offered) ∙ none));
   }
 
-  pub joined_stands : (p : Place) (t : Tally) (s : Setting) (text : Text) → Offers seeded s → Stands p t → settles p ≡ []
+  pub joined_stands : (p : Place) (t : Tally) (s : Setting) (text : Text) → Offers options s → Stands p t → settles p ≡ []
       → use_fault command.args_override_self (setting_rule s) (text ∷ []) (rows_at p) ≡ [] → Stands (after_joined p s text) (with_value t s text)
   joined_stands p t s text offered stands clear none = record {
     between = record { free = λ _ _. refl; nameless = λ _. refl };
@@ -214,27 +220,29 @@ module _ (listed : Bor (List (Bor Text))) (seeded : Bool) where
   long_turn p word name v between other long none = (or_else_none _ _ (simp (between.nameless word, other, long) at none)).0
 
   -- an option with its value moves the walk to the place after it
-  pub joined_moves : (p : Place) (word : Text) (s : Setting) (text : Text) → Offers seeded s → IsBetween command p → bytes_eq word (codes "--") ≡ false
+  pub joined_moves : (p : Place) (word : Text) (s : Setting) (text : Text) → Offers options s → IsBetween command p → bytes_eq word (codes "--") ≡ false
       → long_of word ≡ Some (setting_name s, Some text) → walked command.rules [] (at false p) word ≡ at false (after_joined p s text)
   unfolding walked
-  joined_moves p word workers text offered between other long = simp (between.nameless word, other, long, setting_by_long listed seeded workers offered) refl
-  joined_moves p word tries text offered between other long = simp (between.nameless word, other, long, setting_by_long listed seeded tries offered) refl
-  joined_moves p word seed text offered between other long = simp (between.nameless word, other, long, setting_by_long listed seeded seed offered) refl
+  joined_moves p word workers text offered between other long = simp (between.nameless word, other, long, setting_by_long command options built workers offered) refl
+  joined_moves p word tries text offered between other long = simp (between.nameless word, other, long, setting_by_long command options built tries offered) refl
+  joined_moves p word seed text offered between other long = simp (between.nameless word, other, long, setting_by_long command options built seed offered) refl
+  joined_moves p word following text offered between other long = simp (between.nameless word, other, long, setting_by_long command options built following offered) refl
 
   -- and one without waits for it
-  pub apart_moves : (p : Place) (word : Text) (s : Setting) → Offers seeded s → IsBetween command p → bytes_eq word (codes "--") ≡ false
+  pub apart_moves : (p : Place) (word : Text) (s : Setting) → Offers options s → IsBetween command p → bytes_eq word (codes "--") ≡ false
       → long_of word ≡ Some (setting_name s, None) → walked command.rules [] (at false p) word ≡ waiting_at false p s
   unfolding walked
-  apart_moves p word workers offered between other long = simp (between.nameless word, other, long, setting_by_long listed seeded workers offered) refl
-  apart_moves p word tries offered between other long = simp (between.nameless word, other, long, setting_by_long listed seeded tries offered) refl
-  apart_moves p word seed offered between other long = simp (between.nameless word, other, long, setting_by_long listed seeded seed offered) refl
+  apart_moves p word workers offered between other long = simp (between.nameless word, other, long, setting_by_long command options built workers offered) refl
+  apart_moves p word tries offered between other long = simp (between.nameless word, other, long, setting_by_long command options built tries offered) refl
+  apart_moves p word seed offered between other long = simp (between.nameless word, other, long, setting_by_long command options built seed offered) refl
+  apart_moves p word following offered between other long = simp (between.nameless word, other, long, setting_by_long command options built following offered) refl
 
   -- the fault of an option with its value
-  joined_fault : (s : Setting) (text : Text) (h : Held) → Offers seeded s
+  joined_fault : (s : Setting) (text : Text) (h : Held) → Offers options s
       → long_fault command.rules command.args_override_self (arg_by_long command.rules (setting_name s)) (Some text) h ≡ []
       → (settle_fault command.rules command.args_override_self h ≡ [])
       × (use_fault command.args_override_self (setting_rule s) (text ∷ []) (settled command.rules h).rows ≡ [])
-  joined_fault s text h offered none = by_rule s (subst (λ (o : Option Rule). long_fault command.rules command.args_override_self o (Some text) h ≡ []) (setting_by_long listed seeded s offered) none)
+  joined_fault s text h offered none = by_rule s (subst (λ (o : Option Rule). long_fault command.rules command.args_override_self o (Some text) h ≡ []) (setting_by_long command options built s offered) none)
     where
       by_rule : (s : Setting) → long_fault command.rules command.args_override_self (Some (setting_rule s)) (Some text) h ≡ []
           → (settle_fault command.rules command.args_override_self h ≡ [])
@@ -242,41 +250,44 @@ module _ (listed : Bor (List (Bor Text))) (seeded : Bool) where
       by_rule workers none = or_else_none _ _ none
       by_rule tries none = or_else_none _ _ none
       by_rule seed none = or_else_none _ _ none
+      by_rule following none = or_else_none _ _ none
 
   -- and of one in either form: what is pending is settled first
-  option_fault : (s : Setting) (v : Option Text) (h : Held) → Offers seeded s
+  option_fault : (s : Setting) (v : Option Text) (h : Held) → Offers options s
       → long_fault command.rules command.args_override_self (arg_by_long command.rules (setting_name s)) v h ≡ []
       → settle_fault command.rules command.args_override_self h ≡ []
   option_fault s (Some text) h offered none = (joined_fault s text h offered none).0
-  option_fault s None h offered none = by_rule s (subst (λ (o : Option Rule). long_fault command.rules command.args_override_self o None h ≡ []) (setting_by_long listed seeded s offered) none)
+  option_fault s None h offered none = by_rule s (subst (λ (o : Option Rule). long_fault command.rules command.args_override_self o None h ≡ []) (setting_by_long command options built s offered) none)
     where
       by_rule : (s : Setting) → long_fault command.rules command.args_override_self (Some (setting_rule s)) None h ≡ []
           → settle_fault command.rules command.args_override_self h ≡ []
       by_rule workers none = none
       by_rule tries none = none
       by_rule seed none = none
+      by_rule following none = none
 
   -- ---- an option waits for its value
 
   -- where it is settled without one, there is a fault
-  unsettled : (p : Place) (s : Setting) → Offers seeded s → settle_fault command.rules command.args_override_self (waiting_held p s) ≡ [] → ⊥
+  unsettled : (p : Place) (s : Setting) → Offers options s → settle_fault command.rules command.args_override_self (waiting_held p s) ≡ [] → ⊥
   unsettled p s offered none = by_rule s (subst
-      (λ (o : Option Rule). option_map_or (λ (a : Rule). use_fault command.args_override_self a [] (rows_at p)) o [] ≡ []) (setting_by_id listed seeded s offered) none)
+      (λ (o : Option Rule). option_map_or (λ (a : Rule). use_fault command.args_override_self a [] (rows_at p)) o [] ≡ []) (setting_by_id command options built s offered) none)
     where
       by_rule : (s : Setting) → use_fault command.args_override_self (setting_rule s) [] (rows_at p) ≡ [] → ⊥
       by_rule workers none = never InvalidValue [] none
       by_rule tries none = never InvalidValue [] none
       by_rule seed none = never InvalidValue [] none
+      by_rule following none = never InvalidValue [] none
 
   -- so none comes behind `--`
-  no_dashes : (p : Place) (t : Tally) (s : Setting) (rest : List Text) → Offers seeded s → Stands p t → faults command (waiting_at true p s) rest ≡ [] → ⊥
+  no_dashes : (p : Place) (t : Tally) (s : Setting) (rest : List Text) → Offers options s → Stands p t → faults command (waiting_at true p s) rest ≡ [] → ⊥
   unfolding walk_fault
   no_dashes p t s [] offered stands none = unsettled p s offered (or_else_none (settle_fault command.rules command.args_override_self (waiting_held p s)) _ none).0
   no_dashes p t s (word ∷ rest) offered stands none =
       unsettled p s offered (sym (position_fault p t.operands (waiting_held p s) stands.position) ∙ (one_word command (waiting_at true p s) word rest none).0)
 
   -- the next word is the value, where it comes to no fault
-  pub value_moves : (p : Place) (s : Setting) (text : Text) → Offers seeded s → bytes_eq text (codes "--") ≡ false
+  pub value_moves : (p : Place) (s : Setting) (text : Text) → Offers options s → bytes_eq text (codes "--") ≡ false
       → turn_fault command [] (waiting_at false p s) text ≡ [] → walked command.rules [] (waiting_at false p s) text ≡ at false (after_apart p s text)
   unfolding walked
   value_moves p s text offered other none = by_long (long_of text) refl
@@ -284,18 +295,19 @@ module _ (listed : Bor (List (Bor Text))) (seeded : Bool) where
       flags : flag_word_fault command.rules command.args_override_self (long_of text) text (waiting_held p s) ≡ []
       flags = (or_else_none _ _ (simp other at none)).0
 
-      pushed_at : (s : Setting) → Offers seeded s → plain_word command.rules (option (setting_name s)) text (waiting_held p s)
+      pushed_at : (s : Setting) → Offers options s → plain_word command.rules (option (setting_name s)) text (waiting_held p s)
           ≡ (held_at (after_apart p s text), next idle)
-      pushed_at workers offered = simp (setting_by_id listed seeded workers offered) refl
-      pushed_at tries offered = simp (setting_by_id listed seeded tries offered) refl
-      pushed_at seed offered = simp (setting_by_id listed seeded seed offered) refl
+      pushed_at workers offered = simp (setting_by_id command options built workers offered) refl
+      pushed_at tries offered = simp (setting_by_id command options built tries offered) refl
+      pushed_at seed offered = simp (setting_by_id command options built seed offered) refl
+      pushed_at following offered = simp (setting_by_id command options built following offered) refl
 
       by_long : (o : Option (Text × Option Text)) → long_of text ≡ o → walked command.rules [] (waiting_at false p s) text ≡ at false (after_apart p s text)
       by_long None long =
-          let plain = no_letter command.rules command.args_override_self (letters_refused listed seeded) (option (setting_name s)) (rows_at p) (Some (setting_name s, [])) text long flags in
+          let plain = no_letter command.rules command.args_override_self (letters_refused command options built) (option (setting_name s)) (rows_at p) (Some (setting_name s, [])) text long flags in
           simp (other, plain ∙ pushed_at s offered) refl
       by_long (Some q) long =
-          let named = long_setting listed seeded q.0 q.1 (waiting_held p s)
+          let named = long_setting command options built q.0 q.1 (waiting_held p s)
           (subst (λ (o : Option (Text × Option Text)). flag_word_fault command.rules command.args_override_self o text (waiting_held p s) ≡ []) long flags) in
           let same = subst (λ (o : Option (Text × Option Text)). flag_word_fault command.rules command.args_override_self o text (waiting_held p s) ≡ []) long flags in
           absurd (unsettled p s offered (option_fault named.setting q.1 (waiting_held p s) named.offered
@@ -323,7 +335,7 @@ module _ (listed : Bor (List (Bor Text))) (seeded : Bool) where
   FindsLine rest = (p : Place) (t : Tally) → Stands p t → faults command (at false p) rest ≡ [] → Found t (end_of command (at false p) rest).held rest
 
   abbrev FindsValue : List Text → Type 0
-  FindsValue rest = (p : Place) (t : Tally) (s : Setting) → Offers seeded s → Stands p t → settles p ≡ [] → faults command (waiting_at false p s) rest ≡ []
+  FindsValue rest = (p : Place) (t : Tally) (s : Setting) → Offers options s → Stands p t → settles p ≡ [] → faults command (waiting_at false p s) rest ≡ []
       → FoundValue t s (end_of command (waiting_at false p s) rest).held rest
 
   -- a value that joins those before it, and the others
@@ -358,7 +370,7 @@ module _ (listed : Bor (List (Bor Text))) (seeded : Bool) where
   past_operand p t word rest finds stands other long none =
       let turn = (one_word command (at false p) word rest none).0 in
       let flags = (or_else_none _ _ (simp (stands.between.nameless word, other) at turn)).0 in
-      let plain = no_letter command.rules command.args_override_self (letters_refused listed seeded) p.waiting p.rows p.pending word long flags
+      let plain = no_letter command.rules command.args_override_self (letters_refused command options built) p.waiting p.rows p.pending word long flags
       ∙ stands.between.free word (held_at p) in
       let reads : Reads command false p word = record {
         after = simp (stands.between.nameless word, other, plain);
@@ -377,7 +389,7 @@ module _ (listed : Bor (List (Bor Text))) (seeded : Bool) where
       }
 
   -- past an option with its value
-  past_joined : (p : Place) (t : Tally) (word : Text) (rest : List Text) (s : Setting) (text : Text) → FindsLine rest → Offers seeded s → Stands p t
+  past_joined : (p : Place) (t : Tally) (word : Text) (rest : List Text) (s : Setting) (text : Text) → FindsLine rest → Offers options s → Stands p t
       → bytes_eq word (codes "--") ≡ false → long_of word ≡ Some (setting_name s, Some text)
       → faults command (at false p) (word ∷ rest) ≡ [] → Found t (end_of command (at false p) (word ∷ rest)).held (word ∷ rest)
   past_joined p t word rest s text finds offered stands other long none =
@@ -395,7 +407,7 @@ module _ (listed : Bor (List (Bor Text))) (seeded : Bool) where
       }
 
   -- past an option and its value
-  past_apart : (p : Place) (t : Tally) (word : Text) (rest : List Text) (s : Setting) → FindsValue rest → Offers seeded s → Stands p t
+  past_apart : (p : Place) (t : Tally) (word : Text) (rest : List Text) (s : Setting) → FindsValue rest → Offers options s → Stands p t
       → bytes_eq word (codes "--") ≡ false → long_of word ≡ Some (setting_name s, None)
       → faults command (at false p) (word ∷ rest) ≡ [] → Found t (end_of command (at false p) (word ∷ rest)).held (word ∷ rest)
   past_apart p t word rest s finds offered stands other long none =
@@ -416,10 +428,10 @@ module _ (listed : Bor (List (Bor Text))) (seeded : Bool) where
       → bytes_eq word (codes "--") ≡ false → long_of word ≡ Some (name, v)
       → faults command (at false p) (word ∷ rest) ≡ [] → Found t (end_of command (at false p) (word ∷ rest)).held (word ∷ rest)
   past_long p t word rest name v line valued stands other long none =
-      let named = long_setting listed seeded name v (held_at p) (long_turn p word name v stands.between other long (one_word command (at false p) word rest none).0) in
+      let named = long_setting command options built name v (held_at p) (long_turn p word name v stands.between other long (one_word command (at false p) word rest none).0) in
       by_form named v (long ∙ ap (λ (n : Text). Some (n, v)) (sym named.named))
     where
-      by_form : (named : IsSetting seeded name) (v : Option Text) → long_of word ≡ Some (setting_name named.setting, v)
+      by_form : (named : IsSetting options name) (v : Option Text) → long_of word ≡ Some (setting_name named.setting, v)
           → Found t (end_of command (at false p) (word ∷ rest)).held (word ∷ rest)
       by_form named None is = past_apart p t word rest named.setting valued named.offered stands other is none
       by_form named (Some text) is = past_joined p t word rest named.setting text line named.offered stands other is none

@@ -12,7 +12,7 @@ use Rattle.clap.specs.declared.parser.matches.ArgMatches.{ArgMatches}
 use Rattle.clap.specs.declared.builder.value_parser.ValueParser.{ValueParser}
 use Rattle.command_words.specs.Program.{HasNumber, HasRows, HasStoreRows, HasWork, Parses, ReadsKinds, entry_of, program, store_rows}
 use Rattle.command_words.specs.Words.{Order, OnUsage, Text}
-use Rattle.command_words.specs.Lines.{Work}
+use Rattle.command_words.specs.Lines.{Audit, Work}
 use Rattle.command_words.specs.Words as asked
 use Rattle.command_words.specs.declared.task.WordFault.{WordFault}
 use Rattle.command_words.proofs.NumberLemmas.{Gives, number_read}
@@ -73,12 +73,12 @@ pub items_read : (family size : Text) (items : List Text) (o : Option (Bor (List
     → option_map (λ s. texts s.now) o ≡ all_of (codes "items") (entry_of (asked.make family size items)).1 → texts given.now ≡ items
 items_read family size items o given none is empty seen = ap (λ (s : Bor (List (Bor Text))). texts s.now) is ∙ items_or_none family size items o none empty seen
 
--- the types that were found, or none
-pub types_read : (types : List Text) (o : Option (Bor (List (Bor Text)))) (given none : Bor (List (Bor Text))) (seen : Option (List Text)) → given ≡ unwrap_or o none → none.now ≡ []
-    → option_map (λ s. texts s.now) o ≡ seen → unwrap_or seen [] ≡ types → texts given.now ≡ types
-types_read types None given none seen is empty found are =
+-- the texts of a list argument that were found, or none
+pub texts_read : (wanted : List Text) (o : Option (Bor (List (Bor Text)))) (given none : Bor (List (Bor Text))) (seen : Option (List Text)) → given ≡ unwrap_or o none → none.now ≡ []
+    → option_map (λ s. texts s.now) o ≡ seen → unwrap_or seen [] ≡ wanted → texts given.now ≡ wanted
+texts_read wanted None given none seen is empty found are =
     ap (λ (s : Bor (List (Bor Text))). texts s.now) is ∙ ap texts empty ∙ ap (λ (f : Option (List Text)). unwrap_or f []) found ∙ are
-types_read types (Some s) given none seen is empty found are =
+texts_read wanted (Some s) given none seen is empty found are =
     ap (λ (s : Bor (List (Bor Text))). texts s.now) is ∙ ap (λ (f : Option (List Text)). unwrap_or f []) found ∙ are
 
 -- rows of a first file and types, by their list
@@ -88,6 +88,11 @@ store_read values path types are = subst (λ (rows : List Row). HasStoreRows row
     listed : (types : List Text) → HasStoreRows (store_rows path types) path types
     listed [] = record { path = refl; types = refl }
     listed (type ∷ types) = record { path = refl; types = refl }
+
+-- histories that are to be audited, by their parts
+pub audit_is : (a : Audit) (history : Text) (later types : List Text) → history ≡ a.history → later ≡ a.later → types ≡ a.types
+    → asked.audit (record { history = history; later = later; types = types }) ≡ asked.audit a
+audit_is a history later types history_is later_are types_are = rw (history_is, later_are, types_are) refl
 
 -- what workers are to do, by its parts
 pub work_is : (w : Work) (jobs : Text) (types : List Text) (n k : ℕ) (seed : Option ℕ) → jobs ≡ w.jobs → types ≡ w.types → n ≡ w.workers → k ≡ w.tries → seed ≡ w.seed

@@ -17,11 +17,12 @@ use Rattle.clap.specs.declared.parser.matches.ArgMatches.{ArgMatches}
 use Rattle.clap.proofs.FaultLemmas.{stopped_fault}
 use Rattle.clap.proofs.OnLiterals.{clap_on_literals}
 use Rattle.command_words.specs.Program.{Asks, IsEntryOf, Parses, kind_words, program}
-use Rattle.command_words.specs.Words.{AreFor, AreForNoText, AreNoTask, AskFor, Asked, AsksPlainly, IsPlainOrder, IsPlainWork, Order, Text, without_dashes, order_words}
-use Rattle.command_words.specs.Lines.{AreWorkWords, Work, line_words, work_name}
+use Rattle.command_words.specs.Words.{AreFor, AreForNoText, AreNoTask, AskFor, Asked, AsksPlainly, IsPlainAudit, IsPlainOrder, IsPlainWork, Order, Text, without_dashes, order_words}
+use Rattle.command_words.specs.Lines.{AreAuditWords, AreWorkWords, Audit, Work, line_words, work_name}
 use Rattle.command_words.specs.Words as asked
+use Rattle.command_words.proofs.AuditLemmas.{audit_answered, audit_leaf, audit_passes}
 use Rattle.command_words.proofs.OptionLemmas.{RefusesOptions, by_test, never, no_option, or_else_none, refuses}
-use Rattle.command_words.proofs.SubcommandLemmas.{Command, audit, check, command_of, leaf, make, name_of, operands_of, plain_words, run, tables, words_answered}
+use Rattle.command_words.proofs.SubcommandLemmas.{Command, check, command_of, leaf, make, name_of, operands_of, plain_words, run, tables, words_answered}
 use Rattle.command_words.proofs.WorkAnswers.{work_answered}
 use Rattle.command_words.proofs.WorkLeaf.{work_leaf}
 use Rattle.command_words.proofs.WorkPlain.{work_passes}
@@ -55,9 +56,10 @@ dashes_first listed (word ∷ rest) none = never UnknownArgument (InvalidSubcomm
 top_refuses : (listed : Bor (List (Bor Text))) → RefusesOptions (top_of listed).rules (top_of listed).args_override_self
 top_refuses listed = refuses _ _ (record { long = λ _. refl; short = λ _. refl })
 
--- a subcommand: one with operands alone, or one that sets workers to work, by whether it takes a seed
+-- a subcommand: one with operands alone, `audit`, or one that sets workers to work, by whether it takes a seed
 data Sub : Type 0 where
   plain : Command → Sub
+  auditing : Sub
   working : Bool → Sub
 
 -- the name of one that sets workers to work
@@ -68,11 +70,13 @@ work_title true = codes "stress"
 -- its name
 abbrev sub_name : Sub → Text
 sub_name (plain command) = name_of command
+sub_name auditing = codes "audit"
 sub_name (working seeded) = work_title seeded
 
 -- the subcommand as it is built
 abbrev sub_leaf : Bor (List (Bor Text)) → Sub → Shape
 sub_leaf listed (plain command) = leaf listed command
+sub_leaf listed auditing = audit_leaf listed
 sub_leaf listed (working seeded) = work_leaf listed seeded
 
 -- the word is no name of a subcommand
@@ -106,7 +110,7 @@ named_or_not word =
     (λ no_check. by_test (bytes_eq (codes "make") word) (λ is. inl (plain make, same_text (codes "make") word (sym is)))
     (λ no_make. by_test (bytes_eq (codes "tables") word) (λ is. inl (plain tables, same_text (codes "tables") word (sym is)))
     (λ no_tables. by_test (bytes_eq (codes "run") word) (λ is. inl (plain run, same_text (codes "run") word (sym is)))
-    (λ no_run. by_test (bytes_eq (codes "audit") word) (λ is. inl (plain audit, same_text (codes "audit") word (sym is)))
+    (λ no_run. by_test (bytes_eq (codes "audit") word) (λ is. inl (auditing, same_text (codes "audit") word (sym is)))
     (λ no_audit. by_test (bytes_eq (codes "work") word) (λ is. inl (working false, same_text (codes "work") word (sym is)))
     (λ no_work. by_test (bytes_eq (codes "stress") word) (λ is. inl (working true, same_text (codes "stress") word (sym is)))
     (λ no_stress. inr (record { check = no_check; make = no_make; tables = no_tables; run = no_run; audit = no_audit; work = no_work; stress = no_stress }))))))))
@@ -141,7 +145,7 @@ command_walk listed (plain check) rest = stopped_walk (top_of listed).rules (nam
 command_walk listed (plain make) rest = stopped_walk (top_of listed).rules (names listed) (walk_from nothing_held) (codes "make") [] rest
 command_walk listed (plain tables) rest = stopped_walk (top_of listed).rules (names listed) (walk_from nothing_held) (codes "tables") [] rest
 command_walk listed (plain run) rest = stopped_walk (top_of listed).rules (names listed) (walk_from nothing_held) (codes "run") [] rest
-command_walk listed (plain audit) rest = stopped_walk (top_of listed).rules (names listed) (walk_from nothing_held) (codes "audit") [] rest
+command_walk listed auditing rest = stopped_walk (top_of listed).rules (names listed) (walk_from nothing_held) (codes "audit") [] rest
 command_walk listed (working false) rest = stopped_walk (top_of listed).rules (names listed) (walk_from nothing_held) (codes "work") [] rest
 command_walk listed (working true) rest = stopped_walk (top_of listed).rules (names listed) (walk_from nothing_held) (codes "stress") [] rest
 
@@ -152,7 +156,7 @@ command_entered listed (plain check) rest = refl
 command_entered listed (plain make) rest = refl
 command_entered listed (plain tables) rest = refl
 command_entered listed (plain run) rest = refl
-command_entered listed (plain audit) rest = refl
+command_entered listed auditing rest = refl
 command_entered listed (working false) rest = refl
 command_entered listed (working true) rest = refl
 
@@ -195,9 +199,9 @@ only_below listed (plain tables) rest =
 only_below listed (plain run) rest =
     ap (λ (k : Kinds). or_else k (or_else (below listed (plain run) rest) [])) (stopped_fault (top_of listed) (names listed) (walk_from nothing_held) (codes "run", []) rest)
     ∙ or_else-nil (below listed (plain run) rest)
-only_below listed (plain audit) rest =
-    ap (λ (k : Kinds). or_else k (or_else (below listed (plain audit) rest) [])) (stopped_fault (top_of listed) (names listed) (walk_from nothing_held) (codes "audit", []) rest)
-    ∙ or_else-nil (below listed (plain audit) rest)
+only_below listed auditing rest =
+    ap (λ (k : Kinds). or_else k (or_else (below listed auditing rest) [])) (stopped_fault (top_of listed) (names listed) (walk_from nothing_held) (codes "audit", []) rest)
+    ∙ or_else-nil (below listed auditing rest)
 only_below listed (working false) rest =
     ap (λ (k : Kinds). or_else k (or_else (below listed (working false) rest) [])) (stopped_fault (top_of listed) (names listed) (walk_from nothing_held) (codes "work", []) rest)
     ∙ or_else-nil (below listed (working false) rest)
@@ -224,7 +228,6 @@ no_dashes_first check rest = refl
 no_dashes_first make rest = refl
 no_dashes_first tables rest = refl
 no_dashes_first run rest = refl
-no_dashes_first audit rest = refl
 
 -- the name of what workers are to do is that of its command
 named_by : (seed : Option ℕ) → work_title (is_some seed) ≡ work_name seed
@@ -240,6 +243,13 @@ gives_rest listed are (plain command) rest none =
       asked = asked.order answered.asked;
       asks = (answered.whole, no_dashes_first command rest ∙ answered.words);
       entry = command_rows listed (plain command) rest ∙ ap (λ (p : Text × List Row). Some p) answered.entry;
+    }
+gives_rest listed are auditing rest none =
+    let answered = audit_answered listed rest none in
+    record {
+      asked = asked.audit answered.audit;
+      asks = (answered.rows.whole, (answered.line, ap (λ (words : List Text). codes "audit" ∷ words) (sym answered.words_are), answered.says));
+      entry = (rows_after (audit_leaf listed).rules [] rest, command_rows listed auditing rest, answered.rows);
     }
 gives_rest listed are (working seeded) rest none =
     let answered = work_answered listed seeded rest none in
@@ -270,18 +280,22 @@ named_first (asked.check kind path) = refl
 named_first (asked.make family size items) = refl
 named_first (asked.tables path) = refl
 named_first (asked.run script types) = refl
-named_first (asked.audit history types) = refl
 
 -- plain words come to no fault
 plain_taken : (listed : Bor (List (Bor Text))) → texts listed.now ≡ kind_words → (a : Order) → IsPlainOrder a → fault_of (app listed) (order_words a) ≡ []
 plain_taken listed are a plain_order =
     ap (fault_of (app listed)) (named_first a) ∙ program_fault listed (plain (command_of a)) (operands_of a) ∙ plain_words listed are a plain_order
 
--- and so of what workers are to do
+-- and so of histories that are to be audited
+audit_taken : (listed : Bor (List (Bor Text))) (a : Audit) (words : List Text) → IsPlainAudit a → AreAuditWords words a → fault_of (app listed) words ≡ []
+audit_taken listed a words plain_audit are =
+    ap (fault_of (app listed)) are.1 ∙ program_fault listed auditing (line_words are.0) ∙ audit_passes are.0 a are.2 listed plain_audit
+
+-- and of what workers are to do
 work_taken : (listed : Bor (List (Bor Text))) (w : Work) (words : List Text) → IsPlainWork w → AreWorkWords words w → fault_of (app listed) words ≡ []
 work_taken listed w words plain_work are =
     ap (fault_of (app listed)) (are.1 ∙ ap (λ (name : Text). name ∷ line_words are.0) (sym (named_by w.seed)))
-    ∙ program_fault listed (working (is_some w.seed)) (line_words are.0) ∙ work_passes listed are.0 w are.2 plain_work
+    ∙ program_fault listed (working (is_some w.seed)) (line_words are.0) ∙ work_passes are.0 w are.2 listed plain_work
 
 -- ---- what a parse says
 
@@ -295,10 +309,11 @@ matches_asked words m p =
     let same = subst Q p.1.1 (p.3 refl).1 in
     (gives.asked, subst (λ (entry : Option (Text × List Row)). IsEntryOf entry gives.asked) (sym same) gives.entry, gives.asks)
 
--- words that come to no fault, where they are an order's or say what workers are to do
+-- words that come to no fault, where they are an order's, an audit's or say what workers are to do
 asked_passes : (listed : Bor (List (Bor Text))) → texts listed.now ≡ kind_words → (words : List Text) → AreForNoText words → (asked : Asked) → AsksPlainly asked → AreFor words asked
     → fault_of (app listed) words ≡ []
 asked_passes listed are words textless (asked.order o) well are_for = ap (fault_of (app listed)) are_for ∙ plain_taken listed are o well
+asked_passes listed are words textless (asked.audit a) well are_for = audit_taken listed a words well are_for
 asked_passes listed are words textless (asked.work w) well are_for = work_taken listed w words well are_for
 asked_passes listed are words textless (asked.help topic) well are_for = absurd (textless.0 topic are_for)
 asked_passes listed are words textless asked.version well are_for = absurd (textless.1 are_for)

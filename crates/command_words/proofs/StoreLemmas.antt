@@ -1,5 +1,5 @@
--- The commands over a store's objects, a first file and the files of types: where the walk stands after their operands, and which
--- operands they take.
+-- The commands over a store's objects that take a first file and the files of types, and no options: where the walk stands after
+-- their operands, and which operands they take.
 use Rattle.std.proofs.Common.{◌≡◌, ◌∙◌, ◌++◌, ap, refl, sym, true, false, Bool, List, [], ◌∷◌, Bor}
 use Rattle.std.specs.Prelude.{codes, fold}
 use Rattle.clap.specs.Walk.{Row, Walk, arg_by_index, idle, positional, settled, to_positional, with_default}

@@ -236,7 +236,6 @@ pub data Command : Type 0 where
   make : Command
   tables : Command
   run : Command
-  audit : Command
 
 -- its name
 abbrev pub name_of : Command → Text
@@ -244,7 +243,6 @@ name_of check = codes "check"
 name_of make = codes "make"
 name_of tables = codes "tables"
 name_of run = codes "run"
-name_of audit = codes "audit"
 
 -- the subcommand as it is built
 abbrev pub leaf : Bor (List (Bor Text)) → Command → Shape
@@ -252,7 +250,6 @@ leaf listed check = check_leaf listed
 leaf listed make = make_leaf listed
 leaf listed tables = tables_leaf listed
 leaf listed run = store_leaf listed (codes "run")
-leaf listed audit = store_leaf listed (codes "audit")
 
 -- where its walk stands after these operands
 abbrev pub place : Command → List Text → Place
@@ -260,7 +257,6 @@ place check = check_place
 place make = make_place
 place tables = tables_place
 place run = store_place
-place audit = store_place
 
 -- what holds of operands that it took
 abbrev pub Took : Bor (List (Bor Text)) → Command → List Text → Type 0
@@ -268,7 +264,6 @@ Took listed check = CheckTook listed
 Took listed make = MakeTook
 Took listed tables = TablesTook
 Took listed run = StoreTook
-Took listed audit = StoreTook
 
 -- the subcommand by its operands
 takes : (listed : Bor (List (Bor Text))) (command : Command) → Takes (leaf listed command) (place command) (Took listed command)
@@ -276,7 +271,6 @@ takes listed check = check_takes listed
 takes listed make = make_takes listed
 takes listed tables = tables_takes listed
 takes listed run = store_takes listed (codes "run")
-takes listed audit = store_takes listed (codes "audit")
 
 -- its walk begins where each walk does
 begins : (command : Command) → place command [] ≡ start
@@ -284,7 +278,6 @@ begins check = refl
 begins make = refl
 begins tables = refl
 begins run = refl
-begins audit = refl
 
 -- ---- what operands ask for
 
@@ -382,8 +375,6 @@ answers listed are make operands took none = make_answers listed operands none
 answers listed are tables operands took none = tables_answers listed operands took none
 answers listed are run operands took none =
     store_asked (codes "run") _ _ operands asked.run (λ _. some_types) (λ _ _. refl) (λ _ _. refl) (store_answers listed (codes "run") operands none)
-answers listed are audit operands took none =
-    store_asked (codes "audit") _ _ operands asked.audit (λ _. some_types) (λ _ _. refl) (λ _ _. refl) (store_answers listed (codes "audit") operands none)
 
 -- words of a subcommand that come to no fault ask for something, and so do its rows
 pub words_answered : (listed : Bor (List (Bor Text))) → texts listed.now ≡ kind_words → (command : Command) (rest : List Text)
@@ -402,7 +393,6 @@ command_of (asked.check kind path) = check
 command_of (asked.make family size items) = make
 command_of (asked.tables path) = tables
 command_of (asked.run script types) = run
-command_of (asked.audit history types) = audit
 
 -- and its operands
 abbrev pub operands_of : Order → List Text
@@ -410,7 +400,6 @@ operands_of (asked.check kind path) = kind_word kind ∷ path ∷ []
 operands_of (asked.make family size items) = family ∷ size ∷ items
 operands_of (asked.tables path) = path ∷ []
 operands_of (asked.run script types) = script ∷ types
-operands_of (asked.audit history types) = history ∷ types
 
 -- the word of a kind begins with no hyphen
 plain_kind : (kind : Kind) → IsPlain (kind_word kind)
@@ -423,7 +412,7 @@ all_with P word rest first others zero d lt = first
 all_with P word rest first others (suc k) d lt = others k d (omega (arith, lt))
 
 -- of no words, each fact holds of all
-all_of_none : (P : Text → Type 0) → All P []
+pub all_of_none : (P : Text → Type 0) → All P []
 all_of_none P k d lt = absurd (omega (arith, lt))
 
 -- no fault comes of these operands of a subcommand
@@ -445,8 +434,6 @@ all_pass listed are (asked.make family size items) whole = (refl, (refl, items_p
 all_pass listed are (asked.tables path) whole = (refl, refl)
 all_pass listed are (asked.run script []) whole = absurd (omega (arith, whole))
 all_pass listed are (asked.run script (type ∷ types)) whole = store_passes listed (codes "run") script type types
-all_pass listed are (asked.audit history []) whole = absurd (omega (arith, whole))
-all_pass listed are (asked.audit history (type ∷ types)) whole = store_passes listed (codes "audit") history type types
 
 -- where plain words are asked for, the operands are plain
 all_plain : (a : Order) → HasPlainWords a → All IsPlain (operands_of a)
@@ -454,7 +441,6 @@ all_plain (asked.check kind path) plain = all_with IsPlain (kind_word kind) (pat
 all_plain (asked.make family size items) plain = all_with IsPlain family (size ∷ items) plain.0 (all_with IsPlain size items plain.1 plain.2)
 all_plain (asked.tables path) plain = all_with IsPlain path [] plain (all_of_none IsPlain)
 all_plain (asked.run script types) plain = all_with IsPlain script types plain.0 plain.1
-all_plain (asked.audit history types) plain = all_with IsPlain history types plain.0 plain.1
 
 -- plain words of a subcommand come to no fault
 pub plain_words : (listed : Bor (List (Bor Text))) → texts listed.now ≡ kind_words → (a : Order) → IsPlainOrder a

@@ -1,19 +1,21 @@
--- Command lines with options, of the commands that set workers to work.
+-- Command lines with options: of the commands that set workers to work, and of `audit`.
 use Rattle.std.specs.Prelude.{◌≡◌, ◌≢◌, ℕ, ◌<◌, ◌≤◌, ◌^◌, length, List, [], ◌∷◌, ◌++◌, Option, Some, None, IfSome, ⊤, slice_index, codes}
 use Rattle.std.specs.Str.Parse.{IsNumeral, digits_value, without_leading_plus}
 use Rattle.clap.specs.Walk.{Text}
 
--- an option with a number
+-- an option with a value
 pub data Setting : Type 0 where
   workers : Setting
   tries : Setting
   seed : Setting
+  following : Setting
 
 -- its name
 abbrev pub setting_name : Setting → Text
 setting_name workers = codes "workers"
 setting_name tries = codes "tries"
 setting_name seed = codes "seed"
+setting_name following = codes "then"
 
 -- the words behind a command's name, in their order
 pub data Line : Type 0 where
@@ -49,6 +51,7 @@ abbrev pub value_for : Setting → Setting → Text → List Text
 value_for workers workers value = value ∷ []
 value_for tries tries value = value ∷ []
 value_for seed seed value = value ∷ []
+value_for following following value = value ∷ []
 value_for wanted setting value = []
 
 -- all values of an option
@@ -119,7 +122,32 @@ pub record Says (line : Line) (w : Work) : Type 0 where
   pub workers : IsGiven (values_of workers line) w.workers
   pub tries : IsGivenOr 3 (values_of tries line) w.tries
   pub seed : IsGivenAny (values_of seed line) w.seed
+  pub following : values_of following line ≡ []
 
 -- the words are those of a line that says it, behind its command's name
 abbrev pub AreWorkWords : List Text → Work → Type 0
 AreWorkWords words w = (line : Line) × (words ≡ work_name w.seed ∷ line_words line) × Says line w
+
+-- the histories that are to be audited
+pub record Audit : Type 0 where
+  -- the path of the first history
+  pub history : Text
+  -- the paths of those that follow it, in their order
+  pub later : List Text
+  -- the paths of the type files
+  pub types : List Text
+
+-- there is at least one TYPE
+abbrev pub IsWholeAudit : Audit → Type 0
+IsWholeAudit a = 0 < length a.types
+
+-- the line says it, and has no option but `--then`
+pub record SaysAudit (line : Line) (a : Audit) : Type 0 where
+  pub clear : IsClear line
+  pub operands : operands_of line ≡ a.history ∷ a.types
+  pub later : values_of following line ≡ a.later
+  pub alone : (other : Setting) → other ≢ following → values_of other line ≡ []
+
+-- the words are those of a line that says it, behind `audit`
+abbrev pub AreAuditWords : List Text → Audit → Type 0
+AreAuditWords words a = (line : Line) × (words ≡ codes "audit" ∷ line_words line) × SaysAudit line a

@@ -18,7 +18,7 @@ use Rattle.clap.specs.declared.builder.value_parser.Reading.TheVariants.{AsWritt
 use Rattle.clap.specs.declared.builder.value_parser.ValueParser.{ValueParser}
 use Rattle.clap.specs.declared.builder.value_parser.ValueParser.TheVariants as parser
 use Rattle.std.specs.Borrow.{Bor}
-use Rattle.command_words.specs.Lines.{IsNumber, IsWholeWork, Setting, Work, seed, setting_name, tries, work_name, workers}
+use Rattle.command_words.specs.Lines.{Audit, IsNumber, IsWholeAudit, IsWholeWork, Setting, Work, following, seed, setting_name, tries, work_name, workers}
 use Rattle.command_words.specs.Words.{Asked, Order, Text}
 use Rattle.command_words.specs.Words as asked
 use Rattle.type_table.specs.Kind.{kind_word}
@@ -62,11 +62,11 @@ make_app = with_rule (with_rule (with_rule (new_app (codes "make"))
 abbrev pub tables_app : App
 tables_app = with_rule (new_app (codes "tables")) (wanted_rule (codes "path"))
 
--- a command over a store's objects: `run SCRIPT TYPE...` or `audit HISTORY TYPE...`
+-- a command over a store's objects: a first file and the files of types, as `run SCRIPT TYPE...`
 abbrev pub store_app : Text → App
 store_app name = with_rule (with_rule (new_app name) (wanted_rule (codes "path"))) types_rule
 
--- an option with a value
+-- an option with a number
 abbrev pub option_rule : Setting → ValueParser → Rule
 option_rule setting values = record (new_rule (setting_name setting)) {
   long = Some (setting_name setting);
@@ -85,6 +85,18 @@ tries_rule = record (option_rule tries (parser.Signed (pos 1) (pos 100))) { defa
 -- `--seed S`, which has to be there
 abbrev pub seed_rule : Rule
 seed_rule = record (option_rule seed (parser.Unsigned 0 18446744073709551615)) { required = true }
+
+-- `--then HISTORY`, any number of times
+abbrev pub then_rule : Rule
+then_rule = record (new_rule (setting_name following)) {
+  long = Some (setting_name following);
+  action = Some Append;
+  value_names = 1;
+}
+
+-- `audit HISTORY [--then HISTORY]... TYPE...`
+abbrev pub audit_app : App
+audit_app = with_rule (store_app (codes "audit")) then_rule
 
 -- a command that sets workers to work: `NAME --workers N [--tries K] JOBS TYPE...`
 abbrev pub workers_app : Text → App
@@ -109,7 +121,7 @@ bare_program = on_top (λ top. record top {
 abbrev pub program : ValueParser → App
 program kinds =
     with_subcommand (with_subcommand (with_subcommand (with_subcommand (with_subcommand (with_subcommand (with_subcommand bare_program
-    (check_app kinds).top) make_app.top) tables_app.top) (store_app (codes "run")).top) (store_app (codes "audit")).top) work_app.top) stress_app.top
+    (check_app kinds).top) make_app.top) tables_app.top) (store_app (codes "run")).top) audit_app.top) work_app.top) stress_app.top
 
 -- the command is read as this one, and has no argument of the commands below it
 abbrev pub IsCommand : App → Command → Type 0
@@ -163,7 +175,6 @@ entry_of (asked.make family size items) =
     (codes "make", row (codes "family") family ∷ row (codes "size") size ∷ item_rows items)
 entry_of (asked.tables path) = (codes "tables", row (codes "path") path ∷ [])
 entry_of (asked.run script types) = (codes "run", store_rows script types)
-entry_of (asked.audit history types) = (codes "audit", store_rows history types)
 
 -- an argument was given this number, or has it by default
 abbrev pub HasNumber : List Row → Text → ℕ → Type 0
@@ -173,6 +184,12 @@ HasNumber rows id n = (text : Text) × (one_of id rows ≡ Some text) × IsNumbe
 pub record HasStoreRows (rows : List Row) (file : Text) (files : List Text) : Type 0 where
   pub path : first_of (codes "path") rows ≡ Some file
   pub types : unwrap_or (all_of (codes "types") rows) [] ≡ files
+
+-- the rows are those of histories that are to be audited
+pub record HasAuditRows (rows : List Row) (a : Audit) : Type 0 where
+  pub whole : IsWholeAudit a
+  pub store : HasStoreRows rows a.history a.types
+  pub later : unwrap_or (all_of (codes "then") rows) [] ≡ a.later
 
 -- the rows are those of what workers are to do
 pub record HasWorkRows (rows : List Row) (w : Work) : Type 0 where
@@ -185,6 +202,7 @@ pub record HasWorkRows (rows : List Row) (w : Work) : Type 0 where
 -- a subcommand's name and rows are those of what is asked for
 abbrev pub IsEntryOf : Option (Text × List Row) → Asked → Type 0
 IsEntryOf entry (asked.order o) = entry ≡ Some (entry_of o)
+IsEntryOf entry (asked.audit a) = (rows : List Row) × (entry ≡ Some (codes "audit", rows)) × HasAuditRows rows a
 IsEntryOf entry (asked.work w) = (rows : List Row) × (entry ≡ Some (work_name w.seed, rows)) × HasWorkRows rows w
 IsEntryOf entry text = ⊥
 
@@ -200,6 +218,10 @@ AskSomething matches = (a : Asked) × Asks matches a
 abbrev pub HasRows : ArgMatches → Order → Type 0
 HasRows values o = rows_of (found_of values) ≡ (entry_of o).1
 
--- these matches have such rows
+-- the rows of these matches are those of histories that are to be audited
+abbrev pub HasAudit : ArgMatches → Audit → Type 0
+HasAudit values a = HasAuditRows (rows_of (found_of values)) a
+
+-- the rows of these matches are those of what workers are to do
 abbrev pub HasWork : ArgMatches → Work → Type 0
 HasWork values w = HasWorkRows (rows_of (found_of values)) w

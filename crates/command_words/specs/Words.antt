@@ -10,7 +10,7 @@ use Rattle.command_words.specs.declared.task.Topic.{Topic}
 use Rattle.command_words.specs.declared.task.Topic.TheVariants as topic
 use Rattle.command_words.specs.declared.task.WordFault.{WordFault}
 use Rattle.command_words.specs.declared.task.WordFault.TheVariants.{Usage, NoMemory}
-use Rattle.command_words.specs.Lines.{AreWorkWords, IsWholeWork, Work}
+use Rattle.command_words.specs.Lines.{AreAuditWords, AreWorkWords, Audit, IsWholeAudit, IsWholeWork, Work}
 
 abbrev pub Text : Type 0
 Text = List ℕ
@@ -25,13 +25,13 @@ pub data Order : Type 0 where
   tables : Text → Order
   -- `run SCRIPT TYPE...`
   run : Text → List Text → Order
-  -- `audit HISTORY TYPE...`
-  audit : Text → List Text → Order
 
 -- what the words ask for
 pub data Asked : Type 0 where
   -- what a command does with its operands
   order : Order → Asked
+  -- the histories that `audit` is to audit
+  audit : Audit → Asked
   -- what workers are to do: `work` or `stress`
   work : Work → Asked
   -- a text of help
@@ -45,12 +45,10 @@ order_words (check kind path) = codes "check" ∷ kind_word kind ∷ path ∷ []
 order_words (make family size items) = codes "make" ∷ family ∷ size ∷ items
 order_words (tables path) = codes "tables" ∷ path ∷ []
 order_words (run script types) = codes "run" ∷ script ∷ types
-order_words (audit history types) = codes "audit" ∷ history ∷ types
 
 -- it has the operands that it can't be without: at least one TYPE
 abbrev pub IsWhole : Order → Type 0
 IsWhole (run script types) = 0 < length types
-IsWhole (audit history types) = 0 < length types
 IsWhole o = ⊤
 
 -- the words of a call for help
@@ -67,6 +65,7 @@ help_words topic.Stress = codes "help" ∷ codes "stress" ∷ []
 -- the words ask for it
 abbrev pub AreFor : List Text → Asked → Type 0
 AreFor words (order o) = words ≡ order_words o
+AreFor words (audit a) = AreAuditWords words a
 AreFor words (work w) = AreWorkWords words w
 AreFor words (help topic) = words ≡ help_words topic
 AreFor words version = (words ≡ codes "--version" ∷ []) ⊎ (words ≡ codes "-V" ∷ [])
@@ -77,7 +76,8 @@ asked_of (task.Check kind path) = order (check kind path.now)
 asked_of (task.Make family size items) = order (make family.now size.now (texts items.items))
 asked_of (task.Tables path) = order (tables path.now)
 asked_of (task.Run script types) = order (run script.now (texts types.items))
-asked_of (task.Audit history types) = order (audit history.now (texts types.items))
+asked_of (task.Audit history later types) =
+    audit (record { history = history.now; later = texts later.items; types = texts types.items })
 asked_of (task.Work jobs types workers tries) =
     work (record { jobs = jobs.now; types = texts types.items; workers = workers; tries = tries; seed = None })
 asked_of (task.Stress jobs types workers tries seed) =
@@ -94,6 +94,7 @@ without_dashes (word ∷ rest) =
 -- the words ask for it, where those of a command are whole, and may have one `--` among them
 abbrev pub AskFor : List Text → Asked → Type 0
 AskFor words (order o) = IsWhole o × (without_dashes words ≡ order_words o)
+AskFor words (audit a) = IsWholeAudit a × AreAuditWords words a
 AskFor words (work w) = IsWholeWork w × AreWorkWords words w
 AskFor words asked = AreFor words asked
 
@@ -111,11 +112,14 @@ HasPlainWords (check kind path) = IsPlain path
 HasPlainWords (make family size items) = IsPlain family × IsPlain size × All IsPlain items
 HasPlainWords (tables path) = IsPlain path
 HasPlainWords (run script types) = IsPlain script × All IsPlain types
-HasPlainWords (audit history types) = IsPlain history × All IsPlain types
 
 -- the same, and it is whole
 abbrev pub IsPlainOrder : Order → Type 0
 IsPlainOrder o = IsWhole o × HasPlainWords o
+
+-- the same, of the histories that are to be audited
+abbrev pub IsPlainAudit : Audit → Type 0
+IsPlainAudit a = IsWholeAudit a × IsPlain a.history × All IsPlain a.later × All IsPlain a.types
 
 -- the same, of what workers are to do
 abbrev pub IsPlainWork : Work → Type 0
@@ -124,6 +128,7 @@ IsPlainWork w = IsWholeWork w × IsPlain w.jobs × All IsPlain w.types
 -- the same, of all that may be asked for
 abbrev pub AsksPlainly : Asked → Type 0
 AsksPlainly (order o) = IsPlainOrder o
+AsksPlainly (audit a) = IsPlainAudit a
 AsksPlainly (work w) = IsPlainWork w
 AsksPlainly asked = ⊤
 

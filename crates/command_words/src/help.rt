@@ -19,7 +19,8 @@ Commands:
   make FAMILY SIZE ITEM...   Write the type file of a family of types.
   tables FILE                Write a type file with its tables made anew.
   run SCRIPT TYPE...         Run a script at a store, and audit its history.
-  audit HISTORY TYPE...      Audit a history.
+  audit HISTORY [--then HISTORY]... TYPE...
+                             Audit a history, and those that follow it.
   work --workers N [--tries K] JOBS TYPE...
                              Run jobs in threads, and audit their history.
   stress --seed S --workers N [--tries K] JOBS TYPE...
@@ -151,11 +152,16 @@ pub(crate) const AUDIT: &str = "\
 Say whether the committed transactions of a history, run one after another in
 the order of their commits, give the same replies.
 
-Usage: colock audit HISTORY TYPE...
+Usage: colock audit HISTORY [--then HISTORY]... TYPE...
 
 HISTORY is the path of a history, as colock run writes it, and each TYPE that
 of a type file. The history names the type of an object by its place among the
 TYPEs, from 0. The types aren't checked for a kind.
+
+Options, anywhere behind audit and before any --:
+  --then HISTORY   A history that follows, of the same objects, and begins at
+                   the states that the ones before it end in. It may come any
+                   number of times, and they follow in this order.
 
   # audit yes, # commit T, # serial X S
       They do, in this order, and object X is in state S behind them.
@@ -164,6 +170,10 @@ TYPEs, from 0. The types aren't checked for a kind.
   # audit no IllegalOp I X J
       Of the I-th committed transaction the J-th operation at object X isn't
       legal behind those before it, where both are counted from 0.
+
+Where there is more than one history, a transaction is written N.T, for
+transaction T of the N-th history, and an event N.AT, where histories and events
+are counted from 0. The audit is one, and # serial X S is where the last ends.
 
 Example: colock audit out.history ctr2.type
 

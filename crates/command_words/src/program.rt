@@ -2,7 +2,7 @@
 ghost use Rattle.std.specs.Prelude.{◌≡◌, IfOk};
 ghost use Rattle.clap.specs.Simple.{App, app_of, with_rule, with_subcommand};
 ghost use Rattle.clap.specs.Walk.{Rule};
-ghost use Rattle.command_words.specs.Program.{IsCommand, IsWord, ReadsKinds, check_app, items_rule, kind_rule, make_app, program, seed_rule, store_app, stress_app, tables_app, tries_rule, types_rule, wanted_rule, work_app, workers_app, workers_rule};
+ghost use Rattle.command_words.specs.Program.{IsCommand, IsWord, ReadsKinds, audit_app, check_app, items_rule, kind_rule, make_app, program, seed_rule, store_app, stress_app, tables_app, then_rule, tries_rule, types_rule, wanted_rule, work_app, workers_app, workers_rule};
 
 use crate::Topic;
 use clap::{Arg, ArgAction, Command, value_parser};
@@ -25,8 +25,7 @@ pub(crate) fn program<'a>(alloc: Global) -> Result<Command<'a>, AllocError>
     let with_tables = with_command(with_make, tables_command(alloc));
     let run = store_command(alloc, "run", Topic::Run, "SCRIPT");
     let with_run = with_command(with_tables, run);
-    let audit = store_command(alloc, "audit", Topic::Audit, "HISTORY");
-    let with_audit = with_command(with_run, audit);
+    let with_audit = with_command(with_run, audit_command(alloc));
     let with_work = with_command(with_audit, work_command(alloc));
     with_command(with_work, stress_command(alloc))
 }
@@ -67,6 +66,13 @@ fn store_command<'a>(
     let bare = Command::new(alloc, name).override_help(topic.text());
     let with_path = with_word(Ok(bare), wanted(alloc, "path", shown));
     with_word(with_path, types_arg(alloc))
+}
+
+fn audit_command<'a>(alloc: Global) -> Result<Command<'a>, AllocError>
+    ensures { IfOk result (IsCommand audit_app) }
+{
+    let bare = store_command(alloc, "audit", Topic::Audit, "HISTORY");
+    with_word(bare, then_arg(alloc))
 }
 
 fn work_command<'a>(alloc: Global) -> Result<Command<'a>, AllocError>
@@ -144,6 +150,15 @@ fn types_arg<'a>(alloc: Global) -> Arg<'a>
         .required(true)
         .action(ArgAction::Append)
         .value_name("TYPE")
+}
+
+fn then_arg<'a>(alloc: Global) -> Arg<'a>
+    ensures { IsWord then_rule result }
+{
+    Arg::new(alloc, "then")
+        .long("then")
+        .action(ArgAction::Append)
+        .value_name("HISTORY")
 }
 
 fn workers_arg<'a>(alloc: Global) -> Arg<'a>

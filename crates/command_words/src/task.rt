@@ -34,11 +34,13 @@ pub enum Task<'a> {
         /// The paths of the type files, by whose places the script names its objects' types.
         types: Vec<&'a str>,
     },
-    /// Is a history serial?
+    /// Is a history serial, with those that follow it?
     Audit {
-        /// The path of the history.
+        /// The path of the first history.
         history: &'a str,
-        /// The paths of the type files, by whose places the history names its objects' types.
+        /// The paths of the histories that follow it, in their order.
+        later: Vec<&'a str>,
+        /// The paths of the type files, by whose places a history names its objects' types.
         types: Vec<&'a str>,
     },
     /// What comes of jobs that workers do side by side at a store, and is its history serial?

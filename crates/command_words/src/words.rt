@@ -3,11 +3,11 @@ ghost use Rattle.std.specs.Prelude.{◌≡◌, ◌<◌, ℕ, List, None, IfOk, I
 ghost use Rattle.clap.specs.Words.{found_of, kind_of, rows_of};
 ghost use Rattle.clap.specs.Walk.{texts};
 ghost use Rattle.clap.specs.declared.parser.matches.ArgMatches.{ArgMatches};
-ghost use Rattle.command_words.specs.Program.{AskSomething, Asks, HasNumber, HasRows, HasStoreRows, HasWork, Parses};
+ghost use Rattle.command_words.specs.Program.{AskSomething, Asks, HasAudit, HasNumber, HasRows, HasStoreRows, HasWork, Parses};
 ghost use Rattle.type_table.specs.declared.kind.Kind.{Kind};
 ghost use Rattle.command_words.specs.Words.{AreForNoText, AreNoTask, AreWordsOf, Asked, OnUsage, Text, asked_of};
 ghost use Rattle.command_words.specs.Words as asked;
-ghost use Rattle.command_words.specs.Lines.{Work};
+ghost use Rattle.command_words.specs.Lines.{Audit, Work};
 
 use crate::program::program;
 use crate::{Task, Topic, WordFault};
@@ -17,10 +17,10 @@ use std::alloc::{AllocError, Global};
 use type_table::Kind;
 
 /// Reads the words after the program's name. At `Ok` they are the task's, and those of a command may
-/// have one `--` among them. The options of `work` and `stress` stand anywhere before it, in either
-/// form. A fault of the command line comes of no words of a task, where none of the paths, FAMILY,
-/// SIZE and the ITEMs begins with a hyphen; `--help` among the words is such a fault. Which of the
-/// two faults comes is `clap`'s.
+/// have one `--` among them. The options of `audit`, `work` and `stress` stand anywhere before it, in
+/// either form. A fault of the command line comes of no words of a task, where none of the paths,
+/// FAMILY, SIZE and the ITEMs begins with a hyphen; `--help` among the words is such a fault. Which
+/// of the two faults comes is `clap`'s.
 pub fn read_words<'a>(alloc: Global, words: &'a [&'a str]) -> Result<Task<'a>, WordFault>
     ensures taken { IfOk result (AreWordsOf (texts words.now)) }
     ensures refused { IfErr result (λ fault. OnUsage fault (AreNoTask (texts words.now))) }
@@ -138,12 +138,16 @@ fn run_task<'a>(alloc: Global, values: &ArgMatches<'a>) -> Result<Task<'a>, Allo
 }
 
 fn audit_task<'a>(alloc: Global, values: &ArgMatches<'a>) -> Result<Task<'a>, AllocError>
-    requires { (history : Text) × (types : List Text) × HasRows values.now (asked.audit history types) }
-    ensures { (history : Text) (types : List Text) → HasRows values.now (asked.audit history types)
-        → IfOk result (λ task. asked_of task ≡ asked.order (asked.audit history types)) }
+    requires { (a : Audit) × HasAudit values.now a }
+    ensures { (a : Audit) → HasAudit values.now a → IfOk result (λ task. asked_of task ≡ asked.audit a) }
 {
     let (history, types) = store_words(alloc, values)?;
-    Ok(Task::Audit { history, types })
+    let later = values.get_strs("then").unwrap_or(&[]).to_vec(alloc)?;
+    Ok(Task::Audit {
+        history,
+        later,
+        types,
+    })
 }
 
 fn work_task<'a>(alloc: Global, values: &ArgMatches<'a>) -> Result<Task<'a>, AllocError>

@@ -5,7 +5,7 @@ use Rattle.std.specs.Io.KnownBytes.{Appends, Keeps, append_known}
 use Rattle.command_files.specs.Answers.{ComesOr, Refuses}
 use Rattle.command_files.specs.Status.{status_of}
 use Rattle.command_files.specs.declared.fault.Fault.{Fault}
-use Rattle.command_files.specs.declared.fault.Fault.TheVariants.{Usage, Text, NoType, BadParameter, TooLarge, CannotRead, NoMemory, Output}
+use Rattle.command_files.specs.declared.fault.Fault.TheVariants.{Usage, Text, NoType, OtherObjects, BadParameter, TooLarge, CannotRead, NoMemory, Output}
 use Rattle.command_files.specs.declared.status.Status.{Status}
 use Rattle.command_files.specs.declared.status.Status.TheVariants.{Yes, No, BadInput, Failed}
 use Rattle.command_files.specs.declared.status.Verdict.{Verdict}
@@ -78,6 +78,7 @@ module _ (old gathered new err new_err : Option (List ℕ)) (status : Status) (n
   amiss_or_failed bad (Usage text) refused which = ⊎_elim (λ is. inl (is, refused)) (λ is. inr is) which
   amiss_or_failed bad (Text path fault) refused which = ⊎_elim (λ is. inl (is, refused)) (λ is. inr is) which
   amiss_or_failed bad (NoType path x place) refused which = ⊎_elim (λ is. inl (is, refused)) (λ is. inr is) which
+  amiss_or_failed bad (OtherObjects path first) refused which = ⊎_elim (λ is. inl (is, refused)) (λ is. inr is) which
   amiss_or_failed bad BadParameter refused which = ⊎_elim (λ is. inl (is, refused)) (λ is. inr is) which
   amiss_or_failed bad TooLarge refused which = ⊎_elim (λ is. inl (is, refused)) (λ is. inr is) which
   amiss_or_failed bad (CannotRead path) refused which = ⊎_elim (λ is. inr is) (λ is. inr is) which
@@ -150,6 +151,7 @@ module _ (old gathered new err new_err : Option (List ℕ)) (status : Status) (n
     does (Err (Usage text)) c ended = amiss (Usage text) refl c ended
     does (Err (Text path fault)) c ended = amiss (Text path fault) refl c ended
     does (Err (NoType path x place)) c ended = amiss (NoType path x place) refl c ended
+    does (Err (OtherObjects path first)) c ended = amiss (OtherObjects path first) refl c ended
     does (Err BadParameter) c ended = amiss BadParameter refl c ended
     does (Err TooLarge) c ended = amiss TooLarge refl c ended
     does (Err (CannotRead path)) c ended = failed (CannotRead path) refl c ended

@@ -13,7 +13,7 @@ use Rattle.command_words.specs.Help.{text_of_topic, version_text}
 use Rattle.command_words.specs.Words.{AreNoTask, AreWordsOf}
 use Rattle.command_words.specs.declared.task.Task.{Task}
 use Rattle.command_words.specs.declared.task.Task.TheVariants.{Check, Make, Tables, Run, Work, Stress, Audit, Help, Version}
-use Rattle.store_commands.specs.Audited.{AuditsFile, HasAuditFault}
+use Rattle.store_commands.specs.Audited.{AuditsFiles, HasAuditFault}
 use Rattle.store_commands.specs.Runs.{BeginsRunFile, HasRunFault, RunsFile, WritesRunFile}
 use Rattle.store_commands.specs.Works.{BeginsWorkFile, HasWorkFault, WorksFile, WritesWorkFile}
 use Rattle.store_files.specs.Types.{Held}
@@ -29,11 +29,12 @@ Answer holds (Tables path) = MakesTablesOf (holds path.now)
 Answer holds (Run script types) = RunsFile holds script.now (texts types.items)
 Answer holds (Work jobs types workers tries) = WorksFile holds workers tries jobs.now (texts types.items)
 Answer holds (Stress jobs types workers tries seed) = WorksFile holds workers tries jobs.now (texts types.items)
-Answer holds (Audit history types) = AuditsFile holds history.now (texts types.items)
+Answer holds (Audit history later types) = AuditsFiles holds history.now (texts later.items) (texts types.items)
 Answer holds (Help topic) = IsThis verdict.Yes (text_of_topic topic)
 Answer holds Version = IsThis verdict.Yes version_text
 
--- what is amiss with what the user gave: a text has a fault, an object names no type, or nothing can be made
+-- what is amiss with what the user gave: a text has a fault, a history that follows has other objects, an object names no type, or nothing can
+-- be made
 abbrev pub IsAmiss : Held → Task → Type 0
 IsAmiss holds (Check kind path) = IfSome (holds path.now) IsFaulty
 IsAmiss holds (Make family size items) = CannotBeMade (wanted_of family.now size.now (texts items.items))
@@ -41,7 +42,7 @@ IsAmiss holds (Tables path) = IfSome (holds path.now) IsFaulty
 IsAmiss holds (Run script types) = HasRunFault holds script.now (texts types.items)
 IsAmiss holds (Work jobs types workers tries) = HasWorkFault holds workers jobs.now (texts types.items)
 IsAmiss holds (Stress jobs types workers tries seed) = HasWorkFault holds workers jobs.now (texts types.items)
-IsAmiss holds (Audit history types) = HasAuditFault holds history.now (texts types.items)
+IsAmiss holds (Audit history later types) = HasAuditFault holds history.now (texts later.items) (texts types.items)
 IsAmiss holds task = ⊥
 
 -- the texts that may have been written as a whole where memory was refused: of a run without an audit, and of workers of which one

@@ -13,7 +13,7 @@ use command_words::{Task, VERSION, WordFault, read_words};
 use outputs::Out;
 use std::sync::Wait;
 use std::thread::Threads;
-use store_commands::{Schedule, Work, audit_history, run_file, work_file};
+use store_commands::{Schedule, Work, audit_histories, run_file, work_file};
 use type_commands::{check_file, make_family, make_tables_of};
 
 /// Does what the words after the program's name ask for, with the files that the source holds, and answers
@@ -137,7 +137,11 @@ fn do_task<'a, R: AllocGlobal + Threads + Wait + Sync, S: Source, W: Out>(
             };
             work_file(rt, work, jobs, &types, source, out)
         }
-        Task::Audit { history, types } => audit_history(alloc, history, &types, source, out),
+        Task::Audit {
+            history,
+            later,
+            types,
+        } => audit_histories(alloc, history, &later, &types, source, out),
         Task::Help { topic } => put_answer(Verdict::Yes, topic.text().as_bytes(), out),
         Task::Version => put_answer(Verdict::Yes, VERSION.as_bytes(), out),
     }

@@ -4,3 +4,5 @@
 mod laws;
 
 pub use laws::{closed_is_epoch, epochs_are_serial, epochs_go_on, states_are_inside};
+
+pub mod worked;

@@ -1,14 +1,13 @@
 -- Two audits of the same events say the same.
-use Rattle.std.proofs.Common.{◌≡◌, ℕ, zero, suc, ◌<◌, List, [], ◌∷◌, ◌++◌, length, take, Option, Some, None, slice_get, Result, Ok, Err, inl, inr, ◌⊎◌, refl, sym, ap, subst, ◌∙◌, arith}
+use Rattle.std.proofs.Common.{◌≡◌, ℕ, zero, suc, ◌<◌, List, [], ◌∷◌, ◌++◌, length, take, Some, slice_get, Ok, Err, inl, inr, refl, sym, ap, subst, ◌∙◌, arith}
 use Rattle.std.proofs.lemmas.Option.{same_Some}
 use Rattle.type_table.specs.Table.{Table}
 use Rattle.type_table.specs.Laws.{RunsAlong}
 use Rattle.object_trait.specs.declared.event.Event.{Event}
-use Rattle.serial_order.specs.History.{seen, MayStand, GoesOn, IsHistory}
-use Rattle.history_audit.specs.Audit.{Audits, IsAudit, IsFirstBad, ComesBefore, IsIllegalAt, IsFirstIllegal}
-use Rattle.history_audit.specs.Laws.{SaysAlike, AuditsAgree, AlikeIsWritten}
+use Rattle.serial_order.specs.History.{seen, MayStand, GoesOn}
+use Rattle.history_audit.specs.Audit.{IsAudit, IsFirstBad, ComesBefore, IsFirstIllegal}
+use Rattle.history_audit.specs.Laws.{AuditsAgree, AlikeIsWritten}
 use Rattle.history_audit.specs.Text.{audit_text}
-use Rattle.history_audit.specs.declared.outcome.Audit.{Audit}
 use Rattle.history_audit.specs.declared.outcome.AuditFault.{AuditFault}
 use Rattle.history_audit.specs.declared.outcome.AuditFault.TheVariants.{BadEvent, IllegalOp, NoMemory}
 use Rattle.history_audit.proofs.Serials.{audited-serial, serial-each, never-bad, stands-at}

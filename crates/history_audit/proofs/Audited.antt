@@ -1,5 +1,5 @@
 -- One more event of an audit.
-use Rattle.std.proofs.Common.{◌≡◌, ℕ, ◌+◌, ◌<◌, List, [], ◌∷◌, ◌++◌, length, map, take, get_or, Option, Some, None, Result, Ok, Err, MatchOption, MatchResult, slice_get, refl, sym, ap, subst, ◌∙◌, append-nil}
+use Rattle.std.proofs.Common.{◌≡◌, ℕ, ◌+◌, ◌<◌, List, [], ◌∷◌, ◌++◌, length, map, take, get_or, Option, Some, None, Result, Ok, Err, MatchOption, MatchResult, IfOk, slice_get, refl, sym, ap, subst, ◌∙◌, append-nil}
 use Rattle.std.specs.Result.{IsOkAnd}
 use Rattle.std.proofs.lemmas.Option.{none-some, same_Some, slice_get-get_or}
 use Rattle.type_table.specs.Table.{Table}
@@ -229,3 +229,18 @@ pub outcome-audited : (tables : List Table) (H : List Event) (a : Auditor) (resu
     → MatchOption a.illegal (IsOkAnd result (λ b. (b.order.items ≡ a.order.items) × (b.finals.items ≡ a.states.items))) (λ p. result ≡ Err (IllegalOp p.commit_index p.object p.op_index))
     → Audits tables H result
 outcome-audited tables H a result known said = said-at_last tables H a.order.items a.states.items a.illegal result known.history known.so_far said
+
+-- the states of a yes are those that were kept
+ready-at_last : (tables : List Table) (order states : List ℕ) (illegal : Option Illegal) (result : Result Audit AuditFault) → AreStates tables states
+    → MatchOption illegal (IsOkAnd result (λ a. (a.order.items ≡ order) × (a.finals.items ≡ states))) (λ p. result ≡ Err (IllegalOp p.commit_index p.object p.op_index))
+    → IfOk result (λ a. AreStates tables a.finals.items)
+ready-at_last tables order states None (Ok a) ready said = rw said.1 ready
+ready-at_last tables order states None (Err fault) ready said = absurd said
+ready-at_last tables order states (Some p) result ready said =
+    let P : Result Audit AuditFault → Type 0 = λ r. IfOk r (λ a. AreStates tables a.finals.items) in
+    subst P (sym said) tt
+
+pub outcome-ready : (tables : List Table) (a : Auditor) (result : Result Audit AuditFault) → AreStates tables a.states.items
+    → MatchOption a.illegal (IsOkAnd result (λ b. (b.order.items ≡ a.order.items) × (b.finals.items ≡ a.states.items))) (λ p. result ≡ Err (IllegalOp p.commit_index p.object p.op_index))
+    → IfOk result (λ b. AreStates tables b.finals.items)
+outcome-ready tables a result ready said = ready-at_last tables a.order.items a.states.items a.illegal result ready said

@@ -6,6 +6,10 @@ pub mod Judged
 pub mod Lines
 pub mod Serials
 pub mod Said
+pub mod EpochTables
+pub mod EpochAudits
+pub mod SerialsOver
+pub mod EpochsPassed
 pub mod Lists
 pub mod Replayed
 pub mod Kept

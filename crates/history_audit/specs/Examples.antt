@@ -48,3 +48,7 @@ two_ups_rows = Some (operation 1 0 ∷ operation 0 0 ∷ []) ∷ None ∷ []
 -- the rows where the last operation is struck
 abbrev pub one_up_rows : List (Option (List Operation))
 one_up_rows = Some (operation 1 0 ∷ []) ∷ None ∷ []
+
+-- one counts up and commits, and in the next history one counts down and commits
+abbrev pub up_then_down : List (List Event)
+up_then_down = events (Begin 0 ∷ Op 0 0 0 ∷ Commit 0 ∷ []) ∷ events (Begin 0 ∷ Op 0 0 1 ∷ Commit 0 ∷ []) ∷ []

@@ -3,8 +3,10 @@ pub mod Moves
 pub mod Slots
 pub mod Judges
 pub mod Audit
+pub mod Epochs
 pub mod Replay
 pub mod Auditor
 pub mod Text
+pub mod EpochText
 pub mod Laws
 pub mod Examples

@@ -1,5 +1,6 @@
-ghost use Rattle.std.specs.Prelude.{map};
+ghost use Rattle.std.specs.Prelude.{map, IfOk};
 ghost use Rattle.history_audit.specs.Audit.{Audits};
+ghost use Rattle.history_audit.specs.Replay.{AreStates};
 
 use crate::auditor::Auditor;
 use crate::outcome::{Audit, AuditFault};
@@ -8,14 +9,16 @@ use std::alloc::{AllocError, Global};
 use type_table::TypeTable;
 
 /// Audits events at objects of these tables, in time linear in the events. At `Ok` the events are a history and
-/// serially legal.
+/// serially legal, and each serial state is one of its
+/// object's table.
 ///
 /// # Errors
 ///
 /// `BadEvent` where the events are no history, with the first bad one; `IllegalOp` where they are one that isn't
 /// serially legal, with the first illegal operation; `NoMemory` where memory was refused.
 pub fn audit(alloc: Global, events: &[Event], tables: &[&TypeTable]) -> Result<Audit, AuditFault>
-    ensures { Audits (map (λ t. t.now) tables.now) events.now result }
+    ensures audits { Audits (map (λ t. t.now) tables.now) events.now result }
+    ensures states { IfOk result (λ a. AreStates (map (λ t. t.now) tables.now) a.finals.items) }
 {
     let mut auditor = match Auditor::new(alloc, tables) {
         Ok(auditor) => auditor,

@@ -3,11 +3,13 @@
 ghost use Rattle.std.specs.Prelude.{[]};
 ghost use Rattle.serial_order.specs.History.{seen};
 ghost use Rattle.history_audit.specs.Rows.{AreRows};
+ghost use Rattle.history_audit.specs.Epochs.{EpochsDecide, EpochsPass, YesIsSerialOver};
 ghost use Rattle.history_audit.specs.Moves.{MovedRowsAgree};
 ghost use Rattle.history_audit.specs.Laws.{YesIsSerial, SerialHistoriesPass, RunsPass, AuditDecides, AuditsAgree, AlikeIsWritten};
 
+use epochs::epochs_are_serial;
 use serial_order::{headline, history_opens_after, own_after, run_is_history, seen_after};
-use type_table::runs_along;
+use type_table::{runs_alike, runs_along};
 
 /// What the audit says yes to is serially legal, for any objects of these tables.
 #[tactic(auto, using(crate::proofs::Said::yes_is_serial))]
@@ -63,4 +65,35 @@ pub fn audits_agree()
     ensures lines { AlikeIsWritten }
 {
     runs_along();
+}
+
+/// A yes to histories one after another says that their serial order, history after history, is legal from
+/// the first initial states, and where it leads.
+#[tactic(auto, using(crate::proofs::SerialsOver::yes_is_serial_over))]
+pub fn yes_is_serial_over()
+    ensures { YesIsSerialOver }
+{
+    runs_along();
+    runs_alike();
+}
+
+/// Where memory wasn't refused, the audit says yes exactly to histories whose serial order, history after
+/// history, is legal.
+#[tactic(auto, using(crate::proofs::SerialsOver::epochs_decide))]
+pub fn epochs_decide()
+    ensures { EpochsDecide }
+{
+    runs_along();
+    runs_alike();
+}
+
+/// The histories of epochs of checked types pass, or memory was refused: each is audited from the serial
+/// states, of which the kept ones, at which its objects begin, may only look like them.
+#[tactic(auto, using(crate::proofs::EpochsPassed::epochs_pass))]
+pub fn epochs_pass()
+    ensures { EpochsPass }
+{
+    run_is_history();
+    epochs_are_serial();
+    epochs_decide();
 }

@@ -4,6 +4,8 @@
 
 mod auditing;
 mod auditor;
+mod epoch_lines;
+mod epochs;
 mod event_fault;
 mod judge;
 mod laws;
@@ -15,8 +17,13 @@ mod slots;
 mod write;
 
 pub use auditing::audit;
-pub use laws::{audit_decides, audits_agree, runs_pass, serial_histories_pass, yes_is_serial};
-pub use outcome::{Audit, AuditFault};
+pub use epoch_lines::write_epochs;
+pub use epochs::audit_epochs;
+pub use laws::{
+    audit_decides, audits_agree, epochs_decide, epochs_pass, runs_pass, serial_histories_pass,
+    yes_is_serial, yes_is_serial_over,
+};
+pub use outcome::{Audit, AuditFault, EpochFault};
 pub use outputs::{Out, OutFault};
 pub use write::write_audit;
 

@@ -1,3 +1,7 @@
+ghost use Rattle.std.specs.Prelude.{◌≡◌};
+ghost use Rattle.history_audit.specs.declared.outcome.AuditFault.TheVariants.{NoMemory};
+
+use std::alloc::{AllocError, AllocFailed};
 use thiserror::Error;
 
 /// What the audit of a history that it accepts has found.
@@ -31,4 +35,36 @@ pub enum AuditFault {
     /// Memory was refused.
     #[error("NoMemory")]
     NoMemory,
+}
+
+/// Why an audit of histories one after another has no yes.
+#[derive(Clone, Copy, Debug, PartialEq, Eq, Error)]
+#[error("epoch {epoch}: {fault}")]
+pub struct EpochFault {
+    /// The place of the history that has none, from 0.
+    pub epoch: usize,
+    /// Why it has none.
+    pub fault: AuditFault,
+}
+
+impl From<AllocError> for EpochFault {
+    ghost from_gives = { λ _ fault. fault.fault ≡ NoMemory };
+
+    fn from(_error: AllocError) -> EpochFault {
+        EpochFault {
+            epoch: 0,
+            fault: AuditFault::NoMemory,
+        }
+    }
+}
+
+impl<T: Drop> From<AllocFailed<T>> for EpochFault {
+    ghost from_gives = { λ _ fault. fault.fault ≡ NoMemory };
+
+    fn from(_error: AllocFailed<T>) -> EpochFault {
+        EpochFault {
+            epoch: 0,
+            fault: AuditFault::NoMemory,
+        }
+    }
 }

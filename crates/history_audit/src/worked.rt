@@ -4,6 +4,7 @@
 ghost use Rattle.std.specs.Prelude.{◌≡◌, [], ◌∷◌, ◌++◌, Some, None, Ok, Err, codes};
 ghost use Rattle.type_table.specs.Run.{run};
 ghost use Rattle.type_table.specs.Examples.{counter, one_way};
+ghost use Rattle.type_table.specs.Table.{table_at};
 ghost use Rattle.object_trait.specs.declared.event.EventKind.TheVariants as kind;
 ghost use Rattle.serial_order.specs.History.{seen, IsHistory};
 ghost use Rattle.serial_order.specs.Examples.{one_way_history, unlocked_history, two_objects_history};
@@ -15,9 +16,11 @@ ghost use Rattle.history_audit.specs.Audit.{IsAudit, IsFirstBad, IsIllegalAt, Is
 ghost use Rattle.history_audit.specs.Replay.{ops_at, states_after, stop_after};
 ghost use Rattle.history_audit.specs.Auditor.{illegal_at};
 ghost use Rattle.history_audit.specs.Laws.{SaysAlike};
+ghost use Rattle.history_audit.specs.Epochs.{AreAudits, AreHistories, serial_over, tables_at};
+ghost use Rattle.history_audit.specs.EpochText.{commit_line_in, fault_line, numbered};
 ghost use Rattle.history_audit.specs.Text.{comment, commit_line, serial_line, audit_text};
 ghost use Rattle.history_audit.specs.declared.outcome.Audit.{Audit as AuditValue};
-ghost use Rattle.history_audit.specs.Examples.{two_counters, too_many_history, two_stops_history, two_stops, down_at, up_at, stop_at, operation, two_ups, two_ups_rows, one_up_rows};
+ghost use Rattle.history_audit.specs.Examples.{two_counters, too_many_history, two_stops_history, two_stops, down_at, up_at, stop_at, operation, two_ups, two_ups_rows, one_up_rows, up_then_down};
 
 use crate::laws::{moved_rows_agree, nothing_began};
 use crate::outcome::AuditFault;
@@ -123,4 +126,25 @@ pub fn outcomes_say_alike()
     ensures same { SaysAlike (Err (AuditFault.IllegalOp 0 1 2)) (Err (AuditFault.IllegalOp 0 1 2)) }
     ensures another_number { SaysAlike (Err (AuditFault.BadEvent 2)) (Err (AuditFault.BadEvent 3)) → ⊥ }
     ensures a_yes { (a : AuditValue) → SaysAlike (Ok a) (Err (AuditFault.BadEvent 2)) → ⊥ }
+{}
+
+/// A counter is counted up in one history and down in the next: each has a yes, since the second begins where
+/// the first ends, and the serial order is both. In the other order the first isn't legal.
+pub fn histories_follow_one_another()
+    ensures begins { tables_at two_counters (1 ∷ 0 ∷ []) ≡ table_at counter 1 ∷ table_at counter 0 ∷ [] }
+    ensures all { AreHistories two_counters up_then_down }
+    ensures serial { serial_over 0 up_then_down ≡ 0 ∷ 1 ∷ [] }
+    ensures leads { run counter (Some 0) (serial_over 0 up_then_down) ≡ Some 0 }
+    ensures audits { (a b : AuditValue) → a.order.items ≡ 0 ∷ [] → a.finals.items ≡ 1 ∷ [] → b.order.items ≡ 0 ∷ [] → b.finals.items ≡ 0 ∷ []
+        → AreAudits (counter ∷ []) up_then_down (a ∷ b ∷ []) }
+    ensures turned { run counter (Some 0) (1 ∷ 0 ∷ []) ≡ None }
+{}
+
+/// The lines of an audit of several histories have the history's place before its numbers.
+pub fn lines_of_histories()
+    ensures number { numbered 2 40 ≡ codes "2.40" }
+    ensures committed { commit_line_in 1 12 ≡ codes "# commit 1.12\n" }
+    ensures bad { fault_line 1 (AuditFault.BadEvent 2) ≡ codes "# audit no BadEvent 1.2\n" }
+    ensures illegal { fault_line 3 (AuditFault.IllegalOp 10 1 2) ≡ codes "# audit no IllegalOp 3.10 1 2\n" }
+    ensures nothing { fault_line 3 AuditFault.NoMemory ≡ [] }
 {}

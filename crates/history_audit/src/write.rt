@@ -60,7 +60,7 @@ fn write_commit<W: Out>(t: u32, out: &mut W) -> Result<(), OutFault>
 }
 
 /// Writes the lines of the objects.
-fn write_finals<W: Out>(finals: &[u16], out: &mut W) -> Result<(), OutFault>
+pub fn write_finals<W: Out>(finals: &[u16], out: &mut W) -> Result<(), OutFault>
     requires { W.fault out.old ≡ None }
     ensures { Puts (W.taken out.old) (W.taken out.new) (W.fault out.new) (flat_map serial_line (enumerate_from 0 finals.now)) result }
 {

@@ -1,5 +1,5 @@
 -- Rows in slots, as the calls read and write them: k is the slot that was read for an open transaction t.
-use Rattle.std.proofs.Common.{◌≡◌, ℕ, ◌+◌, ◌-◌, ◌<◌, ◌≢◌, true, false, List, [], ◌∷◌, ◌++◌, length, map, take, set, get_or, refl, sym, ap, subst, ◌∙◌, inl, inr, arith, not, eqb, Option, None}
+use Rattle.std.proofs.Common.{◌≡◌, ℕ, ◌+◌, ◌-◌, ◌<◌, ◌≢◌, true, false, List, [], ◌∷◌, ◌++◌, length, map, take, set, get_or, sym, ap, subst, ◌∙◌, inl, inr, arith, not, eqb, Option, None}
 use Rattle.std.specs.Option.{option_map, is_some}
 use Rattle.std.specs.List.{swap_remove}
 use Rattle.std.proofs.lemmas.Bool.{cases_eq, eq-eqb, ne_eqb}
@@ -7,7 +7,6 @@ use Rattle.std.proofs.lemmas.List.{length-map, get_or-map, get_or-set_same, get_
 use Rattle.open_transactions.specs.declared.open_transactions.OpenTransaction.{OpenTransaction}
 use Rattle.open_transactions.specs.Transactions.{Row, row, is_open, count_open, changed}
 use Rattle.open_transactions.specs.Slots.{slot_of, row_of, room_of, rows_of, rooms_of, numbers_of, AreSlots}
-use Rattle.open_transactions.proofs.Looked.{slot-began}
 use Rattle.open_transactions.proofs.Rows.{closed-row, slot-open, open-slot, row-open, rows-set, slots-set, room-set, rows-without, slots-without, number-began, rows-more, slots-more}
 
 -- t is open where its slot is one

@@ -1,4 +1,4 @@
-pub mod Trimmed
+pub mod Cut
 pub mod Looked
 pub mod Ended
 pub mod Counts

@@ -92,7 +92,7 @@ impl OpenTransactions {
         requires { is_open self.now.rows t ≡ true }
         ensures { result ≡ worker_of (row self.now.rows t) }
     {
-        let slot = self.index.slot(t) as usize;
+        let slot = self.index.open_slot(t) as usize;
         self.slots[slot].worker
     }
 
@@ -101,7 +101,7 @@ impl OpenTransactions {
         requires { is_open self.now.rows t ≡ true }
         ensures { result.now ≡ places_of (row self.now.rows t) }
     {
-        let slot = self.index.slot(t) as usize;
+        let slot = self.index.open_slot(t) as usize;
         self.slots[slot].places.as_slice()
     }
 
@@ -142,7 +142,7 @@ impl OpenTransactions {
         ensures rows { self.new.rows ≡ self.old.rows }
         ensures room { OnOk result (0 < slice_index self.new.room_to_push t) }
     {
-        let slot = self.index.slot(t) as usize;
+        let slot = self.index.open_slot(t) as usize;
         reserve_one(&mut self.slots[slot].places)
     }
 
@@ -152,7 +152,7 @@ impl OpenTransactions {
         requires room { 0 < slice_index self.old.room_to_push t }
         ensures { self.new.rows ≡ changed self.old.rows t (pushed x) }
     {
-        let slot = self.index.slot(t) as usize;
+        let slot = self.index.open_slot(t) as usize;
         self.slots[slot].places.push_reserved(x);
     }
 
@@ -161,7 +161,7 @@ impl OpenTransactions {
         requires { is_open self.old.rows t ≡ true }
         ensures { self.new.rows ≡ changed self.old.rows t (kept n) }
     {
-        let slot = self.index.slot(t) as usize;
+        let slot = self.index.open_slot(t) as usize;
         self.slots[slot].places.truncate(n as usize);
     }
 
@@ -171,7 +171,7 @@ impl OpenTransactions {
         ensures rows { self.new.rows ≡ slice_set self.old.rows t None }
         ensures count { count_open self.new.rows + 1 ≡ count_open self.old.rows }
     {
-        let slot = self.index.slot(t);
+        let slot = self.index.open_slot(t);
         // the transaction in the last slot goes to the slot of t
         let last = self.slots.len() - 1;
         let moved = self.slots[last].number;

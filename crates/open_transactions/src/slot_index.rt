@@ -1,36 +1,42 @@
-ghost use Rattle.std.specs.Prelude.{◌≡◌, ◌≢◌, ◌+◌, ◌<◌, ◌≤◌, [], ◌∷◌, ◌++◌, ℕ, length, replicate, set, OnOk, slice_index_or};
-ghost use Rattle.open_transactions.specs.Index.{IsTrimmed};
+ghost use Rattle.std.specs.Prelude.{◌≡◌, ◌≢◌, ◌+◌, ◌<◌, ◌≤◌, [], ◌∷◌, ◌++◌, ℕ, length, set, drop, vec_len, vec_capacity, OnOk, slice_index_or};
+ghost use Rattle.open_transactions.specs.Index.{HaveEnded};
 
 use std::alloc::{AllocError, Global};
-use std::collections::VecDeque;
 use std::marker::Model;
 
 /// In place of a slot: the transaction ended.
 pub const ENDED: u16 = u16::MAX;
 
-/// The slot of each transaction that began, by its number. It takes two bytes for each that began since the
-/// oldest open one, and nothing for those before it.
+// for how many more there is room at least where memory was taken, so that a small store takes it once
+const LEAST_ROOM: usize = 32;
+
+/// The slot of each transaction that began, by its number.
+///
+/// It takes two bytes for each that began since the oldest open one, and for those before it, which ended, that aren't
+/// cut off yet. Where there is no room, these are cut off if they are an eighth of all, and else memory doubles. So it
+/// has at most five bytes for each of the most that ever were since the oldest open one, and 64 more.
 #[derive(Drop)]
 pub struct SlotIndex {
-    // how many ended before the oldest open one began
+    // how many were cut off in front, which ended
+    cut: u32,
+    // how many of the others ended before the oldest open one began
     ended: u32,
-    // the slot of each since
-    slots: VecDeque<u16>,
+    // the slot of each that isn't cut off
+    slots: Vec<u16>,
 }
 
 impl Model for SlotIndex {
-    ghost use Rattle.std.specs.Prelude.{◌≤◌, ◌-◌, ◌++◌, length, replicate};
-    ghost use Rattle.std.specs.VecDeque.{deque_len, deque_capacity};
-    ghost use Rattle.open_transactions.specs.Index.{Index, IsTrimmed};
+    ghost use Rattle.std.specs.Prelude.{◌≤◌, ◌-◌, ◌++◌, length, replicate, vec_len, vec_capacity};
+    ghost use Rattle.open_transactions.specs.Index.{Index, HaveEnded};
 
     ghost Value = { Index };
 
     ghost view = { λ a. record {
-      slots = replicate a.ended 65535 ++ a.slots.items;
-      room = deque_capacity a.slots - deque_len a.slots;
+      slots = replicate a.cut 65535 ++ a.slots.items;
+      room = vec_capacity a.slots - vec_len a.slots;
     } };
 
-    ghost invariant = { λ a. (length (replicate a.ended 65535 ++ a.slots.items) ≤ 4294967295) × IsTrimmed a.slots.items };
+    ghost invariant = { λ a. (length (replicate a.cut 65535 ++ a.slots.items) ≤ 4294967295) × HaveEnded a.ended a.slots.items };
 }
 
 impl SlotIndex {
@@ -39,49 +45,86 @@ impl SlotIndex {
         ensures { result.slots ≡ [] }
     {
         SlotIndex {
+            cut: 0,
             ended: 0,
-            slots: VecDeque::new(alloc),
+            slots: Vec::new(alloc),
         }
     }
 
     /// How many began.
+    #[inline(always)]
     pub fn begun(&self) -> u32
         ensures { result ≡ length self.now.slots }
     {
-        self.ended + self.slots.len() as u32
+        self.cut + self.slots.len() as u32
     }
 
     /// A number before which all have ended: that of the oldest open one, or how many began where none is.
+    #[inline(always)]
     pub fn oldest(&self) -> u32
         ensures within { result ≤ length self.now.slots }
         ensures ended { (t : ℕ) → t < result → slice_index_or self.now.slots t 65535 ≡ 65535 }
         ensures oldest { result < length self.now.slots → slice_index_or self.now.slots result 65535 ≢ 65535 }
     {
-        self.ended
+        self.cut + self.ended
     }
 
     /// The slot of t, `ENDED` where it ended or never began.
+    #[inline(always)]
     pub fn slot(&self, t: u32) -> u16
         ensures { result ≡ slice_index_or self.now.slots t 65535 }
     {
-        if t < self.ended {
+        if t < self.cut {
             return ENDED;
         }
-        match self.slots.get((t - self.ended) as usize) {
+        match self.slots.get((t - self.cut) as usize) {
             Some(slot) => *slot,
             None => ENDED,
         }
     }
 
+    /// The slot of t, which is open.
+    #[inline(always)]
+    pub fn open_slot(&self, t: u32) -> u16
+        requires { slice_index_or self.now.slots t 65535 ≢ 65535 }
+        ensures { result ≡ slice_index_or self.now.slots t 65535 }
+    {
+        let place = (t - self.cut) as usize;
+        self.slots[place]
+    }
+
     /// Makes room for one more.
+    #[inline(always)]
     pub fn reserve(&mut self) -> Result<(), AllocError>
         ensures slots { self.new.slots ≡ self.old.slots }
         ensures room { OnOk result (0 < self.new.room) }
     {
-        self.slots.reserve(1)
+        if self.slots.len() < self.slots.capacity() {
+            return Ok(());
+        }
+        self.make_room()
+    }
+
+    /// Makes room for one more where there is none: cuts off those that ended in front, if they are an eighth of all,
+    /// so that few are moved for each that begins, and else takes memory.
+    #[cold]
+    #[inline(never)]
+    fn make_room(&mut self) -> Result<(), AllocError>
+        ensures slots { self.new.slots ≡ self.old.slots }
+        ensures room { OnOk result (0 < self.new.room) }
+    {
+        let ended = self.ended;
+        if ended == 0 || (ended as usize) < self.slots.len() / 8 {
+            return self.slots.reserve(LEAST_ROOM);
+        }
+        cut_off(&mut self.slots, ended as usize);
+        self.cut += ended;
+        self.ended = 0;
+        Ok(())
     }
 
     /// One more begins, with this slot. It takes no memory.
+    #[inline(always)]
     pub fn push_reserved(&mut self, slot: u16)
         requires room { 0 < self.old.room }
         requires fits { length self.old.slots < 4294967295 }
@@ -89,41 +132,57 @@ impl SlotIndex {
         ensures slots { self.new.slots ≡ self.old.slots ++ slot ∷ [] }
         ensures room { self.new.room + 1 ≡ self.old.room }
     {
-        self.slots.push_back_reserved(slot);
+        self.slots.push_reserved(slot);
     }
 
     /// t, which is open, has another slot.
+    #[inline(always)]
     pub fn put(&mut self, t: u32, slot: u16)
         requires still_open { slice_index_or self.old.slots t 65535 ≢ 65535 }
         requires slot { slot ≢ 65535 }
         ensures slots { self.new.slots ≡ set self.old.slots t slot }
         ensures room { self.new.room ≡ self.old.room }
     {
-        let place = (t - self.ended) as usize;
+        let place = (t - self.cut) as usize;
         self.slots[place] = slot;
     }
 
     /// t, which is open, ends. It takes no memory.
+    #[inline(always)]
     pub fn end(&mut self, t: u32)
         requires { slice_index_or self.old.slots t 65535 ≢ 65535 }
         ensures { self.new.slots ≡ set self.old.slots t 65535 }
     {
-        let place = (t - self.ended) as usize;
-        self.slots[place] = ENDED;
-        self.ended += trim(&mut self.slots);
+        let place = t - self.cut;
+        self.slots[place as usize] = ENDED;
+        if place == self.ended {
+            self.ended += count_ended(&self.slots[place as usize..]);
+        }
     }
 }
 
-/// Gives up the slots of those that ended before the oldest open one began, and tells how many.
-fn trim(slots: &mut VecDeque<u16>) -> u32
-    requires { length slots.old.items ≤ 4294967295 }
-    ensures slots { replicate result 65535 ++ slots.new.items ≡ slots.old.items }
-    ensures trimmed { IsTrimmed slots.new.items }
+/// How many ended before the oldest open one of these began.
+fn count_ended(slots: &[u16]) -> u32
+    requires { length slots.now ≤ 4294967295 }
+    ensures { HaveEnded result slots.now }
 {
     let mut count = 0;
-    while slots.front() == Some(&ENDED) {
-        slots.pop_front();
+    for &slot in slots {
+        if slot != ENDED {
+            return count;
+        }
         count += 1;
     }
     count
+}
+
+/// Cuts off the first ones, as many as that. It takes no memory.
+fn cut_off(slots: &mut Vec<u16>, count: usize)
+    requires { count ≤ vec_len slots.old }
+    ensures rest { slots.new.items ≡ drop count slots.old.items }
+    ensures capacity { vec_capacity slots.new ≡ vec_capacity slots.old }
+{
+    let left = slots.len() - count;
+    slots.copy_within(count.., 0);
+    slots.truncate(left);
 }

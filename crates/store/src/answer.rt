@@ -36,6 +36,7 @@ impl<R: Recovery> Store<R> {
     }
 
     /// Gives t's call at object x the answer that it has there.
+    #[inline(always)]
     pub(crate) fn give(
         &mut self,
         w: u8,

@@ -64,6 +64,7 @@ impl<R: Recovery> Store<R> {
     }
 
     /// The answer that t's call at object x has, which is there.
+    #[inline(always)]
     pub(crate) fn chosen(&self, t: u32, x: u8, call: Call) -> Answer
         requires still_open { is_open (seen self.now.history) t ≡ true }
         requires call { (o : Object) × (slice_get (objects self.now) x ≡ Some o) × IsCall o.table call }

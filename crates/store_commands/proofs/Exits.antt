@@ -1,5 +1,5 @@
 -- What comes of a command that a part of it refused.
-use Rattle.std.proofs.Common.{◌≡◌, ℕ, List, Option, Result, Ok, Err, IsErrAnd, subst, sym, refl}
+use Rattle.std.proofs.Common.{◌≡◌, ℕ, List, Option, Result, Ok, Err, IsErrAnd, subst, sym}
 use Rattle.command_files.specs.Answers.{Answers, ComesOr, Faults, Refuses}
 use Rattle.command_files.specs.declared.fault.Fault.{Fault}
 use Rattle.command_files.specs.declared.status.Verdict.{Verdict}

@@ -1,5 +1,5 @@
 -- What comes of the files that a command over a store names.
-use Rattle.std.proofs.Common.{◌≡◌, ℕ, List, Option, Result, Ok, Err, IfSome, IsErrAnd, inl, inr}
+use Rattle.std.proofs.Common.{◌≡◌, ℕ, List, Option, Result, IfSome, IsErrAnd, inr}
 use Rattle.table_checker.specs.declared.refusal.CheckRefusal.{CheckRefusal}
 use Rattle.store_text.specs.declared.line.ObjectLine.{ObjectLine}
 use Rattle.command_files.specs.Answers.{Answers, ComesOr, Refuses}

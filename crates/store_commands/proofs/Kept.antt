@@ -2,27 +2,26 @@
 use Rattle.std.proofs.Common.{◌≡◌, ℕ, List, Option, IfSome, subst}
 use Rattle.table_checker.specs.Checked.{Checked}
 use Rattle.table_checker.specs.declared.refusal.CheckRefusal.{CheckRefusal}
-use Rattle.type_text.specs.declared.type_file.TypeFile.{TypeFile}
 use Rattle.store_text.specs.declared.line.ObjectLine.{ObjectLine}
-use Rattle.command_files.specs.Files.{IsFaulty, IsFileAt}
 use Rattle.store_files.specs.ObjectTypes.{AreTypesAt, HasNoType, HasTypeFault, IsRefusedAt, in_type, no_type}
-use Rattle.store_files.specs.Types.{AreFilesAt, Held, IsFirstFaulty}
+use Rattle.store_files.specs.Types.{AreReadAt, Held, IsFirstFaultyOf}
 
 module _ (holds later : Held) (kept : (other : List ℕ) → later other ≡ holds other) where
-  pub files_kept : (paths : List (List ℕ)) (files : List TypeFile) → AreFilesAt later paths files → AreFilesAt holds paths files
-  files_kept paths files are = record {
+  pub files_kept : {T : Type 0} {describes : List ℕ → T → Type 0} (paths : List (List ℕ)) (values : List T) → AreReadAt describes later paths values → AreReadAt describes holds paths values
+  files_kept {T} {describes} paths values are = record {
     as_many = are.as_many;
-    each = λ k path file at there. subst (λ (o : Option (List ℕ)). IsFileAt o file) (kept path) (are.each k path file at there);
+    each = λ k path value at there. subst (λ (o : Option (List ℕ)). IfSome o (λ text. describes text value)) (kept path) (are.each k path value at there);
   }
 
-  pub faulty_kept : (paths : List (List ℕ)) → IsFirstFaulty later paths → IsFirstFaulty holds paths
-  faulty_kept paths first = record {
+  pub faulty_kept : {T : Type 0} {describes : List ℕ → T → Type 0} {is_faulty : List ℕ → Type 0} (paths : List (List ℕ)) → IsFirstFaultyOf describes is_faulty later paths
+      → IsFirstFaultyOf describes is_faulty holds paths
+  faulty_kept {T} {describes} {is_faulty} paths first = record {
     k = first.k;
     path = first.path;
     there = first.there;
-    files = first.files;
-    before = files_kept _ first.files first.before;
-    faulty = subst (λ (o : Option (List ℕ)). IfSome o IsFaulty) (kept first.path) first.faulty;
+    values = first.values;
+    before = files_kept _ first.values first.before;
+    faulty = subst (λ (o : Option (List ℕ)). IfSome o is_faulty) (kept first.path) first.faulty;
   }
 
   pub types_kept : (words : List (List ℕ)) (objects : List ObjectLine) (types : List Checked) → AreTypesAt later words objects types → AreTypesAt holds words objects types

@@ -1,4 +1,5 @@
 pub mod Audits
+pub mod SeveralAudits
 pub mod Exits
 pub mod Files
 pub mod Kept

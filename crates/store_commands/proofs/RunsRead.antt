@@ -1,5 +1,5 @@
 -- The text of a run is read as its history, and an audit of it says the same.
-use Rattle.std.proofs.Common.{◌≡◌, ℕ, ◌+◌, ◌<◌, ◌≤◌, ◌^◌, List, [], ◌∷◌, ◌++◌, length, map, Option, Some, None, Result, Ok, Err, refl, sym, ap, ◌∙◌, subst, arith}
+use Rattle.std.proofs.Common.{◌≡◌, ℕ, ◌<◌, ◌≤◌, ◌^◌, List, [], ◌∷◌, ◌++◌, length, map, Some, Result, Ok, sym, ap, ◌∙◌, subst, arith}
 use Rattle.std.specs.List.{AllByRecursion}
 use Rattle.std.proofs.lemmas.List.{length-map}
 use Rattle.std.specs.Prelude.{slice_get}
@@ -13,15 +13,12 @@ use Rattle.object_trait.specs.declared.event.Event.{Event}
 use Rattle.serial_order.specs.After.{NumbersInRun}
 use Rattle.store_laws.specs.Stored.{Stored, objects}
 use Rattle.store_text.specs.Body.{store_rules}
-use Rattle.store_text.specs.Parts.{Reads}
 use Rattle.store_text.specs.Said.{objects_of, entries_of}
 use Rattle.store_text.specs.declared.line.ObjectLine.{ObjectLine}
 use Rattle.script_text.specs.Script.{IsFit}
 use Rattle.script_text.specs.declared.script.Script.{Script}
-use Rattle.history_text.specs.Canonical.{AreInRange, CanonicalIsRead, IsFileWith, canonical_lines}
+use Rattle.history_text.specs.Canonical.{AreInRange, CanonicalIsRead, canonical_lines}
 use Rattle.history_text.specs.Events.{event_of, events}
-use Rattle.history_text.specs.History.{IsHistoryOf}
-use Rattle.history_text.specs.declared.history_file.HistoryFile.{HistoryFile}
 use Rattle.script_run.specs.Laws.{RunIsInRange, ScriptIsByOne, ScriptIsRead}
 use Rattle.script_run.specs.Running.{AreKept}
 use Rattle.script_run.specs.Turns.{history_after, script_turns, text_of}
@@ -29,15 +26,11 @@ use Rattle.history_audit.specs.Audit.{Audits}
 use Rattle.history_audit.specs.Laws.{AlikeIsWritten, AuditsAgree}
 use Rattle.history_audit.specs.Text.{audit_text}
 use Rattle.history_audit.specs.declared.outcome.Audit.{Audit}
-use Rattle.history_audit.specs.declared.outcome.AuditFault.{AuditFault}
-use Rattle.history_audit.specs.declared.outcome.AuditFault.TheVariants.{NoMemory}
 use Rattle.work_text.proofs.Comments.{audit_comments}
-use Rattle.store_files.specs.ObjectTypes.{AreTypesAt}
-use Rattle.store_files.specs.Types.{Held}
-use Rattle.store_commands.specs.Passing.{HasSerialRun, new_store, tables}
-use Rattle.store_commands.specs.Reading.{IsAuditedAs, IsReadAs, RunIsRead}
+use Rattle.store_commands.specs.Passing.{new_store, tables}
+use Rattle.store_commands.specs.Reading.{IsAuditedAs, IsReadAs}
 use Rattle.store_commands.specs.Runs.{IsRunOf}
-use Rattle.store_commands.proofs.Reading.{audit_short, ops_few, types_checked}
+use Rattle.store_commands.proofs.Reading.{audit_short, ops_few}
 
 same_Ok : {A E : Type 0} (r : Result A E) (x y : A) → r ≡ Ok x → r ≡ Ok y → x ≡ y
 same_Ok r x y first second = let same : x ≡ y = cc in same

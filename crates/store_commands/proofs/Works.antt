@@ -1,7 +1,6 @@
 -- What is written of workers, and what comes of it.
-use Rattle.std.proofs.Common.{◌≡◌, ◌∙◌, ◌⊎◌, ℕ, zero, suc, List, [], ◌++◌, length, take, map, Option, Some, None, Result, Ok, Err, false, true, refl, sym, ap, subst, inl, inr, ⊎_elim}
+use Rattle.std.proofs.Common.{◌≡◌, ◌∙◌, ℕ, List, [], take, map, Option, Result, Ok, Err, refl, sym, ap, subst, inl, inr, ⊎_elim}
 use Rattle.std.specs.Io.KnownBytes.{Appends}
-use Rattle.outputs.specs.Out.{Puts}
 use Rattle.outputs.specs.declared.out.OutFault.{OutFault}
 use Rattle.jobs_text.specs.Jobs.{calls_in}
 use Rattle.jobs_text.specs.declared.jobs_file.JobsFile.{JobsFile}
@@ -21,10 +20,9 @@ use Rattle.store_files.specs.ObjectTypes.{AreTypesAt, SaysRefused}
 use Rattle.store_files.specs.Types.{Held}
 use Rattle.store_commands.proofs.Kept.{types_kept}
 use Rattle.command_files.specs.declared.fault.Fault.{Fault}
-use Rattle.command_files.specs.declared.fault.Fault.TheVariants.{Usage, Text, NoType, BadParameter, TooLarge, CannotRead, NoMemory, Output}
+use Rattle.command_files.specs.declared.fault.Fault.TheVariants.{Usage, Text, NoType, OtherObjects, BadParameter, TooLarge, CannotRead, NoMemory, Output}
 use Rattle.command_files.specs.declared.status.Verdict.{Verdict}
 use Rattle.command_files.specs.declared.status.Verdict.TheVariants.{Yes, No}
-use Rattle.store_commands.specs.Passing.{IsPassed}
 use Rattle.store_commands.specs.Works.{AreJobsAt, BeginsWork, BeginsWorkFile, IsTextOf, IsWholeTextOf, IsWholeWork, TellsWork, WorksFile, WorksOf, WritesWorkFile, opening_of}
 
 module _ (file : JobsFile) (types : List Checked) (tries : ℕ) (o : Opening) (left : Stored) (reports : List Report) (lines : List ObjectLine) (fault : Option WorkFault)
@@ -82,6 +80,7 @@ module _ (file : JobsFile) (types : List Checked) (tries : ℕ) (o : Opening) (l
   told (Err (Usage text)) old new t = absurd t
   told (Err (Text path f)) old new t = absurd t
   told (Err (NoType path x place)) old new t = absurd t
+  told (Err (OtherObjects path first)) old new t = absurd t
   told (Err BadParameter) old new t = absurd t
   told (Err TooLarge) old new t = absurd t
   told (Err (CannotRead path)) old new t = absurd t

@@ -1,6 +1,6 @@
 -- The text of what workers did is read as its history, whatever they did.
-use Rattle.std.proofs.Common.{◌≡◌, ℕ, ◌+◌, ◌<◌, ◌≤◌, ◌^◌, true, List, length, map, Option, Some, None, Ok, refl, sym, ap, ◌∙◌, subst, arith}
-use Rattle.std.specs.Prelude.{All, Contains, ◌&&◌, nat_le, slice_get}
+use Rattle.std.proofs.Common.{◌≡◌, ℕ, ◌<◌, ◌≤◌, ◌^◌, List, length, map, Some, Ok, refl, sym, ap, ◌∙◌, subst, arith}
+use Rattle.std.specs.Prelude.{All, Contains, nat_le, slice_get}
 use Rattle.std.specs.List.{AllByRecursion}
 use Rattle.std.proofs.lemmas.Bool.{and_parts, leb-true}
 use Rattle.std.proofs.lemmas.List.{length-map}
@@ -19,7 +19,7 @@ use Rattle.store_text.specs.Body.{store_rules}
 use Rattle.jobs_text.specs.Jobs.{IsFit, calls_in}
 use Rattle.jobs_text.specs.declared.jobs_file.Job.{Job}
 use Rattle.jobs_text.specs.declared.jobs_file.JobsFile.{JobsFile}
-use Rattle.history_text.specs.Canonical.{AreInRange, CanonicalIsRead, canonical_lines}
+use Rattle.history_text.specs.Canonical.{AreInRange, CanonicalIsRead}
 use Rattle.history_text.specs.Events.{events}
 use Rattle.script_run.specs.Laws.{RunIsInRange}
 use Rattle.worker_turns.specs.declared.outcome.Outcome.{Outcome}

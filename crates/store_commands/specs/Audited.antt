@@ -1,16 +1,22 @@
--- What `audit HISTORY TYPE...` answers.
-use Rattle.std.specs.Prelude.{◌≡◌, ◌≢◌, ◌⊎◌, ℕ, List, IfSome, Result, Ok, Err}
+-- What `audit HISTORY [--then HISTORY]... TYPE...` answers.
+use Rattle.std.specs.Prelude.{◌≡◌, ◌≢◌, ◌⊎◌, ℕ, List, [], ◌∷◌, map, Vec, IfSome, Result, Ok, Err}
+use Rattle.std.specs.declared.alloc.Global.{Global}
+use Rattle.std.specs.List.{AllByRecursion}
 use Rattle.type_table.specs.Table.{Table}
 use Rattle.type_text.specs.declared.type_file.TypeFile.{TypeFile}
 use Rattle.history_text.specs.declared.history_file.HistoryFile.{HistoryFile}
+use Rattle.object_trait.specs.declared.event.Event.{Event}
 use Rattle.history_audit.specs.Audit.{Audits}
+use Rattle.history_audit.specs.Epochs.{AuditsEpochs}
+use Rattle.history_audit.specs.EpochText.{epochs_text}
 use Rattle.history_audit.specs.Text.{audit_text}
 use Rattle.history_audit.specs.declared.outcome.Audit.{Audit}
 use Rattle.history_audit.specs.declared.outcome.AuditFault.{AuditFault}
 use Rattle.history_audit.specs.declared.outcome.AuditFault.TheVariants.{NoMemory}
+use Rattle.history_audit.specs.declared.outcome.EpochFault.{EpochFault}
 use Rattle.command_files.specs.Answers.{Answers}
 use Rattle.command_files.specs.declared.status.Verdict.TheVariants.{Yes, No}
-use Rattle.store_files.specs.Histories.{DescribesHistory, IsFaultyHistory}
+use Rattle.store_files.specs.Histories.{AreHistoriesAt, DescribesHistory, IsFaultyHistory, IsFirstFaultyHistory}
 use Rattle.store_files.specs.Types.{Held, AreFilesAt, AreTablesOf, IsFirstFaulty, IsUnplaced}
 
 -- the audit of a history with the tables of its objects has this outcome, and the text is its lines
@@ -25,17 +31,48 @@ abbrev pub AuditsRead : HistoryFile → List TypeFile → Answers
 AuditsRead history files Yes text = (audit : Audit) × IsAuditOf history files (Ok audit) text
 AuditsRead history files No text = (fault : AuditFault) × (fault ≢ NoMemory) × IsAuditOf history files (Err fault) text
 
--- what was read for an audit: the history at its path, and the files of the TYPE words
-pub record AreAuditFiles (holds : Held) (path : List ℕ) (words : List (List ℕ)) (history : HistoryFile) (files : List TypeFile) : Type 0 where
-  pub history_held : IfSome (holds path) (λ text. DescribesHistory text history)
+-- the events of histories, the first and those that follow it
+abbrev pub events_of : HistoryFile → List HistoryFile → List (List Event)
+events_of first later = map (λ (h : HistoryFile). h.events.items) (first ∷ later)
+
+-- the audit of histories of the objects of the first, one after another, has this outcome, and the text is its lines
+pub record IsAuditOfAll (first : HistoryFile) (later : List HistoryFile) (files : List TypeFile) (outcome : Result (Vec Audit Global) EpochFault) (text : List ℕ) : Type 0 where
+  pub tables : List Table
+  pub are : AreTablesOf files first.objects.items tables
+  pub audits : AuditsEpochs tables (events_of first later) outcome
+  pub is : text ≡ epochs_text outcome
+
+-- yes with the orders and the last states, or no with the first fault
+abbrev pub AuditsEach : HistoryFile → List HistoryFile → List TypeFile → Answers
+AuditsEach first later files Yes text = (audits : Vec Audit Global) × IsAuditOfAll first later files (Ok audits) text
+AuditsEach first later files No text = (fault : EpochFault) × (fault.fault ≢ NoMemory) × IsAuditOfAll first later files (Err fault) text
+
+-- a history alone is audited as one, and several one after another
+abbrev pub AuditsAll : HistoryFile → List HistoryFile → List TypeFile → Answers
+AuditsAll first [] files = AuditsRead first files
+AuditsAll first (next ∷ later) files = AuditsEach first (next ∷ later) files
+
+-- each history that follows is of the objects of the first
+abbrev pub HaveObjects : HistoryFile → List HistoryFile → Type 0
+HaveObjects first later = AllByRecursion (λ (next : HistoryFile). next.objects.items ≡ first.objects.items) later
+
+-- what was read for an audit: the first history at its path, those that follow it, and the files of the TYPE words
+pub record AreAuditFiles (holds : Held) (path : List ℕ) (others : List (List ℕ)) (words : List (List ℕ)) (first : HistoryFile) (later : List HistoryFile) (files : List TypeFile) : Type 0 where
+  pub history_held : IfSome (holds path) (λ text. DescribesHistory text first)
+  pub later_held : AreHistoriesAt holds others later
   pub files_held : AreFilesAt holds words files
 
 -- the answer to what was read
-abbrev pub AuditsFile : Held → List ℕ → List (List ℕ) → Answers
-AuditsFile holds path words verdict text = (history : HistoryFile) × (files : List TypeFile) × AreAuditFiles holds path words history files × AuditsRead history files verdict text
+abbrev pub AuditsFiles : Held → List ℕ → List (List ℕ) → List (List ℕ) → Answers
+AuditsFiles holds path others words verdict text =
+    (first : HistoryFile) × (later : List HistoryFile) × (files : List TypeFile)
+    × AreAuditFiles holds path others words first later files × HaveObjects first later × AuditsAll first later files verdict text
 
--- the history's text has a fault, or the first of the types that has one; or an object names no type
-abbrev pub HasAuditFault : Held → List ℕ → List (List ℕ) → Type 0
-HasAuditFault holds path words =
+-- the text of a history has a fault, or the first of the types that has one; or a history that follows has other objects, or an object names no type
+abbrev pub HasAuditFault : Held → List ℕ → List (List ℕ) → List (List ℕ) → Type 0
+HasAuditFault holds path others words =
     IfSome (holds path) IsFaultyHistory
-    ⊎ (IsFirstFaulty holds words ⊎ ((history : HistoryFile) × (files : List TypeFile) × AreAuditFiles holds path words history files × IsUnplaced files history.objects.items))
+    ⊎ (IsFirstFaultyHistory holds others
+    ⊎ (IsFirstFaulty holds words
+    ⊎ ((first : HistoryFile) × (later : List HistoryFile) × (files : List TypeFile) × AreAuditFiles holds path others words first later files
+    × (¬ (HaveObjects first later) ⊎ IsUnplaced files first.objects.items))))

@@ -1,7 +1,6 @@
 -- That what `run`, `work` and `stress` write is the text of a history, and that an audit of it says what the text says.
 use Rattle.std.specs.Prelude.{◌≡◌, List, Ok, Err, Result, ℕ}
 use Rattle.line_text.specs.Outcome.{outcome_of}
-use Rattle.object_trait.specs.declared.event.Event.{Event}
 use Rattle.table_checker.specs.Checked.{Checked}
 use Rattle.store_laws.specs.Stored.{Stored}
 use Rattle.store_text.specs.Body.{store_rules}

@@ -3,7 +3,6 @@ use Rattle.std.specs.Prelude.{◌≡◌, ◌⊎◌, ℕ, List, [], ◌++◌, Som
 use Rattle.outputs.specs.declared.out.OutFault.{OutFault}
 use Rattle.table_checker.specs.Checked.{Checked}
 use Rattle.store_laws.specs.Stored.{Stored}
-use Rattle.store_text.specs.declared.line.ObjectLine.{ObjectLine}
 use Rattle.script_text.specs.Script.{IsFit}
 use Rattle.script_text.specs.declared.script.Script.{Script}
 use Rattle.script_run.specs.Running.{RunsScript}

@@ -1,5 +1,5 @@
 -- What `work` and `stress` answer: `--workers N [--tries K] JOBS TYPE...`.
-use Rattle.std.specs.Prelude.{◌≡◌, ◌⊎◌, ℕ, List, [], false, true, length, map, take, Option, None, IfSome, is_some, Bool, ◌&&◌, ◌==◌, Result, Ok, Err}
+use Rattle.std.specs.Prelude.{◌≡◌, ◌⊎◌, ℕ, List, false, true, length, map, take, Option, None, IfSome, is_some, Bool, ◌&&◌, ◌==◌, Result, Ok, Err}
 use Rattle.std.specs.Io.KnownBytes.{Appends}
 use Rattle.jobs_text.specs.Jobs.{calls_in}
 use Rattle.jobs_text.specs.declared.jobs_file.JobsFile.{JobsFile}

@@ -1,45 +1,55 @@
-//! `audit`: whether the committed transactions of a history, run one after another, give the same replies.
+//! `audit`: whether the committed transactions of a history, or of several one after another, run one after
+//! another, give the same replies.
 
 ghost use Rattle.std.specs.Prelude.{◌≡◌, None, map, IfOk, IfErr};
 ghost use Rattle.command_files.specs.declared.fault.Fault.TheVariants.{NoMemory};
 ghost use Rattle.command_files.specs.Answers.{Comes};
 ghost use Rattle.history_audit.specs.Text.{audit_text};
-ghost use Rattle.store_commands.specs.Audited.{AuditsFile, AuditsRead, HasAuditFault};
+ghost use Rattle.store_commands.specs.Audited.{AuditsFiles, AuditsRead, HasAuditFault};
 ghost use Rattle.store_files.specs.Types.{IsUnplaced};
 
+use crate::several::{audit_each, same_objects};
 use command_files::{Fault, Source, Verdict, put_answer, read_file};
 use history_audit::{Audit, AuditFault, audit, write_audit};
 use history_text::HistoryFile;
 use outputs::{Out, Sink};
 use std::alloc::Global;
-use store_files::{HistoryFormat, read_types, tables_of};
+use store_files::{HistoryFormat, read_histories, read_types, tables_of};
 use type_text::TypeFile;
 
-/// `audit HISTORY TYPE...`: files are read in the order of the words, each parsed before the next is
-/// opened, and then the place of each object is tested; no type is checked for a kind.
+/// `audit HISTORY [--then HISTORY]... TYPE...`: the histories are read in the order of the words and then the
+/// types, each parsed before the next is opened; then the objects of each history that follows are compared
+/// with those of the first, and the place of each object is tested; no type is checked for a kind.
 ///
 /// # Errors
 ///
-/// A file can't be read or its text has a fault, no TYPE word is at an object's place, memory was
-/// refused, or the output failed.
-pub fn audit_history<'a, S: Source, W: Out>(
+/// A file can't be read or its text has a fault, a history that follows has other objects, no TYPE word is at
+/// an object's place, memory was refused, or the output failed.
+pub fn audit_histories<'a, S: Source, W: Out>(
     alloc: Global,
     history: &'a str,
+    others: &[&'a str],
     types: &[&'a str],
     source: &mut S,
     out: &mut W,
 ) -> Result<Verdict, Fault<'a>>
     requires { W.fault out.old ≡ None }
-    ensures { let words = map (λ p. p.now) types.now in let holds = S.holds source.old in
-        Comes (AuditsFile holds history.now words) (HasAuditFault holds history.now words) result (W.taken out.old) (W.taken out.new) }
+    ensures { let words = map (λ p. p.now) types.now in let others = map (λ p. p.now) others.now in let holds = S.holds source.old in
+        Comes (AuditsFiles holds history.now others words) (HasAuditFault holds history.now others words) result (W.taken out.old) (W.taken out.new) }
 {
-    let read = read_file(alloc, &HistoryFormat, history, source)?;
+    let first = read_file(alloc, &HistoryFormat, history, source)?;
+    let later = read_histories(alloc, others, source)?;
     let files = read_types(alloc, types, source)?;
-    audit_read(alloc, history, &read, &files, out)
+    same_objects(history, &first, others, &later)?;
+    if later.is_empty() {
+        audit_one(alloc, history, &first, &files, out)
+    } else {
+        audit_each(alloc, history, &first, &later, &files, out)
+    }
 }
 
-/// The answer to a history that was read at a path, with these type files.
-fn audit_read<'a, W: Out>(
+/// The answer to one history, that was read at a path, with these type files.
+fn audit_one<'a, W: Out>(
     alloc: Global,
     path: &'a str,
     history: &HistoryFile,

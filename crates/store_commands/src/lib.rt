@@ -7,9 +7,10 @@ mod laws;
 mod passing;
 mod run;
 mod schedule;
+mod several;
 mod work;
 
-pub use audit::audit_history;
+pub use audit::audit_histories;
 pub use laws::{run_is_read, works_are_read};
 pub use run::run_file;
 pub use schedule::Schedule;

@@ -1,5 +1,5 @@
 -- The types of a store's objects, one after another.
-use Rattle.std.proofs.Common.{◌≡◌, ◌∙◌, ℕ, ◌+◌, ◌<◌, List, [], ◌∷◌, ◌++◌, length, take, map, get_or, Some, None, Result, Ok, Err, IfSome, ap, ap₂, subst, sym, refl, arith, inl, inr, ⊎_elim, ◌⊎◌}
+use Rattle.std.proofs.Common.{◌≡◌, ◌∙◌, ℕ, ◌+◌, ◌<◌, List, [], ◌∷◌, ◌++◌, length, take, map, get_or, Some, None, Result, Ok, Err, IfSome, ap, ap₂, subst, sym, refl, arith}
 use Rattle.std.specs.Prelude.{slice_get, IfErr, true, false, nat_lt}
 use Rattle.std.specs.Result.{IsErrAnd}
 use Rattle.std.specs.declared.sync.Arc.{Arc}
@@ -14,8 +14,7 @@ use Rattle.type_table.proofs.Elements.{take-found}
 use Rattle.type_text.specs.declared.type_file.TypeFile.{TypeFile}
 use Rattle.table_checker.specs.Checked.{Checked}
 use Rattle.store_text.specs.declared.line.ObjectLine.{ObjectLine}
-use Rattle.command_files.specs.Files.{IsFaulty, IsFileAt}
-use Rattle.store_files.specs.Types.{Held, AreFilesAt, AreTablesOf, AreTypesOf, HasPlace, IsAccepted, IsFaultAt, IsFirstFault, IsFirstWith, IsRefusedFor, IsTableOf, IsFirstFaulty, IsTypeOf, value_of}
+use Rattle.store_files.specs.Types.{Held, AreReadAt, AreTablesOf, AreTypesOf, HasPlace, IsAccepted, IsFaultAt, IsFirstFault, IsFirstWith, IsRefusedFor, IsTableOf, IsFirstFaultyOf, IsTypeOf, value_of}
 use Rattle.store_files.specs.declared.object_fault.ObjectFault.{ObjectFault}
 use Rattle.store_files.specs.declared.object_fault.ObjectFault.TheVariants.{NoType, Refused, NoMemory}
 use Rattle.store_files.proofs.Pairs.{each_has, each_push}
@@ -44,20 +43,20 @@ one_more xs x ys y same = omega (arith, length-append ys (y ∷ []), length-appe
 
 -- ---- files
 
--- one more path has its file
-pub files_push : (holds : Held) (paths : List (List ℕ)) (files new : List TypeFile) (i : ℕ) (path : List ℕ) (file : TypeFile) → slice_get paths i ≡ Some path
-    → AreFilesAt holds (take i paths) files → IsFileAt (holds path) file → new ≡ files ++ file ∷ [] → AreFilesAt holds (take (i + 1) paths) new
-files_push holds paths files new i path file there known here is =
-    let grown : AreFilesAt holds (take i paths ++ path ∷ []) (files ++ file ∷ []) = record {
-      as_many = one_more (take i paths) path files file known.as_many;
-      each = each_push (λ (p : List ℕ) (f : TypeFile). IsFileAt (holds p) f) (take i paths) files path file known.as_many known.each here;
-    } in
-    subst (λ (ps : List (List ℕ)). AreFilesAt holds ps new) (sym (take-found paths i path there)) (subst (AreFilesAt holds (take i paths ++ path ∷ [])) (sym is) grown)
+module _ {T : Type 0} (describes : List ℕ → T → Type 0) (is_faulty : List ℕ → Type 0) (holds : Held) (paths : List (List ℕ)) (values : List T) (i : ℕ) (path : List ℕ)
+    (there : slice_get paths i ≡ Some path) (known : AreReadAt describes holds (take i paths) values) where
+  -- one more path has its value
+  pub files_push : (new : List T) (value : T) → IfSome (holds path) (λ text. describes text value) → new ≡ values ++ value ∷ [] → AreReadAt describes holds (take (i + 1) paths) new
+  files_push new value here is =
+      let grown : AreReadAt describes holds (take i paths ++ path ∷ []) (values ++ value ∷ []) = record {
+        as_many = one_more (take i paths) path values value known.as_many;
+        each = each_push (λ (p : List ℕ) (v : T). IfSome (holds p) (λ text. describes text v)) (take i paths) values path value known.as_many known.each here;
+      } in
+      subst (λ (ps : List (List ℕ)). AreReadAt describes holds ps new) (sym (take-found paths i path there)) (subst (AreReadAt describes holds (take i paths ++ path ∷ [])) (sym is) grown)
 
--- the first path without one
-pub first_faulty : (holds : Held) (paths : List (List ℕ)) (files : List TypeFile) (i : ℕ) (path : List ℕ) → slice_get paths i ≡ Some path
-    → AreFilesAt holds (take i paths) files → IfSome (holds path) IsFaulty → IsFirstFaulty holds paths
-first_faulty holds paths files i path there known fault = record { k = i; path = path; there = there; files = files; before = known; faulty = fault }
+  -- the first path without one
+  pub first_faulty : IfSome (holds path) is_faulty → IsFirstFaultyOf describes is_faulty holds paths
+  first_faulty fault = record { k = i; path = path; there = there; values = values; before = known; faulty = fault }
 
 -- ---- types
 

@@ -1,5 +1,5 @@
 -- Two lists of which each pair at one place has something to do with each other.
-use Rattle.std.proofs.Common.{◌≡◌, ℕ, suc, zero, ◌+◌, List, [], ◌∷◌, ◌++◌, length, Some, subst, arith, refl}
+use Rattle.std.proofs.Common.{◌≡◌, ℕ, suc, zero, List, [], ◌∷◌, ◌++◌, length, Some, subst, arith, refl}
 use Rattle.std.specs.Prelude.{slice_get}
 
 module _ {A B : Type 0} (P : A → B → Type 0) where

@@ -8,6 +8,7 @@ use Rattle.history_text.specs.Events.{events}
 use Rattle.history_text.specs.History.{IsHistoryOf}
 use Rattle.history_text.specs.declared.event_line.EventLine.{EventLine}
 use Rattle.history_text.specs.declared.history_file.HistoryFile.{HistoryFile}
+use Rattle.store_files.specs.Types.{Held, AreReadAt, IsFirstFaultyOf}
 
 -- the history that a text describes
 pub record DescribesHistory (text : List ℕ) (file : HistoryFile) : Type 0 where
@@ -18,3 +19,11 @@ pub record DescribesHistory (text : List ℕ) (file : HistoryFile) : Type 0 wher
 -- the text has a fault
 abbrev pub IsFaultyHistory : List ℕ → Type 0
 IsFaultyHistory text = (f : TextFault) × (outcome_of (store_rules events) text ≡ Err f)
+
+-- each path has its history
+abbrev pub AreHistoriesAt : Held → List (List ℕ) → List HistoryFile → Type 0
+AreHistoriesAt = AreReadAt DescribesHistory
+
+-- the text of a history at this path is the first that has a fault
+abbrev pub IsFirstFaultyHistory : Held → List (List ℕ) → Type 0
+IsFirstFaultyHistory = IsFirstFaultyOf DescribesHistory IsFaultyHistory

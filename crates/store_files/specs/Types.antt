@@ -8,7 +8,7 @@ use Rattle.table_checker.specs.Refusal.{IsFirstReason}
 use Rattle.std.specs.Arc.{arc_value}
 use Rattle.std.specs.declared.sync.Arc.{Arc}
 use Rattle.store_text.specs.declared.line.ObjectLine.{ObjectLine}
-use Rattle.command_files.specs.Files.{IsFaulty, IsFileAt}
+use Rattle.command_files.specs.Files.{Describes, IsFaulty}
 use Rattle.store_files.specs.declared.object_fault.ObjectFault.{ObjectFault}
 use Rattle.store_files.specs.declared.object_fault.ObjectFault.TheVariants.{NoType, Refused, NoMemory}
 
@@ -18,20 +18,28 @@ use Rattle.store_files.specs.declared.object_fault.ObjectFault.TheVariants.{NoTy
 abbrev pub Held : Type 0
 Held = List ℕ → Option (List ℕ)
 
--- each path has its type file
-pub record AreFilesAt (holds : Held) (paths : List (List ℕ)) (files : List TypeFile) : Type 0 where
-  pub as_many : length files ≡ length paths
-  pub each : (k : ℕ) (path : List ℕ) (file : TypeFile) → slice_get paths k ≡ Some path → slice_get files k ≡ Some file
-      → IsFileAt (holds path) file
+-- each path has its value, which its text describes where the source tells it
+pub record AreReadAt {T : Type 0} (describes : List ℕ → T → Type 0) (holds : Held) (paths : List (List ℕ)) (values : List T) : Type 0 where
+  pub as_many : length values ≡ length paths
+  pub each : (k : ℕ) (path : List ℕ) (value : T) → slice_get paths k ≡ Some path → slice_get values k ≡ Some value
+      → IfSome (holds path) (λ text. describes text value)
 
 -- the text at this path is the first that has a fault
-pub record IsFirstFaulty (holds : Held) (paths : List (List ℕ)) : Type 0 where
+pub record IsFirstFaultyOf {T : Type 0} (describes : List ℕ → T → Type 0) (is_faulty : List ℕ → Type 0) (holds : Held) (paths : List (List ℕ)) : Type 0 where
   pub k : ℕ
   pub path : List ℕ
   pub there : slice_get paths k ≡ Some path
-  pub files : List TypeFile
-  pub before : AreFilesAt holds (take k paths) files
-  pub faulty : IfSome (holds path) IsFaulty
+  pub values : List T
+  pub before : AreReadAt describes holds (take k paths) values
+  pub faulty : IfSome (holds path) is_faulty
+
+-- each path has its type file
+abbrev pub AreFilesAt : Held → List (List ℕ) → List TypeFile → Type 0
+AreFilesAt = AreReadAt Describes
+
+-- the text of a type at this path is the first that has a fault
+abbrev pub IsFirstFaulty : Held → List (List ℕ) → Type 0
+IsFirstFaulty = IsFirstFaultyOf Describes IsFaulty
 
 -- ---- the types of objects
 

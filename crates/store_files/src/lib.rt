@@ -6,16 +6,16 @@ mod accept;
 mod formats;
 mod object_fault;
 mod object_types;
+mod reading;
 mod refused_line;
 mod tables;
-mod types;
 
 pub use formats::{HistoryFormat, JobsFormat, ScriptFormat};
 pub use object_fault::ObjectFault;
 pub use object_types::{ObjectTypes, types_for};
+pub use reading::{read_histories, read_types};
 pub use refused_line::object_line;
 pub use tables::tables_of;
-pub use types::read_types;
 
 pub mod worked;
 pub mod worked_histories;

@@ -5,7 +5,7 @@ ghost use Rattle.store_files.specs.ObjectTypes.{FindsTypes};
 
 use crate::accept::accept_types;
 use crate::object_fault::ObjectFault;
-use crate::types::read_types;
+use crate::reading::read_types;
 use command_files::{Fault, Source};
 use std::alloc::Global;
 use std::sync::Arc;

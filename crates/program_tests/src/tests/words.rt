@@ -32,10 +32,7 @@ fn has_parts(task: &Task<'_>, parts: &Parts) -> bool {
         Task::Run { script, types } => {
             (command == "run") & (first == *script) & (types.as_slice() == rest)
         }
-        Task::Audit { history, types } => {
-            (command == "audit") & (first == *history) & (types.as_slice() == rest)
-        }
-        Task::Work { .. } | Task::Stress { .. } => false,
+        Task::Audit { .. } | Task::Work { .. } | Task::Stress { .. } => false,
         Task::Help { topic } => (command == "help") & (first == word_of(*topic)),
         Task::Version => (command == "version") & (first == VERSION),
     }
@@ -55,7 +52,7 @@ fn word_of(topic: Topic) -> &'static str {
 }
 
 /// Words, and the task that they ask for.
-static TASKS: [(&[&str], Parts); 23] = [
+static TASKS: [(&[&str], Parts); 21] = [
     (
         &["check", "undo", "ctr2.type"],
         ("check", "undo", "ctr2.type", &[]),
@@ -82,18 +79,10 @@ static TASKS: [(&[&str], Parts); 23] = [
         &["run", "a.script", "a.type", "b.type", "a.type"],
         ("run", "a.script", "", &["a.type", "b.type", "a.type"]),
     ),
-    (
-        &["audit", "a.history", "a.type", "b.type"],
-        ("audit", "a.history", "", &["a.type", "b.type"]),
-    ),
     // Words with hyphens behind two.
     (
         &["run", "a.script", "--", "-x", "--"],
         ("run", "a.script", "", &["-x", "--"]),
-    ),
-    (
-        &["audit", "--", "-a", "b.type"],
-        ("audit", "-a", "", &["b.type"]),
     ),
     (
         &["make", "set", "0", "a", "--", "-b", "--"],
@@ -432,7 +421,7 @@ fn usage_of(alloc: Global, words: &[&str]) -> String {
 }
 
 /// That each of these words ask for no task.
-fn are_refused(rt: &(impl Abort + AllocGlobal), rows: &[&[&str]]) {
+pub fn are_refused(rt: &(impl Abort + AllocGlobal), rows: &[&[&str]]) {
     for words in rows {
         assert!(rt; !usage_of(rt.alloc(), words).is_empty());
     }

@@ -13,6 +13,6 @@ returns c =
     let make_added = c.with_command-with_make.ensures _ _ check_added c.make_command.ensures in
     let tables_added = c.with_command-with_tables.ensures _ _ make_added c.tables_command.ensures in
     let run_added = c.with_command-with_run.ensures _ _ tables_added c.store_command-run.ensures in
-    let audit_added = c.with_command-with_audit.ensures _ _ run_added c.store_command-audit.ensures in
+    let audit_added = c.with_command-with_audit.ensures _ _ run_added c.audit_command.ensures in
     let work_added = c.with_command-with_work.ensures _ _ audit_added c.work_command.ensures in
     (checks.0, checks.1, c.with_command.ensures _ _ work_added c.stress_command.ensures)

@@ -3,7 +3,7 @@ use Rattle.command_files.specs.Answers.{Comes, ComesOr}
 use Rattle.command_files.proofs.Comes.{comes_or}
 use Rattle.command_words.specs.declared.task.Task.{Task}
 use Rattle.commands.specs.Doing.{Answer, Begun, IsAmiss, Written}
-use Rattle.store_commands.specs.Audited.{AuditsFile, HasAuditFault}
+use Rattle.store_commands.specs.Audited.{AuditsFiles, HasAuditFault}
 use Rattle.store_commands.specs.Runs.{BeginsRunFile, HasRunFault, RunsFile, WritesRunFile}
 use Rattle.store_commands.specs.Works.{BeginsWorkFile, HasWorkFault, WorksFile, WritesWorkFile}
 use Rattle.type_commands.specs.Made.{CannotBeMade, MakesFamily}
@@ -60,9 +60,10 @@ pub returns-in-Audit : goal.returns-in-Audit
 returns-in-Audit g c =
     let holds = g.S.Source.holds c.args.source.now in
     let old = g.W.Out.taken c.args.out.now in
-    let new = g.W.Out.taken c.audit_history.new.out in
-    let Does : Task → Type 0 = λ t. ComesOr (Written holds t) (Begun holds t) (Answer holds t) (IsAmiss holds t) c.audit_history.result old new in
-    let Of : List (Bor (List ℕ)) → Type 0 = λ ws. let words = map (λ p. p.now) ws in
-    Comes (AuditsFile holds c.in-Audit.history.now words) (HasAuditFault holds c.in-Audit.history.now words) c.audit_history.result old new in
-    let done = subst Of c.deref-in-Audit.ensures.value c.audit_history.ensures in
-    subst Does (sym c.in-Audit.is) (comes_or _ _ _ _ _ _ _ _ c.audit_history.result old new (λ text whole. whole) (λ text begun. begun) (λ v text answer. answer) (λ bad. bad) done)
+    let new = g.W.Out.taken c.audit_histories.new.out in
+    let Does : Task → Type 0 = λ t. ComesOr (Written holds t) (Begun holds t) (Answer holds t) (IsAmiss holds t) c.audit_histories.result old new in
+    let Of : List (Bor (List ℕ)) → List (Bor (List ℕ)) → Type 0 = λ hs ws. let others = map (λ p. p.now) hs in let words = map (λ p. p.now) ws in
+    Comes (AuditsFiles holds c.in-Audit.history.now others words) (HasAuditFault holds c.in-Audit.history.now others words) c.audit_histories.result old new in
+    let one = subst (λ hs. Of hs c.deref-in-Audit-2.result.now) c.deref-in-Audit.ensures.value c.audit_histories.ensures in
+    let done = subst (λ ws. Of c.in-Audit.later.items ws) c.deref-in-Audit-2.ensures.value one in
+    subst Does (sym c.in-Audit.is) (comes_or _ _ _ _ _ _ _ _ c.audit_histories.result old new (λ text whole. whole) (λ text begun. begun) (λ v text answer. answer) (λ bad. bad) done)

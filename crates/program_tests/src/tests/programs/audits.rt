@@ -4,7 +4,7 @@ use super::Case;
 use command_files::Status;
 use test_support::type_texts::COUNTER;
 
-pub static CASES: [Case<'static>; 9] = [
+pub static CASES: [Case<'static>; 12] = [
     WRONG_BEGIN,
     ANY_HOLDER,
     ILLEGAL,
@@ -14,6 +14,9 @@ pub static CASES: [Case<'static>; 9] = [
     STRIKES_TOO_MANY,
     STRUCK,
     OWN_OUTPUT,
+    NEXT_ILLEGAL,
+    NEXT_BAD,
+    NO_NEXT,
 ];
 
 /// A transaction begins with another's number.
@@ -218,4 +221,72 @@ end
 ",
     err: "",
     status: Status::Yes,
+};
+
+/// A history that follows counts up where the one before it ended at the top.
+pub const NEXT_ILLEGAL: Case<'static> = Case {
+    words: &["audit", "the.history", "--then", "next.history", "one.type"],
+    files: &[
+        (
+            "the.history",
+            "object undo 0\nbegin 3 0\nop 3 0 0 0\ncommit 3 0\nend\n",
+        ),
+        (
+            "next.history",
+            "object undo 0\nbegin 3 0\nop 3 0 0 0\ncommit 3 0\nend\n",
+        ),
+        (
+            "one.type",
+            "type one\nstates 2\ninitial 0\nop up ok\nop down ok\nstep 0 0 1\nstep 1 1 0\nend\n",
+        ),
+    ],
+    out: "# audit no IllegalOp 1.0 0 0\n",
+    err: "",
+    status: Status::No,
+};
+
+/// It commits what never began.
+const NEXT_BAD: Case<'static> = Case {
+    words: &["audit", "the.history", "--then=next.history", "one.type"],
+    files: &[
+        (
+            "the.history",
+            "object undo 0\nbegin 3 0\nop 3 0 0 0\ncommit 3 0\nend\n",
+        ),
+        (
+            "next.history",
+            "object undo 0\nbegin 0 0\ncommit 0 1\nend\n",
+        ),
+        (
+            "one.type",
+            "type one\nstates 2\ninitial 0\nop up ok\nop down ok\nstep 0 0 1\nstep 1 1 0\nend\n",
+        ),
+    ],
+    out: "# audit no BadEvent 1.1\n",
+    err: "",
+    status: Status::No,
+};
+
+/// It can't be read.
+const NO_NEXT: Case<'static> = Case {
+    words: &[
+        "audit",
+        "the.history",
+        "--then",
+        "nowhere.history",
+        "one.type",
+    ],
+    files: &[
+        (
+            "the.history",
+            "object undo 0\nbegin 3 0\nop 3 0 0 0\ncommit 3 0\nend\n",
+        ),
+        (
+            "one.type",
+            "type one\nstates 2\ninitial 0\nop up ok\nop down ok\nstep 0 0 1\nstep 1 1 0\nend\n",
+        ),
+    ],
+    out: "",
+    err: "colock: nowhere.history: cannot read\n",
+    status: Status::Failed,
 };

@@ -2,7 +2,7 @@
 //! refused, or a run goes on without the command that met it, or workers without the job that met it; and
 //! no answer is another one.
 
-use super::audits::OWN_OUTPUT;
+use super::audits::{NEXT_ILLEGAL, OWN_OUTPUT};
 use super::deferred::BOTH_COMMIT;
 use super::in_place::{ONE_WAY_ORDER, TWO_DEQUEUES};
 use super::jobs::{ONE_WORKER, ONE_WORKER_DRAWN};
@@ -70,6 +70,7 @@ fn checks_and_audits_want_memory(rt: HostRuntime) -> Result<(), Fail> {
     for case in &checks::CASES {
         says_or_wants(&rt, case)?;
     }
+    says_or_wants(&rt, &NEXT_ILLEGAL)?;
     says_or_wants(&rt, &OWN_OUTPUT)
 }
 

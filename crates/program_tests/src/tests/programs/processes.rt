@@ -4,7 +4,7 @@
 use super::Case;
 use command_files::Status;
 
-pub static CASES: [Case<'static>; 29] = [
+pub static CASES: [Case<'static>; 31] = [
     Case {
         words: &["check", "undo", "ctr2.type"],
         files: &[(
@@ -479,6 +479,46 @@ end
         ],
         out: "",
         err: "colock: the.history: object 0: no type 1\n",
+        status: Status::BadInput,
+    },
+    Case {
+        words: &["audit", "the.history", "--then", "next.history", "one.type"],
+        files: &[
+            (
+                "the.history",
+                "object undo 0\nbegin 3 0\nop 3 0 0 0\ncommit 3 0\nend\n",
+            ),
+            (
+                "next.history",
+                "object undo 0\nbegin 0 0\nop 0 0 0 1\nbegin 0 1\ncommit 0 0\nend\n# kept 0 1\n",
+            ),
+            (
+                "one.type",
+                "type one\nstates 2\ninitial 0\nop up ok\nop down ok\nstep 0 0 1\nstep 1 1 0\nend\n",
+            ),
+        ],
+        out: "# audit yes\n# commit 0.0\n# commit 1.0\n# serial 0 0\n",
+        err: "",
+        status: Status::Yes,
+    },
+    Case {
+        words: &["audit", "the.history", "--then", "next.history", "one.type"],
+        files: &[
+            (
+                "the.history",
+                "object undo 0\nbegin 3 0\nop 3 0 0 0\ncommit 3 0\nend\n",
+            ),
+            (
+                "next.history",
+                "object intentions 0\nbegin 0 0\ncommit 0 0\nend\n",
+            ),
+            (
+                "one.type",
+                "type one\nstates 2\ninitial 0\nop up ok\nop down ok\nstep 0 0 1\nstep 1 1 0\nend\n",
+            ),
+        ],
+        out: "",
+        err: "colock: next.history: not the objects of the.history\n",
         status: Status::BadInput,
     },
     Case {

@@ -1,4 +1,4 @@
-use Rattle.std.proofs.Common.{Result, Ok, subst, sym}
+use Rattle.std.proofs.Common.{Result, subst}
 use Rattle.history_audit.specs.Text.{audit_text}
 use Rattle.history_audit.specs.declared.outcome.Audit.{Audit}
 use Rattle.history_audit.specs.declared.outcome.AuditFault.{AuditFault}

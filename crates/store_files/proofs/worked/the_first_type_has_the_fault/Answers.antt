@@ -11,4 +11,4 @@ none-before = record { as_many = refl; each = λ k path file at is. absurd (none
 
 pub returns-clause-first : goal.returns-clause-first
 returns-clause-first c =
-    record { k = 0; path = codes "a"; there = refl; files = []; before = none-before; faulty = c.a_text_with_a_fault.ensures.faulty }
+    record { k = 0; path = codes "a"; there = refl; values = []; before = none-before; faulty = c.a_text_with_a_fault.ensures.faulty }

@@ -2,7 +2,7 @@
 
 use super::objects_of;
 use super::scripts::{Row, answers, outcome, store_of};
-use history_audit::{Audit, audit};
+use history_audit::audit_epochs;
 use object_trait::{Event, Recovery};
 use objects::Object;
 use rand_core::utils::NextWord;
@@ -11,8 +11,10 @@ use reference_store::asked::{Ask, Told};
 use reference_store::checked_types::{Sort, checked_of};
 use std::alloc::Global;
 use std::process::Abort;
+use std::sync::Arc;
 use std::test::Fail;
 use store::{RenewRefusal, Store};
+use table_checker::CheckedType;
 use test_support::type_texts::{COUNTER, COUNTER_OF_FOUR, SEMIQUEUE, TWIN};
 use type_table::{Kind, TypeTable};
 
@@ -119,26 +121,6 @@ fn any_ask(words: &mut Lcg64Xsh32, begun: u32) -> Ask {
     }
 }
 
-/// The serial states behind the events of an epoch that begins at the states of these tables.
-fn serial_states(
-    rt: &(impl Abort + AllocGlobal),
-    tables: &[TypeTable],
-    events: &[Event],
-) -> Vec<u16> {
-    let alloc = rt.alloc();
-    let tables: Vec<&TypeTable> = tables.iter().collect(alloc).expect(rt, "no room");
-    let Audit { order: _, finals } = audit(alloc, events, &tables).expect(rt, "not serial");
-    finals
-}
-
-/// The tables begin at these states from now on.
-fn begin_at(rt: &impl Abort, tables: &mut Vec<TypeTable>, states: &[u16]) {
-    for (table, state) in tables.iter_mut().zip(states) {
-        assert!(rt; *state < table.states());
-        table.begin_at(*state);
-    }
-}
-
 /// Commands from the generator, and then the aborts of what is open.
 fn live(store: &mut Store<Object>, words: &mut Lcg64Xsh32) {
     for _ in 0..COMMANDS {
@@ -148,20 +130,15 @@ fn live(store: &mut Store<Object>, words: &mut Lcg64Xsh32) {
     store.abort_all();
 }
 
-/// An epoch is audited from the serial states of the one before it, and the next one begins.
+/// Random work, at whose end the next epoch begins, and its events.
 fn next_epoch(
     rt: &(impl Abort + AllocGlobal),
     mut store: Store<Object>,
     words: &mut Lcg64Xsh32,
-    tables: &mut Vec<TypeTable>,
-) -> Store<Object> {
+) -> (Store<Object>, Vec<Event>) {
     live(&mut store, words);
-    let states = serial_states(rt, tables, store.history());
-    assert!(rt; store.kept(0) == states.get(0).copied());
-    assert!(rt; store.kept(1) == states.get(1).copied());
-    begin_at(rt, tables, &states);
     match store.renew(rt.alloc()) {
-        Ok((next, _)) => next,
+        Ok(next) => next,
         Err((store, _)) => {
             let _ = store.close();
             panic!(rt; "no epoch began")
@@ -169,26 +146,50 @@ fn next_epoch(
     }
 }
 
-/// A table for each object.
-fn tables_of(alloc: Global, sorts: &[Sort]) -> Result<Vec<TypeTable>, Fail> {
-    let mut tables = Vec::new(alloc);
-    for (kind, text) in sorts {
-        let checked = checked_of(alloc, text, *kind)?;
-        let table = checked.table().copy(alloc)?;
-        tables.push(table).ok().ok_or("no room")?;
+/// So many epochs, one after another: their events, and the states that were kept at last.
+fn live_on(
+    rt: &(impl Abort + AllocGlobal),
+    mut store: Store<Object>,
+    epochs: u32,
+) -> (Vec<Vec<Event>>, Vec<Object>) {
+    let mut words = Lcg64Xsh32::new(7, 0);
+    let mut histories = Vec::new(rt.alloc());
+    for _ in 0..epochs {
+        let (next, events) = next_epoch(rt, store, &mut words);
+        store = next;
+        histories.push(events).expect(rt, "no room");
     }
-    Ok(tables)
+    let (_, objects) = store.close();
+    (histories, objects)
+}
+
+/// The checked types of these sorts, of which an audit reads the tables.
+fn types_of(alloc: Global, sorts: &[Sort]) -> Result<Vec<Arc<CheckedType>>, Fail> {
+    let mut types = Vec::new(alloc);
+    for (kind, text) in sorts {
+        types.push(checked_of(alloc, text, *kind)?)?;
+    }
+    Ok(types)
 }
 
 #[test]
 fn a_thousand_epochs_are_one_serial_order(rt: HostRuntime) -> Result<(), Fail> {
-    let mut tables = tables_of(rt.alloc(), &OBJECTS)?;
-    let mut store = store_of(&rt, objects_of(rt.alloc(), &OBJECTS)?, 1000)?;
-    let mut words = Lcg64Xsh32::new(7, 0);
-    for _ in 0..EPOCHS {
-        store = next_epoch(&rt, store, &mut words, &mut tables);
+    let alloc = rt.alloc();
+    let store = store_of(&rt, objects_of(alloc, &OBJECTS)?, 1000)?;
+    let (histories, objects) = live_on(&rt, store, EPOCHS);
+    let types = types_of(alloc, &OBJECTS)?;
+    let tables: Vec<&TypeTable> = types.iter().map(|checked| checked.table()).collect(alloc)?;
+    let slices: Vec<&[Event]> = histories
+        .iter()
+        .map(|events| events.as_slice())
+        .collect(alloc)?;
+    let audits = audit_epochs(alloc, &slices, &tables)?;
+    assert!(rt; audits.len() == EPOCHS as usize);
+    let finals = audits
+        .last()
+        .map_or(&[][..], |audit| audit.finals.as_slice());
+    for (object, state) in objects.iter().zip(finals).take(2) {
+        assert!(rt; object.state() == *state);
     }
-    let (history, _) = store.close();
-    assert!(rt; history.is_empty());
     Ok(())
 }

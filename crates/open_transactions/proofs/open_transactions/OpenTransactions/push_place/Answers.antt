@@ -5,10 +5,10 @@ use Rattle.open_transactions.proofs.open_transactions.OpenTransactions.push_plac
 
 pub invariant_of-self : goal.invariant_of-self
 invariant_of-self c =
-    set-known c.self.inside.slots.items c.self.inside.index.slots c.self.invariant c.args.self.now.rows (ap (λ a. a.rows) c.self.view_is) c.args.t c.slot-slot.result c.requires.still_open c.slot-slot.ensures
+    set-known c.self.inside.slots.items c.self.inside.index.slots c.self.invariant c.args.self.now.rows (ap (λ a. a.rows) c.self.view_is) c.args.t c.open_slot-slot.result c.requires.still_open c.open_slot-slot.ensures
     c.index_mut.result.now _ c.index_mut.ensures.value refl
 
 pub returns : goal.returns
 returns c =
-    set-changes c.self.inside.slots.items c.self.inside.index.slots c.self.invariant c.args.self.now.rows (ap (λ a. a.rows) c.self.view_is) c.args.t c.slot-slot.result c.requires.still_open c.slot-slot.ensures
+    set-changes c.self.inside.slots.items c.self.inside.index.slots c.self.invariant c.args.self.now.rows (ap (λ a. a.rows) c.self.view_is) c.args.t c.open_slot-slot.result c.requires.still_open c.open_slot-slot.ensures
     c.index_mut.result.now _ (pushed c.args.x) c.index_mut.ensures.value (ap (λ items. Some (record { worker = c.index_mut.result.now.worker; places = items })) c.push_reserved.ensures.items)

@@ -1,28 +1,26 @@
-use Rattle.std.proofs.Common.{ap, arith}
-use Rattle.open_transactions.proofs.Trimmed.{slotted, open-kept, end-shows, end-begun, end-given_up}
+use Rattle.std.proofs.Common.{◌-◌, ap, arith}
+use Rattle.open_transactions.proofs.Cut.{open-slotted, set-begun, set-known, more-known, set-shows}
 use Rattle.open_transactions.proofs.slot_index.SlotIndex.end.Goals as goal
-
-pub index_mut-requires : goal.index_mut-requires
-index_mut-requires c =
-    let inside = c.self.inside in
-    let kept = open-kept inside.ended inside.slots.items c.args.t (slotted inside.ended inside.slots.items c.args.t c.args.self.now.slots (ap (λ a. a.slots) c.self.view_is) c.requires) in
-    omega (arith, kept, inside.slots.ok.0)
-
-pub overflow_add-self : goal.overflow_add-self
-overflow_add-self c =
-    let inside = c.self.inside in
-    let begun =
-    end-given_up inside.ended inside.slots.items c.args.t c.args.self.now.slots (ap (λ a. a.slots) c.self.view_is) c.requires c.trim.result c.trim.new.slots.items c.trim.ensures.slots in
-    omega (arith, begun, c.self.invariant.0)
 
 pub invariant_of-self : goal.invariant_of-self
 invariant_of-self c =
     let inside = c.self.inside in
-    let begun =
-    end-begun inside.ended inside.slots.items c.args.t c.args.self.now.slots (ap (λ a. a.slots) c.self.view_is) c.requires c.trim.result c.trim.new.slots.items c.trim.ensures.slots in
-    (omega (arith, begun, c.self.invariant.0), c.trim.ensures.trimmed)
+    let place = c.args.t - inside.cut in
+    let known = more-known inside.ended inside.slots.items c.self.invariant.1 place c.count_ended.result c.deref.result.now c.if-place-self.true c.deref.ensures.value c.count_ended.ensures in
+    (omega (arith, c.self.invariant.0, set-begun inside.cut inside.slots.items place 65535), known)
 
-pub returns : goal.returns
-returns c =
+pub invariant_of-self-else-place-self : goal.invariant_of-self-else-place-self
+invariant_of-self-else-place-self c =
     let inside = c.self.inside in
-    end-shows inside.ended inside.slots.items c.args.t c.args.self.now.slots (ap (λ a. a.slots) c.self.view_is) c.requires c.trim.result c.trim.new.slots.items c.trim.ensures.slots
+    let place = c.args.t - inside.cut in
+    let slotted = open-slotted inside.cut inside.slots.items c.args.t c.args.self.now.slots (ap (λ a. a.slots) c.self.view_is) c.requires in
+    let known = set-known inside.ended inside.slots.items c.self.invariant.1 place 65535 slotted (λ oldest. absurd (c.if-place-self.false oldest)) in
+    (omega (arith, c.self.invariant.0, set-begun inside.cut inside.slots.items place 65535), known)
+
+pub returns-then-place-self : goal.returns-then-place-self
+returns-then-place-self c =
+    set-shows c.self.inside.cut c.self.inside.slots.items c.args.t c.args.self.now.slots (ap (λ a. a.slots) c.self.view_is) c.requires 65535
+
+pub returns-else-place-self : goal.returns-else-place-self
+returns-else-place-self c =
+    set-shows c.self.inside.cut c.self.inside.slots.items c.args.t c.args.self.now.slots (ap (λ a. a.slots) c.self.view_is) c.requires 65535

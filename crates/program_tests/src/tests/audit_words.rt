@@ -1,0 +1,99 @@
+//! What the words of an audit ask for.
+
+use super::words::are_refused;
+use command_words::{Task, read_words};
+use std::alloc::Global;
+
+/// The path of the first history, those of the histories that follow it, and those of the types.
+type Parts = (
+    &'static str,
+    &'static [&'static str],
+    &'static [&'static str],
+);
+
+fn has_parts(task: &Task<'_>, parts: &Parts) -> bool {
+    let (path, others, paths) = *parts;
+    match task {
+        Task::Audit {
+            history,
+            later,
+            types,
+        } => (path == *history) & (later.as_slice() == others) & (types.as_slice() == paths),
+        _ => false,
+    }
+}
+
+/// Words, and the audit that they ask for.
+static AUDITS: [(&[&str], Parts); 7] = [
+    (
+        &["audit", "a.history", "a.type", "b.type"],
+        ("a.history", &[], &["a.type", "b.type"]),
+    ),
+    (
+        &["audit", "--then", "b.history", "a.history", "a.type"],
+        ("a.history", &["b.history"], &["a.type"]),
+    ),
+    (
+        &["audit", "a.history", "a.type", "--then=b.history"],
+        ("a.history", &["b.history"], &["a.type"]),
+    ),
+    (
+        &[
+            "audit",
+            "a.history",
+            "--then",
+            "c.history",
+            "a.type",
+            "--then=b.history",
+            "b.type",
+            "--then",
+            "c.history",
+        ],
+        (
+            "a.history",
+            &["c.history", "b.history", "c.history"],
+            &["a.type", "b.type"],
+        ),
+    ),
+    (
+        &["audit", "a.history", "--then", "b", "--", "--then", "-t"],
+        ("a.history", &["b"], &["--then", "-t"]),
+    ),
+    (
+        &["audit", "--then", "run", "audit", "help"],
+        ("audit", &["run"], &["help"]),
+    ),
+    (&["audit", "--", "-a", "-b"], ("-a", &[], &["-b"])),
+];
+
+/// Whether the words ask for this audit.
+fn asks_audit(alloc: Global, words: &[&str], parts: &Parts) -> bool {
+    match read_words(alloc, words) {
+        Ok(task) => has_parts(&task, parts),
+        Err(_) => false,
+    }
+}
+
+#[test]
+fn reads_which_histories_follow(rt: HostRuntime) {
+    for (words, parts) in &AUDITS {
+        assert!(rt; asks_audit(rt.alloc(), words, parts));
+    }
+}
+
+/// Words that ask for no audit, and an option that is none of another command.
+static REFUSED: [&[&str]; 8] = [
+    &["audit", "--then", "b.history", "a.history"],
+    &["audit", "a.history", "a.type", "--then"],
+    &["audit", "a.history", "--then", "--", "b.history", "a.type"],
+    &["audit", "--next", "b.history", "a.history", "a.type"],
+    &["audit", "a.history", "a.type", "--workers", "2"],
+    &["run", "--then", "b.script", "a.script", "a.type"],
+    &["work", "--workers=2", "--then=b", "a.jobs", "a.type"],
+    &["--then", "b.history", "audit", "a.history", "a.type"],
+];
+
+#[test]
+fn refuses_other_words_of_an_audit(rt: HostRuntime) {
+    are_refused(&rt, &REFUSED);
+}

@@ -1,0 +1,65 @@
+//! The files that several words name.
+
+ghost use Rattle.std.specs.Prelude.{◌≡◌, ℕ, List, map, IfOk, IfErr};
+ghost use Rattle.command_files.specs.Answers.{Refuses};
+ghost use Rattle.store_files.specs.Histories.{AreHistoriesAt, IsFirstFaultyHistory};
+ghost use Rattle.store_files.specs.Types.{AreFilesAt, AreReadAt, IsFirstFaulty, IsFirstFaultyOf};
+
+use crate::formats::HistoryFormat;
+use command_files::{Fault, Format, Source, TypeFormat, read_file};
+use history_text::HistoryFile;
+use std::alloc::Global;
+use type_text::TypeFile;
+
+/// The type files at these paths, in their order, each read before the next is opened.
+///
+/// # Errors
+///
+/// The fault of the first text that has one or can't be read, or that memory was refused.
+pub fn read_types<'a, S: Source>(
+    alloc: Global,
+    paths: &[&'a str],
+    source: &mut S,
+) -> Result<Vec<TypeFile>, Fault<'a>>
+    ensures read { IfOk result (λ files. AreFilesAt (S.holds source.old) (map (λ p. p.now) paths.now) files.items) }
+    ensures refused { IfErr result (Refuses (IsFirstFaulty (S.holds source.old) (map (λ p. p.now) paths.now))) }
+    ensures kept { (other : List ℕ) → S.holds source.new other ≡ S.holds source.old other }
+{
+    read_files(alloc, &TypeFormat, paths, source)
+}
+
+/// The histories at these paths, as `read_types` reads type files.
+pub fn read_histories<'a, S: Source>(
+    alloc: Global,
+    paths: &[&'a str],
+    source: &mut S,
+) -> Result<Vec<HistoryFile>, Fault<'a>>
+    ensures read { IfOk result (λ files. AreHistoriesAt (S.holds source.old) (map (λ p. p.now) paths.now) files.items) }
+    ensures refused { IfErr result (Refuses (IsFirstFaultyHistory (S.holds source.old) (map (λ p. p.now) paths.now))) }
+    ensures kept { (other : List ℕ) → S.holds source.new other ≡ S.holds source.old other }
+{
+    read_files(alloc, &HistoryFormat, paths, source)
+}
+
+/// What the texts at these paths describe, in their order, each read before the next is opened.
+///
+/// # Errors
+///
+/// The fault of the first text that has one or can't be read, or that memory was refused.
+fn read_files<'a, F: Format, S: Source>(
+    alloc: Global,
+    format: &F,
+    paths: &[&'a str],
+    source: &mut S,
+) -> Result<Vec<F::Value>, Fault<'a>>
+    ensures read { IfOk result (λ files. AreReadAt (F.describes format.now) (S.holds source.old) (map (λ p. p.now) paths.now) files.items) }
+    ensures refused { IfErr result (Refuses (IsFirstFaultyOf (F.describes format.now) (F.is_faulty format.now) (S.holds source.old) (map (λ p. p.now) paths.now))) }
+    ensures kept { (other : List ℕ) → S.holds source.new other ≡ S.holds source.old other }
+{
+    let mut files = Vec::with_capacity(alloc, paths.len())?;
+    for path in paths {
+        let file = read_file(alloc, format, path, source)?;
+        files.push_reserved(file);
+    }
+    Ok(files)
+}
