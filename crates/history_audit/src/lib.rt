@@ -5,8 +5,8 @@
 mod auditing;
 mod auditor;
 mod epoch_lines;
-mod epochs;
 mod event_fault;
+mod in_turn;
 mod judge;
 mod laws;
 mod operation;
@@ -18,7 +18,7 @@ mod write;
 
 pub use auditing::audit;
 pub use epoch_lines::write_epochs;
-pub use epochs::audit_epochs;
+pub use in_turn::audit_epochs;
 pub use laws::{
     audit_decides, audits_agree, epochs_decide, epochs_pass, runs_pass, serial_histories_pass,
     yes_is_serial, yes_is_serial_over,

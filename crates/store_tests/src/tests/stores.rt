@@ -3,7 +3,6 @@
 mod boxed;
 mod calls;
 mod closed;
-mod epochs;
 mod followed;
 mod forgotten;
 pub mod full;
@@ -11,6 +10,7 @@ mod laws;
 mod made;
 mod random;
 mod refused;
+mod renewals;
 mod replayed;
 mod run_scripts;
 mod run_scripts_memory;

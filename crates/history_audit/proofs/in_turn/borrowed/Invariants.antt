@@ -1,6 +1,6 @@
 -- The first tables were borrowed.
 use Rattle.std.proofs.Common.{◌≡◌, ◌≤◌, length, map, take, vec_capacity, vec_len}
-use Rattle.history_audit.proofs.epochs.borrowed.Given as goal
+use Rattle.history_audit.proofs.in_turn.borrowed.Given as goal
 
 abbrev pub invariant-loop-table : goal.invariant-loop-table
 invariant-loop-table l = record {

@@ -1,6 +1,6 @@
 -- The first tables were copied.
 use Rattle.std.proofs.Common.{◌≡◌, ◌≤◌, length, map, take, vec_capacity, vec_len}
-use Rattle.history_audit.proofs.epochs.copies.Given as goal
+use Rattle.history_audit.proofs.in_turn.copies.Given as goal
 
 abbrev pub invariant-loop-table : goal.invariant-loop-table
 invariant-loop-table l = record {

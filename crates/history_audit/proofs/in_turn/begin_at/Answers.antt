@@ -2,7 +2,7 @@ use Rattle.std.proofs.Common.{length, take, get_or, slice_get, Some, sym, ap, â—
 use Rattle.std.proofs.Math.Numerals.{add-one}
 use Rattle.std.proofs.lemmas.Option.{slice_get-get_or}
 use Rattle.history_audit.proofs.EpochTables.{none-begun, begun-as_many, not_yet-begun, one-begun}
-use Rattle.history_audit.proofs.epochs.begin_at.Goals as goal
+use Rattle.history_audit.proofs.in_turn.begin_at.Goals as goal
 
 pub loop-x-init : goal.loop-x-init
 loop-x-init c = sym (none-begun c.args.tables.now.items)

@@ -1,7 +1,7 @@
 -- The first histories have their audits, and the tables begin where they end.
 use Rattle.std.proofs.Common.{◌≡◌, map, take}
 use Rattle.history_audit.specs.Epochs.{AreAudits, tables_after}
-use Rattle.history_audit.proofs.epochs.audit_each.Given as goal
+use Rattle.history_audit.proofs.in_turn.audit_each.Given as goal
 
 abbrev pub invariant-loop-epoch : goal.invariant-loop-epoch
 invariant-loop-epoch l = record {

@@ -3,7 +3,7 @@ use Rattle.std.proofs.Math.Numerals.{add-one}
 use Rattle.std.proofs.lemmas.Option.{slice_get-get_or, slice_get-map}
 use Rattle.history_audit.specs.Epochs.{tables_at, tables_after}
 use Rattle.history_audit.proofs.EpochAudits.{audits-at, tables-more, faults-at}
-use Rattle.history_audit.proofs.epochs.audit_each.Goals as goal
+use Rattle.history_audit.proofs.in_turn.audit_each.Goals as goal
 
 pub returns-in_err-audit : goal.returns-in_err-audit
 returns-in_err-audit c =
