@@ -10,12 +10,14 @@ use workers::WorkFault;
 /// Why nothing was measured.
 #[derive(Debug, Drop, Error)]
 pub enum BenchError {
-    #[error("the first word is check, store, follow, lasting, lines or workers")]
+    #[error("the first word is check, store, follow, followed, lasting, lines or workers")]
     NoSuchBench,
     #[error("usage: benches check undo|intentions FILE ROUNDS")]
     CheckUsage,
     #[error("usage: benches store|follow undo|intentions FILE OBJECTS OPEN CALLS plain|old|rollback COMMANDS ROUNDS")]
     StoreUsage,
+    #[error("usage: benches followed undo|intentions NUMBERS FILE..")]
+    FollowedUsage,
     #[error("usage: benches lasting FILE MILLIONS")]
     LastingUsage,
     #[error("usage: benches lines type|script FILE ROUNDS")]
@@ -40,6 +42,10 @@ pub enum BenchError {
     Refused(#[from] Refusal),
     #[error("a store doesn't follow the events of another")]
     Strayed,
+    #[error("history {0}: a store doesn't follow it as the plain program says")]
+    Differs(usize),
+    #[error("the numbers end in the midst of a history")]
+    CutShort,
     #[error("a job wasn't run")]
     NotRun,
 }

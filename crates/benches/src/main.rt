@@ -3,6 +3,7 @@
 
 mod bench_error;
 mod check_bench;
+mod followed_bench;
 mod lasting_bench;
 mod lines_bench;
 mod parts;
@@ -37,6 +38,7 @@ fn measure<R: Env + Files + Clock + Print + AllocGlobal + Threads + Wait + Sync>
             "check" => check_bench::measure(rt, words),
             "store" => store_bench::measure(rt, What::Run, words),
             "follow" => store_bench::measure(rt, What::Follow, words),
+            "followed" => followed_bench::measure(rt, words),
             "lasting" => lasting_bench::measure(rt, words),
             "lines" => lines_bench::measure(rt, words),
             "workers" => workers_bench::measure(rt, words),

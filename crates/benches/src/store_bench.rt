@@ -9,9 +9,10 @@ mod workload;
 
 use crate::bench_error::BenchError;
 use crate::parts::{checked_of, number};
+pub use fresh::Fresh;
 use intentions_manager::IntentionsManager;
 use object_trait::Event;
-pub use rounds::store_of;
+pub use rounds::{store_at, store_of};
 use rounds::{Measured, least_followed, least_of};
 use std::fs;
 use std::mem::size_of;

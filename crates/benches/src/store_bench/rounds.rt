@@ -61,6 +61,15 @@ pub fn store_of<M: Fresh>(
     for _ in 0..objects {
         fresh.push(M::fresh(alloc, checked.clone()?)?)?;
     }
+    store_at(alloc, fresh, max_events)
+}
+
+/// A store of these new objects, whose history may have so many events.
+pub fn store_at<M: Fresh>(
+    alloc: Global,
+    fresh: Vec<M>,
+    max_events: u32,
+) -> Result<Store<M>, BenchError> {
     match Store::new(alloc, fresh, max_events) {
         Ok(store) => Ok(store),
         Err((_, refusal)) => Err(BenchError::NoStore(refusal)),
