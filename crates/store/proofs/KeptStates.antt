@@ -55,6 +55,10 @@ module _ (headline : CheckedHeadline) (ms : List Meaning) (locks : List Locks) (
       let found = found-map (λ (m : Meaning). m.checked) ms x c there in
       subst IsChecked found.2 (kept.objects x found.0 found.1).checked
 
+  -- as its callers see them
+  pub checked-shown : AreChecked s.types
+  checked-shown = subst (λ (z : Stored). AreChecked z.types) same accepted
+
   -- so the headline holds of it
   owed : IsSerialAndKept (objects_of ms) H
   owed = headline (types_of ms) H accepted kept.run

@@ -16,3 +16,4 @@ pub mod Pasts
 pub mod OpCalls
 pub mod OneAnswer
 pub mod Renewals
+pub mod SerialRenewals

@@ -1,20 +1,23 @@
 -- A store that begins anew at the states of its objects.
-use Rattle.std.proofs.Common.{◌≡◌, ℕ, zero, suc, ◌+◌, ◌<◌, ◌≤◌, List, [], ◌∷◌, ◌++◌, map, length, false, Option, Some, None, slice_get, refl, sym, ap, subst, ◌∙◌, inl, inr, arith}
+use Rattle.std.proofs.Common.{◌≡◌, ℕ, zero, suc, ◌+◌, ◌<◌, ◌≤◌, List, [], ◌∷◌, ◌++◌, length, false, Option, Some, slice_get, refl, sym, ap, subst, ◌∙◌, inl, inr, arith}
 use Rattle.std.proofs.lemmas.List.{length-append, length-map}
-use Rattle.std.proofs.lemmas.Option.{none-some, same_Some}
-use Rattle.type_table.proofs.Elements.{cases-more, found-map}
+use Rattle.std.proofs.lemmas.Option.{none-some, same_Some, slice_get_within}
+use Rattle.type_table.specs.Laws.{RunsAlong}
+use Rattle.type_table.proofs.Elements.{cases-more, element_at, found-map}
 use Rattle.table_checker.specs.Checked.{Checked, IsChecked}
 use Rattle.table_checker.specs.At.{checked_at}
 use Rattle.object_trait.specs.Meaning.{Meaning, state_of}
 use Rattle.object_trait.specs.declared.event.Event.{Event}
 use Rattle.serial_order.specs.History.{seen, is_open}
-use Rattle.serial_order.specs.Laws.{AreChecked}
+use Rattle.serial_order.specs.Laws.{AreChecked, CheckedHeadline}
 use Rattle.epochs.specs.Epochs.{types_at, ClosedIsEpoch}
 use Rattle.op_locks.specs.Locks.{Locks}
 use Rattle.open_transactions.specs.Transactions.{Row}
 use Rattle.store_laws.specs.Kept.{keeping, IsKept}
 use Rattle.store_laws.specs.Stored.{Stored, types_of}
+use Rattle.store.specs.KeptState.{IsKeptState}
 use Rattle.store.specs.Renews.{IsRenewed, AreRenewed, Renews}
+use Rattle.store.proofs.KeptStates.{kept-shown}
 use Rattle.store.proofs.Stored.{stored, shown}
 
 -- ---- one object after another
@@ -48,18 +51,23 @@ renewed-all ms now capacity i first all = record { as_many = first.as_many ∙ a
 
 -- ---- the states that were kept
 
+-- the state of an object, in two bytes
+abbrev IsStateOf : Meaning → ℕ → Type 0
+IsStateOf m s = (state_of m ≡ Some s) × (s < 65536)
+
 -- their list, and the types at them
 pub record AreKept (ms now : List Meaning) : Type 0 where
   pub kept : List ℕ
   pub as_many : length kept ≡ length ms
   pub types : types_of now ≡ types_at (types_of ms) kept
-  pub states : (x : ℕ) (m : Meaning) (s : ℕ) → slice_get ms x ≡ Some m → slice_get kept x ≡ Some s → state_of m ≡ Some s
+  pub states : (x : ℕ) (m : Meaning) (s : ℕ) → slice_get ms x ≡ Some m → slice_get kept x ≡ Some s → IsStateOf m s
 
 -- one in front
-states-more : (m : Meaning) (ms : List Meaning) (k : ℕ) (kept : List ℕ) → state_of m ≡ Some k
-    → ((x : ℕ) (n : Meaning) (s : ℕ) → slice_get ms x ≡ Some n → slice_get kept x ≡ Some s → state_of n ≡ Some s)
-    → (x : ℕ) (n : Meaning) (s : ℕ) → slice_get (m ∷ ms) x ≡ Some n → slice_get (k ∷ kept) x ≡ Some s → state_of n ≡ Some s
-states-more m ms k kept first rest zero n s there here = subst (λ o. state_of o ≡ Some s) (same_Some m n there) (first ∙ here)
+states-more : (m : Meaning) (ms : List Meaning) (k : ℕ) (kept : List ℕ) → IsStateOf m k
+    → ((x : ℕ) (n : Meaning) (s : ℕ) → slice_get ms x ≡ Some n → slice_get kept x ≡ Some s → IsStateOf n s)
+    → (x : ℕ) (n : Meaning) (s : ℕ) → slice_get (m ∷ ms) x ≡ Some n → slice_get (k ∷ kept) x ≡ Some s → IsStateOf n s
+states-more m ms k kept first rest zero n s there here =
+    subst (λ (o : Meaning). IsStateOf o s) (same_Some m n there) (subst (λ i. IsStateOf m i) (same_Some k s here) first)
 states-more m ms k kept first rest (suc x) n s there here = rest x n s there here
 
 pub kept-of : (ms now : List Meaning) → AreRenewed ms now → AreKept ms now
@@ -73,7 +81,7 @@ kept-of (m ∷ ms) (n ∷ now) all =
       kept = first.kept ∷ rest.kept;
       as_many = ap suc rest.as_many;
       types = ap (λ (c : Checked). c ∷ types_of now) first.checked ∙ ap (λ ts. checked_at m.checked first.kept ∷ ts) rest.types;
-      states = states-more m ms first.kept rest.kept first.state rest.states;
+      states = states-more m ms first.kept rest.kept (first.state, first.short) rest.states;
     }
 
 -- ---- the store
@@ -85,23 +93,33 @@ module _ (ms : List Meaning) (locks : List Locks) (rows : List (Option Row)) (K 
       let found = found-map (λ (m : Meaning). m.checked) ms x c there in
       subst IsChecked found.2 (kept.objects x found.0 found.1).checked
 
+  -- each state is the one that is kept there
+  are-kept : CheckedHeadline → RunsAlong → (now : List Meaning) (max forgotten : ℕ) (its : AreKept ms now) (x s : ℕ) → slice_get its.kept x ≡ Some s
+      → IsKeptState (shown (keeping ms locks rows) K max forgotten) x s
+  are-kept headline along now max forgotten its x s here =
+      let low : x < length ms = omega (arith, its.as_many, slice_get_within its.kept x s here) in
+      let found = element_at ms x low in
+      let is = its.states x found.0 s found.1 here in
+      kept-shown headline ms locks rows K max forgotten kept (shown (keeping ms locks rows) K max forgotten) refl along x s found.0 found.1 is.0 is.1
+
   -- its history is an epoch, and the new one is of the types at the kept states
-  pub renews-shown : ClosedIsEpoch → (now : List Meaning) (max forgotten : ℕ) (new : Stored) → ((t : ℕ) → is_open (seen K) t ≡ false) → AreRenewed ms now
+  pub renews-shown : CheckedHeadline → RunsAlong → ClosedIsEpoch → (now : List Meaning) (max forgotten : ℕ) (new : Stored) → ((t : ℕ) → is_open (seen K) t ≡ false) → AreRenewed ms now
       → new ≡ stored (types_of now) [] max 0 → Renews (shown (keeping ms locks rows) K max forgotten) new
-  renews-shown closed now max forgotten new none all made =
+  renews-shown headline along closed now max forgotten new none all made =
       let its = kept-of ms now all in
       record {
         kept = its.kept;
         as_many = its.as_many ∙ sym (length-map ms (λ (m : Meaning). m.checked));
+        states = are-kept headline along now max forgotten its;
         epoch = closed ms (record { history = K; kept = its.kept }) accepted kept.run none
-            (λ x m there. let o = kept.objects x m there in (o.sound, o.represents)) its.states;
+            (λ x m there. let o = kept.objects x m there in (o.sound, o.represents)) (λ x m s there here. (its.states x m s there here).0);
         is = made ∙ ap (λ ts. stored ts [] max 0) its.types;
       }
 
 -- and so as its callers see it
-pub renews : ClosedIsEpoch → (ms now : List Meaning) (locks : List Locks) (rows : List (Option Row)) (K : List Event) (max forgotten : ℕ) (s new : Stored)
+pub renews : CheckedHeadline → RunsAlong → ClosedIsEpoch → (ms now : List Meaning) (locks : List Locks) (rows : List (Option Row)) (K : List Event) (max forgotten : ℕ) (s new : Stored)
     → shown (keeping ms locks rows) K max forgotten ≡ s → IsKept (keeping ms locks rows) K → ((t : ℕ) → is_open (seen s.history) t ≡ false) → AreRenewed ms now
     → new ≡ stored (types_of now) [] max 0 → Renews s new
-renews closed ms now locks rows K max forgotten s new same kept none all made =
+renews headline along closed ms now locks rows K max forgotten s new same kept none all made =
     subst (λ (z : Stored). Renews z new) same
-    (renews-shown ms locks rows K kept closed now max forgotten new (subst (λ (z : Stored). (t : ℕ) → is_open (seen z.history) t ≡ false) (sym same) none) all made)
+    (renews-shown ms locks rows K kept headline along closed now max forgotten new (subst (λ (z : Stored). (t : ℕ) → is_open (seen z.history) t ≡ false) (sym same) none) all made)

@@ -4,4 +4,5 @@ pub mod Calls
 pub mod Ends
 pub mod KeptState
 pub mod Renews
+pub mod Renewals
 pub mod Examples

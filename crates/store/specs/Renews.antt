@@ -1,5 +1,5 @@
 -- A store that begins anew at the states that it kept.
-use Rattle.std.specs.Prelude.{◌≡◌, ℕ, List, [], length, true, false, Some, slice_get}
+use Rattle.std.specs.Prelude.{◌≡◌, ℕ, ◌<◌, List, [], length, true, false, Some, slice_get}
 use Rattle.type_table.specs.StateSet.{has}
 use Rattle.table_checker.specs.At.{checked_at}
 use Rattle.object_trait.specs.Meaning.{Meaning, state_of}
@@ -7,6 +7,7 @@ use Rattle.object_trait.specs.Steps.{IsFresh}
 use Rattle.serial_order.specs.History.{seen, is_open}
 use Rattle.epochs.specs.Epochs.{IsEpoch, types_at}
 use Rattle.store_laws.specs.Stored.{Stored}
+use Rattle.store.specs.KeptState.{IsKeptState}
 use Rattle.store.specs.declared.refusals.RenewRefusal.{RenewRefusal}
 use Rattle.store.specs.declared.refusals.RenewRefusal.TheVariants.{StillOpen, NoMemory}
 
@@ -16,6 +17,7 @@ use Rattle.store.specs.declared.refusals.RenewRefusal.TheVariants.{StillOpen, No
 pub record IsRenewed (m new : Meaning) : Type 0 where
   pub kept : ℕ
   pub state : state_of m ≡ Some kept
+  pub short : kept < 65536
   pub fresh : IsFresh new
   pub checked : new.checked ≡ checked_at m.checked kept
 
@@ -33,6 +35,7 @@ AreInside ms = (x : ℕ) (m : Meaning) (s : ℕ) → slice_get ms x ≡ Some m �
 pub record Renews (old new : Stored) : Type 0 where
   pub kept : List ℕ
   pub as_many : length kept ≡ length old.types
+  pub states : (x s : ℕ) → slice_get kept x ≡ Some s → IsKeptState old x s
   pub epoch : IsEpoch old.types (record { history = old.history; kept = kept })
   pub is : new ≡ record { types = types_at old.types kept; history = []; max = old.max; forgotten = 0 }
 

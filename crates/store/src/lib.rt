@@ -9,6 +9,7 @@ mod ends;
 mod executing;
 mod expected;
 mod forget;
+mod laws;
 mod parts;
 mod refusals;
 mod renew;
@@ -18,6 +19,7 @@ mod room;
 mod store;
 mod would;
 
+pub use laws::renewals_are_serial;
 pub use object_calls::Answer;
 pub use refusals::{NewRefusal, RenewRefusal};
 pub use store::Store;

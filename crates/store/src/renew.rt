@@ -10,9 +10,12 @@ use crate::renewed::renewed_objects;
 use crate::store::Store;
 use epochs::{closed_is_epoch, states_are_inside};
 use object_trait::{Event, Recovery, Renew};
-use serial_order::{beginners_after, opens_after, run_goes_on, seen_after, transactions_in_run};
+use serial_order::{
+    beginners_after, checked_headline, opens_after, run_goes_on, seen_after, transactions_in_run,
+};
 use std::alloc::{AllocError, Global};
 use store_laws::rows_say_who_is_open;
+use type_table::runs_along;
 
 impl<R: Renew> Store<R> {
     /// Begins an epoch: a store of the same types at the states that were kept, with no event yet and the
@@ -48,6 +51,8 @@ impl<R: Renew> Store<R> {
         requires { (t : ℕ) → is_open (seen self.now.history) t ≡ false }
         ensures { IfOk result (λ store. Renews self.now store) }
     {
+        checked_headline();
+        runs_along();
         closed_is_epoch();
         states_are_inside();
         let objects = renewed_objects(alloc, &self.objects)?;

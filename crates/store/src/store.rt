@@ -2,6 +2,7 @@
 
 ghost use Rattle.std.specs.Prelude.{◌≡◌, ◌≤◌, [], map, length, drop, nat_lt, is_some, IfOk, IfErr, IfSome};
 ghost use Rattle.serial_order.specs.History.{begins};
+ghost use Rattle.serial_order.specs.Laws.{AreChecked};
 ghost use Rattle.serial_order.specs.Machine.{IsRun};
 ghost use Rattle.serial_order.specs.Serial.{IsSerial};
 ghost use Rattle.store_laws.specs.Stored.{objects, types_of};
@@ -94,13 +95,14 @@ impl<R: Recovery> Store<R> {
 
     /// The events so far that weren't forgotten, oldest first. All that there were are a run of the
     /// machine, whose committed transactions, run one after another in commit order, give the same
-    /// replies.
+    /// replies. The checker said yes for the type of each object.
     pub fn history(&self) -> &[Event]
         ensures exact { result.now ≡ drop self.now.forgotten self.now.history }
         ensures whole { self.now.forgotten ≡ 0 → result.now ≡ self.now.history }
         ensures run { IsRun (objects self.now) self.now.history }
         ensures serial { IsSerial (objects self.now) self.now.history }
         ensures room { length self.now.history ≤ self.now.max }
+        ensures checked { AreChecked self.now.types }
     {
         checked_headline();
         &self.history

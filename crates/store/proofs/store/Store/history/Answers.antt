@@ -1,7 +1,7 @@
 use Rattle.std.proofs.Common.{◌++◌, map, drop, ap, ◌∙◌}
 use Rattle.store.proofs.Pasts.{drop-shown}
 use Rattle.store_laws.specs.Stored.{types_of}
-use Rattle.store.proofs.KeptStates.{serial-shown}
+use Rattle.store.proofs.KeptStates.{checked-shown, serial-shown}
 use Rattle.store.proofs.store.Store.history.Goals as goal
 
 pub returns-clause-serial : goal.returns-clause-serial
@@ -18,3 +18,9 @@ returns-clause-exact g c =
 
 pub returns-clause-whole : goal.returns-clause-whole
 returns-clause-whole g c = λ none. returns-clause-exact g c ∙ ap (λ n. drop n c.args.self.now.history) none
+
+pub returns-clause-checked : goal.returns-clause-checked
+returns-clause-checked g c =
+    let inside = c.self.inside in
+    checked-shown c.checked_headline.ensures (map g.R.Recovery.meaning inside.objects.items) inside.locks.items inside.transactions.rows (inside.past.items ++ inside.history.items) inside.max_events inside.forgotten
+    c.self.invariant.1.store.kept c.args.self.now c.self.view_is
