@@ -25,8 +25,10 @@ use type_table::runs_along;
 /// Transactions over shared objects, each of which has a checked type and a way of recovering from
 /// aborts.
 ///
-/// Contracts see the objects' types, the history, and the most events that it may have. A store can't
-/// be dropped: `close` is its one end.
+/// Contracts see the objects' types, the history, the most events that it may have, and how many of them
+/// were forgotten. That a store is as it was, after a call that was refused, says that these are: they
+/// determine the state of an object in place, and that of a deferred one up to equieffectiveness, as
+/// `kept` tells it. A store can't be dropped: `close` is its one end.
 pub struct Store<R: Recovery> {
     pub(crate) objects: Vec<R>,
     // The calls of each object's type.
