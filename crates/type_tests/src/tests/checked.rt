@@ -8,7 +8,7 @@ use table_checker::{
 use table_maker::MakeError;
 use test_support::printed::are_printed;
 use test_support::texts::changed;
-use test_support::type_texts::COUNTER;
+use test_support::type_texts::{COUNTER, IDLE};
 use type_table::{ConflictTable, Kind};
 use type_text::{Sink, TypeFile, read_type, write_type};
 
@@ -80,6 +80,27 @@ fn counter_refused_in_parallel_comes_back(rt: HostRuntime) -> Result<(), Fail> {
     let checked = check_parallel(&rt, read_type(rt.alloc(), &text)?, Kind::Undo);
     let wanted = CheckRefusal::NotCommuting { p: 0, q: 1, s: 2 };
     comes_back(&rt, &text, checked, wanted)
+}
+
+/// A type begins anew at the states of its set, and at no other.
+#[test]
+fn types_begin_at_states_of_their_set(rt: HostRuntime) -> Result<(), Fail> {
+    let file = read_type(rt.alloc(), IDLE.as_bytes())?;
+    let Ok(idle) = check(file, Kind::Undo) else {
+        return Err("refused")?;
+    };
+    for state in [1, 2, 3, u16::MAX] {
+        assert!(rt; idle.at(rt.alloc(), state)?.is_none());
+    }
+    assert!(rt; idle.at(rt.alloc(), 0)?.is_some());
+    let file = read_type(rt.alloc(), COUNTER.as_bytes())?;
+    let Ok(counter) = check(file, Kind::Undo) else {
+        return Err("refused")?;
+    };
+    let at_two = counter.at(rt.alloc(), 2)?.ok_or("no type")?;
+    assert!(rt; at_two.table().initial() == 2);
+    assert!(rt; counter.at(rt.alloc(), 3)?.is_none());
+    Ok(())
 }
 
 /// Refusals, and how they are printed.

@@ -166,3 +166,20 @@ fn a_replay_ends_at_a_stray(rt: HostRuntime) -> Result<(), Fail> {
     assert!(rt; was == (4, Some(2)));
     Ok(())
 }
+
+/// A store may forget what it followed before it follows the rest.
+#[test]
+fn a_replay_goes_on_behind_what_is_forgotten(rt: HostRuntime) -> Result<(), Fail> {
+    let (first, rest) = EVENTS.split_at(5);
+    let mut store = counter(&rt)?;
+    let told = (replay(&mut store, first), store.kept(0));
+    store.forget(4);
+    let last = (replay(&mut store, rest), store.kept(0));
+    let count = store.event_count();
+    let (history, _) = store.close();
+    assert!(rt; told == (Ok(()), Some(2)));
+    assert!(rt; last == (Ok(()), Some(0)));
+    assert!(rt; count == 10);
+    assert!(rt; history.as_slice() == &EVENTS[4..]);
+    Ok(())
+}

@@ -94,6 +94,40 @@ fn an_epoch_begins_at_the_kept_state(rt: HostRuntime) -> Result<(), Fail> {
     }
 }
 
+/// A counter of each kind is counted up by one transaction.
+static BOTH: [Row; 4] = [
+    (1, Ask::Begin, Told::Begun(0)),
+    (1, Ask::Call(0, 0, "inc:1"), Told::Reply(0)),
+    (1, Ask::Call(0, 1, "inc:1"), Told::Reply(0)),
+    (1, Ask::Commit(0), Told::Done),
+];
+
+/// The next epoch begins with both counters up.
+static BOTH_NEXT: [Row; 3] = [
+    (2, Ask::Kept(0), Told::Kept(Some(1))),
+    (2, Ask::Kept(1), Told::Kept(Some(1))),
+    (2, Ask::Begin, Told::Begun(0)),
+];
+
+#[test]
+fn new_epochs_want_memory(rt: HostRuntime) -> Result<(), Fail> {
+    let sorts = [(Kind::Undo, COUNTER), (Kind::Intentions, COUNTER)];
+    let mut store = store_of(&rt, objects_of(rt.alloc(), &sorts)?, 8)?;
+    answers(&rt, &mut store, &BOTH);
+    match renewed(&rt, store) {
+        Ok((mut store, events)) => {
+            assert!(rt; events.len() == 4);
+            answers(&rt, &mut store, &BOTH_NEXT);
+            let _ = store.close();
+            Ok(())
+        }
+        Err((store, _)) => {
+            let _ = store.close();
+            panic!(rt; "no epoch began")
+        }
+    }
+}
+
 /// How many epochs follow one another.
 const EPOCHS: u32 = 1000;
 
