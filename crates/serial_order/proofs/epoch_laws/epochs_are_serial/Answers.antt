@@ -1,5 +1,5 @@
-use Rattle.epochs.proofs.Epochs.{epochs-are-serial}
-use Rattle.epochs.proofs.laws.epochs_are_serial.Goals as goal
+use Rattle.serial_order.proofs.Epochs.{epochs-are-serial}
+use Rattle.serial_order.proofs.epoch_laws.epochs_are_serial.Goals as goal
 
 pub returns : goal.returns
 returns c =

@@ -1,7 +1,7 @@
 -- What a list of operations does is the same wherever a type begins.
-use Rattle.std.proofs.Common.{◌≡◌, ℕ, List, Option}
+use Rattle.std.proofs.Common.{ℕ, List, Option}
 use Rattle.type_table.specs.Table.{Table, table_at}
-use Rattle.type_table.specs.Run.{run, IsLegal, Looks, AreEqui}
+use Rattle.type_table.specs.Run.{IsLegal, Looks, AreEqui}
 use Rattle.type_table.specs.Laws.{RunsAlike}
 
 module _ (alike : RunsAlike) where

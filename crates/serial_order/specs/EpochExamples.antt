@@ -2,7 +2,7 @@
 use Rattle.std.specs.Prelude.{List, [], ◌∷◌}
 use Rattle.object_trait.specs.declared.event.EventKind.TheVariants.{Begin, Op, Commit}
 use Rattle.serial_order.specs.Examples.{events}
-use Rattle.epochs.specs.Epochs.{Epoch}
+use Rattle.serial_order.specs.Epochs.{Epoch}
 
 -- operation 0 counts up, and 1 is kept
 abbrev pub up : Epoch

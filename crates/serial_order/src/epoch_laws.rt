@@ -1,9 +1,10 @@
-//! Each function does nothing, and its contract is the law. It calls the laws on which it depends.
+//! Laws of epochs: histories one after another, each from the states that were kept at the end of
+//! the one before it. Each function does nothing, and its contract is the law.
 
-ghost use Rattle.epochs.specs.Epochs.{ClosedIsEpoch, EpochsAreSerial, EpochsGoOn, StatesAreInside};
+ghost use Rattle.serial_order.specs.Epochs.{ClosedIsEpoch, EpochsAreSerial, EpochsGoOn, StatesAreInside};
 
+use crate::laws::checked_headline;
 use object_trait::checked_is_covered;
-use serial_order::checked_headline;
 use table_checker::{at_is_checked, at_is_strong};
 use type_table::{ends_inside, equi_extends, looks_extends, runs_alike, runs_along};
 

@@ -1,25 +1,24 @@
 -- Epochs are serial, one after another.
-use Rattle.std.proofs.Common.{◌≡◌, ℕ, zero, suc, ◌<◌, Bool, true, false, List, [], ◌∷◌, ◌++◌, map, length, Option, Some, None, slice_get, refl, sym, ap, subst, ◌∙◌}
+use Rattle.std.proofs.Common.{◌≡◌, ℕ, zero, suc, List, [], ◌∷◌, ◌++◌, map, Option, Some, slice_get, refl, sym, ap, subst, ◌∙◌}
 use Rattle.std.specs.Option.{option_map}
 use Rattle.std.proofs.lemmas.Option.{none-some, same_Some, slice_get-map}
 use Rattle.type_table.specs.Table.{Table, table_at}
 use Rattle.type_table.specs.Run.{run, IsLegal, Looks, AreEqui}
 use Rattle.type_table.specs.Laws.{RunsAlike, RunsAlong, LooksExtends, EquiExtends, IsExtended}
-use Rattle.type_table.specs.StateSet.{has}
 use Rattle.type_table.specs.declared.kind.Kind.{Kind}
 use Rattle.type_table.specs.declared.kind.Kind.TheVariants.{Undo, Intentions}
 use Rattle.table_checker.specs.Checked.{Checked, IsChecked, IsStrong}
-use Rattle.object_trait.specs.Object.{Object, IsCoveredStrongly, object_of}
+use Rattle.object_trait.specs.Object.{object_of}
 use Rattle.object_trait.specs.Laws.{CheckedIsCovered}
 use Rattle.object_trait.specs.declared.event.Event.{Event}
 use Rattle.serial_order.specs.Operations.{ops}
 use Rattle.serial_order.specs.Machine.{IsRun}
 use Rattle.serial_order.specs.Serial.{serial_at, serial_state}
-use Rattle.serial_order.specs.Stand.{IsIdle, KeptAgreesBy}
+use Rattle.serial_order.specs.Stand.{KeptAgreesBy}
 use Rattle.serial_order.specs.Laws.{AreChecked, CheckedHeadline}
 use Rattle.table_checker.specs.At.{checked_at, AtIsChecked, AtIsStrong}
-use Rattle.epochs.specs.Epochs.{Epoch, types_at, IsKeptAt, IsEpoch, AreEpochs, types_after, serial_over, IsSerialOver, EpochsAreSerial, EpochsGoOn}
-use Rattle.epochs.proofs.Starts.{legal-from, looks-from, looks-to, equi-from, equi-to}
+use Rattle.serial_order.specs.Epochs.{Epoch, types_at, IsKeptAt, IsEpoch, AreEpochs, types_after, serial_over, EpochsAreSerial, EpochsGoOn}
+use Rattle.serial_order.proofs.EpochStarts.{legal-from, looks-from, looks-to, equi-from, equi-to}
 
 -- ---- types at kept states
 
