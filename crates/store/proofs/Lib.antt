@@ -16,3 +16,6 @@ pub mod Pasts
 pub mod OpCalls
 pub mod OneAnswer
 pub mod Renewals
+pub mod Follows
+pub mod FollowedOps
+pub mod Replays

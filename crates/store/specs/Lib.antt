@@ -4,4 +4,6 @@ pub mod Calls
 pub mod Ends
 pub mod KeptState
 pub mod Renews
+pub mod Follows
+pub mod Replays
 pub mod Examples

@@ -9,8 +9,8 @@ use Rattle.serial_order.specs.declared.command.Command.{Command}
 use Rattle.serial_order.specs.declared.refusal.Refusal.{Refusal}
 use Rattle.serial_order.specs.declared.refusal.Refusal.TheVariants as refusal
 use Rattle.store_laws.specs.Stored.{Stored, objects, refusal_of}
-use Rattle.replay.specs.declared.stray.Stray.{Stray}
-use Rattle.replay.specs.declared.stray.Stray.TheVariants.{NotMade, NoMemory}
+use Rattle.store.specs.declared.stray.Stray.{Stray}
+use Rattle.store.specs.declared.stray.Stray.TheVariants.{NotMade, NoMemory}
 
 -- some command that isn't refused makes the event
 pub record IsMade (s : Stored) (e : Event) : Type 0 where
@@ -25,8 +25,8 @@ IsOfCallAlone s happened t x c =
     → (name : List ℕ) × (d ≡ Call t x name) × (call_at (slice_get (objects s) x) name ≡ Some c)
 
 -- with the event
-abbrev pub noted : Stored → Event → Stored
-noted s e = record s { history = s.history ++ e ∷ [] }
+abbrev pub with_event : Stored → Event → Stored
+with_event s e = record s { history = s.history ++ e ∷ [] }
 
 abbrev pub stray_of : Refusal → Stray
 stray_of refusal.NoMemory = NoMemory
@@ -43,6 +43,6 @@ answered (Err r) = Err (stray_of r)
 
 -- what becomes of an event that is to be made again
 abbrev pub Follows : Stored → Event → Result (Unit {0}) Stray → Stored → Type 0
-Follows old e (Ok x) new = IsMade old e × (new ≡ noted old e)
+Follows old e (Ok x) new = IsMade old e × (new ≡ with_event old e)
 Follows old e (Err NotMade) new = (IsMade old e → ⊥) × (new ≡ old)
 Follows old e (Err NoMemory) new = new ≡ old

@@ -21,14 +21,14 @@ use Rattle.serial_order.specs.Answer as definition
 use Rattle.store_laws.specs.Stored.{Stored, objects, refusal_of}
 use Rattle.store_laws.specs.Words.{as_event}
 use Rattle.store.specs.Calls.{op_call_at, CallsIf}
-use Rattle.replay.specs.Follows.{Follows, IsMade, IsOfCallAlone, answered}
+use Rattle.store.specs.Follows.{Follows, IsMade, IsOfCallAlone, answered}
 use Rattle.serial_order.specs.View.{is_of_call}
 use Rattle.serial_order.specs.Answer.{first_below, found_or, blocker, busy_with, refused, is_reply, is_free_reply, event_of_call}
 use Rattle.serial_order.specs.Replay.{call_event, call_at, event_of}
 use Rattle.serial_order.specs.declared.entry.Entry.{Entry}
 use Rattle.serial_order.specs.declared.command.Command.{Command}
 use Rattle.serial_order.specs.declared.command.Command.TheVariants as command
-use Rattle.replay.proofs.Follows.{IsOfCall, call-of}
+use Rattle.store.proofs.Follows.{IsOfCall, call-of}
 
 -- what is found below n passes
 found-or-passes : (test : ℕ → Bool) (n k : ℕ) (found : Option ℕ) → ((j : ℕ) → found ≡ Some j → test j ≡ true) → (passes : Bool) → test n ≡ passes → found_or found passes n ≡ Some k → test k ≡ true

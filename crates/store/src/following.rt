@@ -3,12 +3,13 @@
 ghost use Rattle.std.specs.Prelude.{◌≡◌};
 ghost use Rattle.object_trait.specs.declared.event.EventKind.TheVariants as kind;
 ghost use Rattle.store_laws.specs.Words.{as_event};
-ghost use Rattle.replay.specs.Follows.{Follows, IsOfCallAlone, answered, told, stray_of};
+ghost use Rattle.store.specs.Follows.{Follows, IsOfCallAlone, answered, told, stray_of};
 
+use crate::store::Store;
 use crate::stray::Stray;
+use object_calls::Answer;
 use object_trait::{Event, EventKind, Recovery};
 use serial_order::Refusal;
-use store::{Answer, Store};
 
 /// Makes an event again, as the worker that made it: it does the command that makes it.
 ///

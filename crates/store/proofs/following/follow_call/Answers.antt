@@ -1,8 +1,8 @@
 use Rattle.std.proofs.Common.{Result, subst, sym}
-use Rattle.replay.specs.declared.stray.Stray.{Stray}
-use Rattle.replay.specs.Follows.{Follows}
-use Rattle.replay.proofs.Ops.{called-follows}
-use Rattle.replay.proofs.following.follow_call.Goals as goal
+use Rattle.store.specs.declared.stray.Stray.{Stray}
+use Rattle.store.specs.Follows.{Follows}
+use Rattle.store.proofs.FollowedOps.{called-follows}
+use Rattle.store.proofs.following.follow_call.Goals as goal
 
 pub returns : goal.returns
 returns g c =

@@ -15,8 +15,8 @@ use Rattle.serial_order.specs.declared.command.Command.TheVariants as command
 use Rattle.serial_order.specs.declared.refusal.Refusal.{Refusal}
 use Rattle.serial_order.specs.declared.refusal.Refusal.TheVariants as refusal
 use Rattle.store_laws.specs.Stored.{Stored, objects, refusal_of, after, Steps, MayStep}
-use Rattle.replay.specs.Follows.{IsMade, noted, stray_of, told, Follows}
-use Rattle.replay.specs.declared.stray.Stray.{Stray}
+use Rattle.store.specs.Follows.{IsMade, with_event, stray_of, told, Follows}
+use Rattle.store.specs.declared.stray.Stray.{Stray}
 
 -- ---- which command makes an event
 
@@ -110,7 +110,7 @@ module _ (old : Stored) (w : ℕ) (C : Command) (happened : EventKind) (makes : 
   stays r reason = rw reason refl
 
   -- one that isn't refused makes the event
-  goes : refusal_of old C ≡ None → after old w C ≡ noted old (record { worker = w; kind = happened })
+  goes : refusal_of old C ≡ None → after old w C ≡ with_event old (record { worker = w; kind = happened })
   goes accepted = rw (accepted, makes) refl
 
   refused-follows : (r : Refusal) (new : Stored) → refusal_of old C ≡ Some r → new ≡ after old w C

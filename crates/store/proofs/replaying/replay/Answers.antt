@@ -1,6 +1,6 @@
 use Rattle.std.proofs.Common.{refl}
-use Rattle.replay.proofs.Replays.{turn-made}
-use Rattle.replay.proofs.replaying.replay.Goals as goal
+use Rattle.store.proofs.Replays.{turn-made}
+use Rattle.store.proofs.replaying.replay.Goals as goal
 
 pub loop-at-preserved : goal.loop-at-preserved
 loop-at-preserved g c =

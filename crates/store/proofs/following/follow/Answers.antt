@@ -4,9 +4,9 @@ use Rattle.object_trait.specs.declared.event.EventKind.TheVariants as kind
 use Rattle.serial_order.specs.History.{seen}
 use Rattle.serial_order.specs.declared.command.Command.TheVariants as command
 use Rattle.store_laws.specs.Stored.{objects}
-use Rattle.replay.proofs.Follows.{only-commit, only-abort, only-rollback, steps-followed, may-followed}
-use Rattle.replay.proofs.Ops.{call-alone, op-alone}
-use Rattle.replay.proofs.following.follow.Goals as goal
+use Rattle.store.proofs.Follows.{only-commit, only-abort, only-rollback, steps-followed, may-followed}
+use Rattle.store.proofs.FollowedOps.{call-alone, op-alone}
+use Rattle.store.proofs.following.follow.Goals as goal
 
 pub returns-in-Commit : goal.returns-in-Commit
 returns-in-Commit g c =
