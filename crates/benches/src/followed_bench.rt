@@ -7,12 +7,11 @@ use crate::parts::checked_of;
 use crate::store_bench::{Fresh, store_at};
 use intentions_manager::IntentionsManager;
 use object_trait::{Event, EventKind, Recovery};
-use replay::{Stray, follow, replay};
 use std::alloc::{AllocError, Global};
 use std::fs;
 use std::rt::Files;
 use std::sync::Arc;
-use store::Store;
+use store::{Store, Stray, follow, replay};
 use table_checker::{CheckedType, Kind};
 use undo_manager::UndoManager;
 

@@ -17,8 +17,8 @@ use Rattle.serial_order.specs.Operations.{ops}
 use Rattle.serial_order.specs.History.{Seen, seen, IsOperation, MayStand, GoesOn, IsHistory}
 use Rattle.serial_order.specs.Laws.{AreChecked, RunIsHistory}
 use Rattle.serial_order.specs.Serial.{serial_at}
-use Rattle.epochs.specs.Epochs.{AreEpochs, Epoch, EpochsAreSerial, types_after, types_at}
-use Rattle.epochs.specs.Epochs as epochs
+use Rattle.serial_order.specs.Epochs.{AreEpochs, Epoch, EpochsAreSerial, types_after, types_at}
+use Rattle.serial_order.specs.Epochs as epochs
 use Rattle.history_audit.specs.Laws.{tables_of}
 use Rattle.history_audit.specs.Epochs.{AreHistories, AreSerialOver, EpochsDecide, EpochsPass, PassEpochs, serial_over}
 use Rattle.history_audit.specs.declared.outcome.Audit.{Audit}

@@ -10,7 +10,7 @@ use Rattle.serial_order.specs.Operations.{ops}
 use Rattle.serial_order.specs.History.{IsHistory}
 use Rattle.serial_order.specs.Laws.{AreChecked}
 use Rattle.serial_order.specs.Serial.{serial_at}
-use Rattle.epochs.specs.Epochs.{AreEpochs, Epoch}
+use Rattle.serial_order.specs.Epochs.{AreEpochs, Epoch}
 use Rattle.history_audit.specs.Audit.{Audits}
 use Rattle.history_audit.specs.declared.outcome.Audit.{Audit}
 use Rattle.history_audit.specs.declared.outcome.AuditFault.{AuditFault}

@@ -7,8 +7,9 @@ ghost use Rattle.history_audit.specs.Epochs.{EpochsDecide, EpochsPass, YesIsSeri
 ghost use Rattle.history_audit.specs.Moves.{MovedRowsAgree};
 ghost use Rattle.history_audit.specs.Laws.{YesIsSerial, SerialHistoriesPass, RunsPass, AuditDecides, AuditsAgree, AlikeIsWritten};
 
-use epochs::epochs_are_serial;
-use serial_order::{headline, history_opens_after, own_after, run_is_history, seen_after};
+use serial_order::{
+    epochs_are_serial, headline, history_opens_after, own_after, run_is_history, seen_after,
+};
 use type_table::{runs_alike, runs_along};
 
 /// What the audit says yes to is serially legal, for any objects of these tables.

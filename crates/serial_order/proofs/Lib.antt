@@ -32,3 +32,7 @@ pub mod Opens
 pub mod StandCounts
 pub mod Held
 pub mod Numbers
+pub mod Idle
+pub mod EpochStarts
+pub mod Epochs
+pub mod ClosedEpochs

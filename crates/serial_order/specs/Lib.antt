@@ -11,3 +11,5 @@ pub mod After
 pub mod Held
 pub mod Laws
 pub mod Examples
+pub mod Epochs
+pub mod EpochExamples

@@ -1,14 +1,17 @@
 //! Histories of transactions, the machine that makes them, commit order and serial order, and when
-//! an object represents a history: the laws up to the headline.
+//! an object represents a history: the laws up to the headline. And those of epochs: histories one
+//! after another, each from the states that were kept at the end of the one before it.
 #![tactic(auto)]
 
 mod command;
 mod entry;
+mod epoch_laws;
 mod laws;
 mod refusal;
 
 pub use command::Command;
 pub use entry::Entry;
+pub use epoch_laws::{closed_is_epoch, epochs_are_serial, epochs_go_on, states_are_inside};
 pub use laws::{
     allows_alike, answer_may_follow, beginners_after, blocker_is_held, checked_headline,
     command_appends, commit_keeps_views, first_op_is_least, fresh_stands, headline, held_after,

@@ -5,6 +5,8 @@ ghost use Rattle.std.specs.Prelude.{◌≡◌, ◌≤◌, List, true, false, [],
 ghost use Rattle.type_table.specs.Table.{next};
 ghost use Rattle.type_table.specs.Run.{run, Looks};
 ghost use Rattle.type_table.specs.Examples.{counter, one_way};
+ghost use Rattle.table_checker.specs.At.{checked_at};
+ghost use Rattle.table_checker.specs.Checked.{Checked};
 ghost use Rattle.object_trait.specs.Examples.{held, past, counter_at};
 ghost use Rattle.serial_order.specs.Operations.{ops};
 ghost use Rattle.serial_order.specs.History.{seen, commits, standing, IsHistory};
@@ -19,6 +21,8 @@ ghost use Rattle.serial_order.specs.After.{after, is_open_after, AreBelow, Count
 ghost use Rattle.serial_order.specs.Held.{held_at, held_after, own_after};
 ghost use Rattle.serial_order.specs.Laws.{IsSerialAndKept};
 ghost use Rattle.serial_order.specs.Examples.{events, entry, seen_first, undo_one_way, undo_counter, deferred_counter, undo_semiqueue, undo_account, one_way_history, semiqueue_history, deferred_history, lock_history, two_objects_history, unlocked_history, refused_history, reader_history, half_history, half_deferred_history, up_and_back};
+ghost use Rattle.serial_order.specs.Epochs.{serial_over, types_after, types_at};
+ghost use Rattle.serial_order.specs.EpochExamples.{up, up_and_down};
 
 use crate::command::Command;
 use crate::laws::checked_headline;
@@ -232,4 +236,14 @@ pub fn numbers_are_below()
     ensures at_most { AreBelow 2 3 9 (EventKind.Op 8 1 2) }
     ensures another_object { AreBelow 2 3 9 (EventKind.Op 8 2 2) → ⊥ }
     ensures nothing_struck { AreBelow 2 3 9 (EventKind.Rollback 8 0) → ⊥ }
+{}
+
+/// A counter is counted up in one epoch and down in the next: the serial order is both, and the types begin at
+/// what was kept last. An object of which nothing was kept has no place in the next epoch.
+pub fn one_up_and_one_down()
+    ensures serial { serial_over 0 up_and_down ≡ 0 ∷ 1 ∷ [] }
+    ensures others { serial_over 1 up_and_down ≡ [] }
+    ensures behind_one { (c : Checked) → types_after (c ∷ []) (up ∷ []) ≡ checked_at c 1 ∷ [] }
+    ensures behind_both { (c : Checked) → types_after (c ∷ []) up_and_down ≡ checked_at c 0 ∷ [] }
+    ensures left_out { (c d : Checked) → types_at (c ∷ d ∷ []) (1 ∷ []) ≡ checked_at c 1 ∷ [] }
 {}

@@ -3,7 +3,7 @@ use Rattle.std.proofs.Common.{◌≡◌, ℕ, zero, suc, ◌+◌, ◌<◌, ◌�
 use Rattle.std.specs.List.{range_with_len}
 use Rattle.std.proofs.lemmas.Bool.{cases_Bool, cases_eq, cases_lt, eq-eqb, ne_eqb, le-ltb, and_left, and_right, not_from_true}
 use Rattle.std.proofs.lemmas.List.{map-append, get_or_past}
-use Rattle.std.proofs.lemmas.List.Elements.{filter-append, recursion_from_All}
+use Rattle.std.proofs.lemmas.List.Elements.{filter-append}
 use Rattle.std.proofs.lemmas.Option.{none-some, get_or_from_slice_get, slice_get-get_or}
 use Rattle.type_table.proofs.Elements.{range-more}
 use Rattle.object_trait.specs.Object.{Object}
@@ -12,12 +12,9 @@ use Rattle.object_trait.specs.declared.event.Event.{Event}
 use Rattle.object_trait.specs.declared.event.EventKind.TheVariants.{Abort}
 use Rattle.serial_order.specs.History.{seen, is_open}
 use Rattle.serial_order.specs.Machine.{IsRun}
-use Rattle.serial_order.specs.Stand.{IsIdle}
-use Rattle.serial_order.specs.Serial.{standing_at}
 use Rattle.serial_order.specs.Laws.{RunGoesOn}
 use Rattle.serial_order.specs.After.{SeenAfter, TransactionsInRun, OpensAfter, beginners, BeginnersAfter, IdleIsClosed}
 use Rattle.serial_order.specs.declared.command.Command.TheVariants as command
-use Rattle.serial_order.specs.declared.entry.Entry.{Entry}
 use Rattle.serial_order.specs.declared.refusal.Refusal.TheVariants.{NotOpen}
 use Rattle.op_locks.specs.Locks.{Locks}
 use Rattle.open_transactions.specs.Transactions as table
@@ -27,6 +24,7 @@ use Rattle.store_laws.specs.Kept.{Keeping, keeping, objects_of, IsKept}
 use Rattle.store.specs.Ends.{closing, closing_abort, IsHandedOut}
 use Rattle.store.proofs.Stored.{shown}
 use Rattle.store_laws.specs.Before.{RowsSayWhoIsOpen}
+use Rattle.serial_order.proofs.Idle.{none-idle}
 use Rattle.store.proofs.Opens.{some-of, open-alike}
 
 -- ---- what callers see
@@ -229,11 +227,7 @@ closed-already goes_on now in_run opens began says ms locks rows K max forgotten
     closed-all goes_on now in_run opens began s k s.history n kept (run-shown k K max forgotten s same its) many
     (ap (λ (z : Stored). z.history) (closed-none says ms locks rows s n kept ended))
 
--- no open transaction has an operation anywhere
-none-idle : (K : List Event) (x : ℕ) → ((t : ℕ) → is_open (seen K) t ≡ false) → IsIdle x K
-none-idle K x none = recursion_from_All (λ (e : Entry). is_open (seen K) e.by ≡ false) (standing_at x K) (λ k d low. none _)
-
--- so each object is handed out with no open entry
+-- where none is open, each object is handed out with no open entry
 pub handed-out : IdleIsClosed → (ms : List Meaning) (locks : List Locks) (rows : List (Option Row)) (K : List Event) → IsKept (keeping ms locks rows) K
     → ((t : ℕ) → is_open (seen K) t ≡ false) → (x : ℕ) (m : Meaning) → slice_get ms x ≡ Some m → IsHandedOut m x K
 handed-out closed ms locks rows K kept none x m there =

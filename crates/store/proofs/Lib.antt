@@ -17,3 +17,6 @@ pub mod OpCalls
 pub mod OneAnswer
 pub mod Renewals
 pub mod SerialRenewals
+pub mod Follows
+pub mod FollowedOps
+pub mod Replays

@@ -10,7 +10,7 @@ use Rattle.object_trait.specs.Meaning.{Meaning, state_of}
 use Rattle.object_trait.specs.declared.event.Event.{Event}
 use Rattle.serial_order.specs.History.{seen, is_open}
 use Rattle.serial_order.specs.Laws.{AreChecked, CheckedHeadline}
-use Rattle.epochs.specs.Epochs.{types_at, ClosedIsEpoch}
+use Rattle.serial_order.specs.Epochs.{types_at, ClosedIsEpoch}
 use Rattle.op_locks.specs.Locks.{Locks}
 use Rattle.open_transactions.specs.Transactions.{Row}
 use Rattle.store_laws.specs.Kept.{keeping, IsKept}

@@ -10,7 +10,7 @@ use Rattle.serial_order.specs.Laws.{AreChecked}
 use Rattle.serial_order.specs.Machine.{IsRun}
 use Rattle.serial_order.specs.Operations.{ops}
 use Rattle.serial_order.specs.Serial.{serial_at}
-use Rattle.epochs.specs.Epochs.{Epoch, IsEpoch, AreEpochs, types_at, types_after, serial_over, EpochsAreSerial, EpochsGoOn}
+use Rattle.serial_order.specs.Epochs.{Epoch, IsEpoch, AreEpochs, types_at, types_after, serial_over, EpochsAreSerial, EpochsGoOn}
 use Rattle.store_laws.specs.Stored.{Stored, objects}
 use Rattle.store.specs.Renews.{Renews}
 use Rattle.store.specs.Renewals.{AreRenewals, last_of, serial_through, BeginsAsSerial, RenewalsAreSerial}

@@ -5,4 +5,6 @@ pub mod Ends
 pub mod KeptState
 pub mod Renews
 pub mod Renewals
+pub mod Follows
+pub mod Replays
 pub mod Examples

@@ -5,7 +5,7 @@ use Rattle.table_checker.specs.At.{checked_at}
 use Rattle.object_trait.specs.Meaning.{Meaning, state_of}
 use Rattle.object_trait.specs.Steps.{IsFresh}
 use Rattle.serial_order.specs.History.{seen, is_open}
-use Rattle.epochs.specs.Epochs.{IsEpoch, types_at}
+use Rattle.serial_order.specs.Epochs.{IsEpoch, types_at}
 use Rattle.store_laws.specs.Stored.{Stored}
 use Rattle.store.specs.KeptState.{IsKeptState}
 use Rattle.store.specs.declared.refusals.RenewRefusal.{RenewRefusal}

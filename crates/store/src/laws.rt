@@ -2,7 +2,7 @@
 
 ghost use Rattle.store.specs.Renewals.{RenewalsAreSerial};
 
-use epochs::{epochs_are_serial, epochs_go_on};
+use serial_order::{epochs_are_serial, epochs_go_on};
 
 /// The committed transactions of a store and of those that renewed it, one store after another and in
 /// each in commit order, are serially legal from the first initial states, for any number of stores.

@@ -8,20 +8,27 @@ mod close;
 mod ends;
 mod executing;
 mod expected;
+mod following;
 mod forget;
 mod laws;
 mod parts;
+mod past;
 mod refusals;
 mod renew;
 mod renewed;
+mod replaying;
 mod rollback;
 mod room;
 mod store;
+mod stray;
 mod would;
 
+pub use following::follow;
 pub use laws::renewals_are_serial;
 pub use object_calls::Answer;
 pub use refusals::{NewRefusal, RenewRefusal};
+pub use replaying::{ReplayFault, replay};
 pub use store::Store;
+pub use stray::Stray;
 
 pub mod worked;

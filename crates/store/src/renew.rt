@@ -8,10 +8,10 @@ ghost use Rattle.store.specs.Renews.{RefusesRenew, Renews};
 use crate::refusals::RenewRefusal;
 use crate::renewed::renewed_objects;
 use crate::store::Store;
-use epochs::{closed_is_epoch, states_are_inside};
 use object_trait::{Event, Recovery, Renew};
 use serial_order::{
-    beginners_after, checked_headline, opens_after, run_goes_on, seen_after, transactions_in_run,
+    beginners_after, checked_headline, closed_is_epoch, opens_after, run_goes_on, seen_after,
+    states_are_inside, transactions_in_run,
 };
 use std::alloc::{AllocError, Global};
 use store_laws::rows_say_who_is_open;

@@ -10,12 +10,12 @@ ghost use Rattle.store.specs.Ends.{MayBegin, Refuses};
 ghost use Rattle.store.specs.KeptState.{IsKeptState};
 
 use crate::parts::{Parts, parts_of};
+use crate::past::Past;
 use crate::refusals::NewRefusal;
 use object_calls::CallTable;
 use object_trait::{Event, Recovery};
 use op_locks::OpLocks;
 use open_transactions::OpenTransactions;
-use past::Past;
 use serial_order::checked_headline;
 use std::alloc::Global;
 use std::marker::Model;

@@ -5,13 +5,12 @@ use super::outcome::Outcome;
 use super::workload::{Command, Workload, commands_of};
 use crate::bench_error::BenchError;
 use object_trait::{Event, Recovery};
-use replay::replay;
 use std::alloc::Global;
 use std::io;
 use std::rt::Clock;
 use std::sync::Arc;
 use std::time::Instant;
-use store::Store;
+use store::{Store, replay};
 use table_checker::CheckedType;
 
 /// The most events of a history.

@@ -4,10 +4,9 @@ use super::objects_of;
 use super::scripts::store_of;
 use object_trait::{Event, EventKind, Recovery};
 use objects::Object;
-use replay::{ReplayFault, Stray, follow, replay};
 use std::process::Abort;
 use std::test::Fail;
-use store::{NewRefusal, Store};
+use store::{NewRefusal, ReplayFault, Store, Stray, follow, replay};
 use test_support::type_texts::COUNTER;
 use type_table::Kind;
 

@@ -1,3 +1,0 @@
-pub mod Starts
-pub mod Epochs
-pub mod Closed

@@ -1,2 +1,0 @@
-pub mod Epochs
-pub mod Examples

@@ -1,7 +1,0 @@
-use Rattle.std.proofs.Common.{refl}
-use Rattle.replay.proofs.Replays.{turn-made}
-use Rattle.replay.proofs.replaying.replay.Goals as goal
-
-pub loop-at-preserved : goal.loop-at-preserved
-loop-at-preserved g c =
-    turn-made c.args.store.now c.loop-at.store c.args.events.now c.loop-at.at _ _ c.loop-at.invariant.0 c.loop-at.invariant.1 c.loop-at-test.true refl c.follow.new.store c.in_default.ensures

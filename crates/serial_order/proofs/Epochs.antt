@@ -1,0 +1,169 @@
+-- Epochs are serial, one after another.
+use Rattle.std.proofs.Common.{◌≡◌, ℕ, zero, suc, List, [], ◌∷◌, ◌++◌, map, Option, Some, slice_get, refl, sym, ap, subst, ◌∙◌}
+use Rattle.std.specs.Option.{option_map}
+use Rattle.std.proofs.lemmas.Option.{none-some, same_Some, slice_get-map}
+use Rattle.type_table.specs.Table.{Table, table_at}
+use Rattle.type_table.specs.Run.{run, IsLegal, Looks, AreEqui}
+use Rattle.type_table.specs.Laws.{RunsAlike, RunsAlong, LooksExtends, EquiExtends, IsExtended}
+use Rattle.type_table.specs.declared.kind.Kind.{Kind}
+use Rattle.type_table.specs.declared.kind.Kind.TheVariants.{Undo, Intentions}
+use Rattle.table_checker.specs.Checked.{Checked, IsChecked, IsStrong}
+use Rattle.object_trait.specs.Object.{object_of}
+use Rattle.object_trait.specs.Laws.{CheckedIsCovered}
+use Rattle.object_trait.specs.declared.event.Event.{Event}
+use Rattle.serial_order.specs.Operations.{ops}
+use Rattle.serial_order.specs.Machine.{IsRun}
+use Rattle.serial_order.specs.Serial.{serial_at, serial_state}
+use Rattle.serial_order.specs.Stand.{KeptAgreesBy}
+use Rattle.serial_order.specs.Laws.{AreChecked, CheckedHeadline}
+use Rattle.table_checker.specs.At.{checked_at, AtIsChecked, AtIsStrong}
+use Rattle.serial_order.specs.Epochs.{Epoch, types_at, IsKeptAt, IsEpoch, AreEpochs, types_after, serial_over, EpochsAreSerial, EpochsGoOn}
+use Rattle.serial_order.proofs.EpochStarts.{legal-from, looks-from, looks-to, equi-from, equi-to}
+
+-- ---- types at kept states
+
+-- a type at a kept state is that of a type and a kept state
+pub record IsAt (types : List Checked) (kept : List ℕ) (x : ℕ) (d : Checked) : Type 0 where
+  pub c : Checked
+  pub s : ℕ
+  pub type : slice_get types x ≡ Some c
+  pub state : slice_get kept x ≡ Some s
+  pub is : checked_at c s ≡ d
+
+is-at : (types : List Checked) (kept : List ℕ) (x : ℕ) (d : Checked) → slice_get (types_at types kept) x ≡ Some d → IsAt types kept x d
+is-at [] kept x d there = absurd (none-some d there)
+is-at (c ∷ types) [] x d there = absurd (none-some d there)
+is-at (c ∷ types) (s ∷ kept) zero d there = record { c = c; s = s; type = refl; state = refl; is = same_Some (checked_at c s) d there }
+is-at (c ∷ types) (s ∷ kept) (suc x) d there =
+    let rest = is-at types kept x d there in
+    record { c = rest.c; s = rest.s; type = rest.type; state = rest.state; is = rest.is }
+
+-- they are checked
+at-checked : AtIsChecked → (types : List Checked) (e : Epoch) → AreChecked types → IsEpoch types e → AreChecked (types_at types e.kept)
+at-checked law types e checked epoch = λ x d there.
+    let it = is-at types e.kept x d there in
+    subst IsChecked it.is (law it.c it.s (checked x it.c it.type) (epoch.kept x it.c it.s it.type it.state).inside)
+
+-- ---- serial runs
+
+-- each epoch is serially legal
+pub serial-in : CheckedHeadline → (types : List Checked) (H : List Event) → AreChecked types → IsRun (map object_of types) H
+    → (x : ℕ) (c : Checked) → slice_get types x ≡ Some c → IsLegal c.file.table (Some c.file.table.initial) (ops (serial_at x H))
+serial-in headline types H checked going x c there =
+    (headline types H checked going).serially_legal x (object_of c) (slice_get-map object_of types x ∙ ap (option_map object_of) there)
+
+-- a type that is there after the epochs was there at the beginning of each
+first-of : (types : List Checked) (es : List Epoch) (x : ℕ) (last : Checked) → slice_get (types_after types es) x ≡ Some last → (c : Checked) × (slice_get types x ≡ Some c)
+first-of types [] x last there = (last, there)
+first-of types (e ∷ es) x last there =
+    let rest = first-of (types_at types e.kept) es x last there in
+    let it = is-at types e.kept x rest.0 rest.1 in
+    (it.c, it.type)
+
+-- ---- over all epochs, by a relation of states that goes on along operations
+
+module _ (R : Table → Option ℕ → Option ℕ → Type 0) (extends : (T : Table) → IsExtended T (R T))
+    (from : (T : Table) (i : ℕ) (a b : Option ℕ) → R (table_at T i) a b → R T a b)
+    (to : (T : Table) (i : ℕ) (a b : Option ℕ) → R T a b → R (table_at T i) a b)
+    (P : Checked → Type 0) (stays : (c : Checked) (s : ℕ) → P c → P (checked_at c s))
+    (agrees : (c : Checked) (s x : ℕ) (H : List Event) → IsChecked c → P c → IsKeptAt c s x H → R c.file.table (Some s) (serial_state (object_of c) x H))
+    (alike : RunsAlike) (along : RunsAlong) (headline : CheckedHeadline) (at_law : AtIsChecked) where
+  -- what comes of the epochs from a state to which the initial one is related
+  pub record IsOver (T : Table) (b : Option ℕ) (last : Checked) (x : ℕ) (es : List Epoch) : Type 0 where
+    pub legal : IsLegal T b (serial_over x es)
+    pub related : R T (Some last.file.table.initial) (run T b (serial_over x es))
+
+  pub over : (types : List Checked) (es : List Epoch) (x : ℕ) (c last : Checked) (b : Option ℕ) → AreChecked types → AreEpochs types es
+      → slice_get types x ≡ Some c → slice_get (types_after types es) x ≡ Some last → P c → R c.file.table (Some c.file.table.initial) b
+      → IsOver c.file.table b last x es
+  over types [] x c last b checked epochs there end holds related =
+      let same : c ≡ last = same_Some c last (sym there ∙ end) in
+      record {
+        legal = ((extends c.file.table).after (Some c.file.table.initial) b [] related refl).0;
+        related = subst (λ (d : Checked). R c.file.table (Some d.file.table.initial) b) same related;
+      }
+  over types (e ∷ es) x c last b checked epochs there end holds related =
+      let T = c.file.table in
+      let w = ops (serial_at x e.history) in
+      let legal = serial-in headline types e.history checked epochs.0.run x c there in
+      let after = (extends T).after (Some T.initial) b w related legal in
+      let next = first-of (types_at types e.kept) es x last end in
+      let it = is-at types e.kept x next.0 next.1 in
+      let same : it.c ≡ c = same_Some it.c c (sym it.type ∙ there) in
+      let d_is : checked_at c it.s ≡ next.0 = subst (λ (k : Checked). checked_at k it.s ≡ next.0) same it.is in
+      let begins : slice_get (types_at types e.kept) x ≡ Some (checked_at c it.s) = next.1 ∙ ap Some (sym d_is) in
+      let kept = agrees c it.s x e.history (checked x c there) holds (epochs.0.kept x c it.s there it.state) in
+      let reached : R T (Some it.s) (run T b w) = (extends T).through (Some it.s) (run T (Some T.initial) w) (run T b w) kept after.1 in
+      let rest = over (types_at types e.kept) es x (checked_at c it.s) last (run T b w) (at-checked at_law types e checked epochs.0) epochs.1 begins end (stays c it.s holds)
+      (to T it.s (Some it.s) (run T b w) reached) in
+      record {
+        legal = rw (along T b w (serial_over x es)) (legal-from alike T it.s (run T b w) (serial_over x es) rest.legal);
+        related = rw (along T b w (serial_over x es), ← (alike T it.s (run T b w) (serial_over x es))) (from T it.s (Some last.file.table.initial) (run (table_at T it.s) (run T b w) (serial_over x es)) rest.related);
+      }
+
+-- ---- the two relations
+
+-- the kept state looks like the serial one
+kept-looks : (c : Checked) (s x : ℕ) (H : List Event) → IsKeptAt c s x H → Looks c.file.table (Some s) (serial_state (object_of c) x H)
+kept-looks c s x H kept = by c.kind kept.agrees
+  where
+    by : (kind : Kind) → KeptAgreesBy kind (object_of c) (Some s) x H → Looks c.file.table (Some s) (serial_state (object_of c) x H)
+    by Undo agrees = (agrees kept.idle).0
+    by Intentions agrees = agrees.0
+
+-- and where the yes is strong it is equieffective
+kept-equi : CheckedIsCovered → (c : Checked) (s x : ℕ) (H : List Event) → IsChecked c → IsStrong c → IsKeptAt c s x H → AreEqui c.file.table (Some s) (serial_state (object_of c) x H)
+kept-equi covered c s x H checked strong kept = by c.kind kept.agrees
+  where
+    by : (kind : Kind) → KeptAgreesBy kind (object_of c) (Some s) x H → AreEqui c.file.table (Some s) (serial_state (object_of c) x H)
+    by Undo agrees = (agrees kept.idle).1 ((covered c checked).1 strong)
+    by Intentions agrees = agrees
+
+-- the last types are checked
+after-checked : AtIsChecked → (types : List Checked) (es : List Epoch) → AreChecked types → AreEpochs types es → AreChecked (types_after types es)
+after-checked law types [] checked epochs = checked
+after-checked law types (e ∷ es) checked epochs = after-checked law (types_at types e.kept) es (at-checked law types e checked epochs.0) epochs.1
+
+-- steps at a later epoch are those of the first
+after-legal : RunsAlike → (types : List Checked) (es : List Epoch) (x : ℕ) (c last : Checked) (from : Option ℕ) (ks : List ℕ) → slice_get types x ≡ Some c → slice_get (types_after types es) x ≡ Some last
+    → IsLegal last.file.table from ks → IsLegal c.file.table from ks
+after-legal alike types [] x c last from ks there end legal = subst (λ (d : Checked). IsLegal d.file.table from ks) (same_Some last c (sym end ∙ there)) legal
+after-legal alike types (e ∷ es) x c last from ks there end legal =
+    let next = first-of (types_at types e.kept) es x last end in
+    let it = is-at types e.kept x next.0 next.1 in
+    let same : it.c ≡ c = same_Some it.c c (sym it.type ∙ there) in
+    let d_is : checked_at c it.s ≡ next.0 = subst (λ (k : Checked). checked_at k it.s ≡ next.0) same it.is in
+    legal-from alike c.file.table it.s from ks
+    (after-legal alike (types_at types e.kept) es x (checked_at c it.s) last from ks (next.1 ∙ ap Some (sym d_is)) end legal)
+
+pub epochs-are-serial : RunsAlike → AtIsChecked → AtIsStrong → CheckedIsCovered → CheckedHeadline → LooksExtends → EquiExtends → RunsAlong → EpochsAreSerial
+epochs-are-serial alike at_law strong_law covered headline looks equi along = λ types es checked epochs x c last there end.
+    let T = c.file.table in
+    let by_looks = over Looks looks (looks-from alike) (looks-to alike) (λ c. Unit {0}) (λ c s h. tt) (λ c s x H checked h kept. kept-looks c s x H kept) alike along headline at_law
+    types es x c last (Some T.initial) checked epochs there end tt ((looks T).itself (Some T.initial)) in (
+      record {
+        legal = by_looks.legal;
+        looks = by_looks.related;
+        equi = λ strong.
+            (over AreEqui equi (equi-from alike) (equi-to alike) IsStrong strong_law (kept-equi covered) alike along headline at_law
+            types es x c last (Some T.initial) checked epochs there end strong ((equi T).itself (Some T.initial))).related;
+      },
+      λ H going.
+          let w = ops (serial_at x H) in
+          let legal = after-legal alike types es x c last (Some last.file.table.initial) w there end
+          (serial-in headline (types_after types es) H (after-checked at_law types es checked epochs) going x last end) in
+          rw (along T (Some T.initial) (serial_over x es) w) (by_looks.related w legal),
+    )
+
+-- ---- one epoch more
+
+go-on : (types : List Checked) (es : List Epoch) (e : Epoch) → AreEpochs types es → IsEpoch (types_after types es) e → AreEpochs types (es ++ e ∷ [])
+go-on types [] e epochs next = (next, tt)
+go-on types (f ∷ es) e epochs next = (epochs.0, go-on (types_at types f.kept) es e epochs.1 next)
+
+after-more : (types : List Checked) (es : List Epoch) (e : Epoch) → types_after types (es ++ e ∷ []) ≡ types_at (types_after types es) e.kept
+after-more types [] e = refl
+after-more types (f ∷ es) e = after-more (types_at types f.kept) es e
+
+pub epochs_go_on : EpochsGoOn
+epochs_go_on types es e epochs next = (go-on types es e epochs next, after-more types es e)

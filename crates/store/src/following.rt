@@ -1,0 +1,99 @@
+//! One event that is made again.
+
+ghost use Rattle.std.specs.Prelude.{◌≡◌};
+ghost use Rattle.object_trait.specs.declared.event.EventKind.TheVariants as kind;
+ghost use Rattle.store_laws.specs.Words.{as_event};
+ghost use Rattle.store.specs.Follows.{Follows, IsOfCallAlone, answered, told, stray_of};
+
+use crate::store::Store;
+use crate::stray::Stray;
+use object_calls::Answer;
+use object_trait::{Event, EventKind, Recovery};
+use serial_order::Refusal;
+
+/// Makes an event again, as the worker that made it: it does the command that makes it.
+///
+/// A store makes fewer histories than the locks admit: of a call's operations the first legal one, of those
+/// that keep it waiting the earliest holder, and no more events than its limit.
+///
+/// # Errors
+///
+/// `NotMade` where no command that isn't refused makes it after the events so far, or `NoMemory`, and the
+/// store is as it was.
+pub fn follow<R: Recovery>(store: &mut Store<R>, event: Event) -> Result<(), Stray>
+    ensures { Follows store.old event result store.new }
+{
+    let w = event.worker;
+    match event.kind {
+        EventKind::Begin { t } => follow_begin(store, w, t),
+        EventKind::Commit { t } => end_of(store.commit(w, t)),
+        EventKind::Abort { t } => end_of(store.abort(w, t)),
+        EventKind::Rollback { t, n } => end_of(store.rollback(w, t, n)),
+        EventKind::Op { t, x, k } => match store.call_of_op(x, k) {
+            Some(c) => follow_call(store, event, t, x, c, Answer::Reply(k)),
+            None => Err(Stray::NotMade),
+        },
+        EventKind::Busy { c, t, x, u } => follow_call(store, event, t, x, c, Answer::Busy(u)),
+        EventKind::None { t, x, c } => follow_call(store, event, t, x, c, Answer::None),
+    }
+}
+
+/// Makes the event of a call again: that of t's call c at x, if it is answered so, or of no call.
+fn follow_call<R: Recovery>(
+    store: &mut Store<R>,
+    event: Event,
+    t: u32,
+    x: u32,
+    c: u8,
+    answer: Answer,
+) -> Result<(), Stray>
+    requires alone { IsOfCallAlone store.old event.kind t x c }
+    requires told { as_event t x c answer ≡ event.kind }
+    ensures { Follows store.old event result store.new }
+{
+    answered(store.call_if(event.worker, t, x, c, answer))
+}
+
+/// What becomes of the event of a call.
+fn answered(made: Result<bool, Refusal>) -> Result<(), Stray>
+    ensures { result ≡ answered made }
+{
+    match made {
+        Ok(true) => Ok(()),
+        Ok(false) => Err(Stray::NotMade),
+        Err(refusal) => Err(stray_of(refusal)),
+    }
+}
+
+/// Begins the transaction with this number.
+fn follow_begin<R: Recovery>(store: &mut Store<R>, w: u8, t: u32) -> Result<(), Stray>
+    ensures { Follows store.old (record { worker = w; kind = kind.Begin t }) result store.new }
+{
+    if t != store.begun() {
+        return Err(Stray::NotMade);
+    }
+    match store.begin(w) {
+        Ok(_) => Ok(()),
+        Err(refusal) => Err(stray_of(refusal)),
+    }
+}
+
+/// What becomes of the end or the rollback of a transaction.
+fn end_of(ended: Result<(), Refusal>) -> Result<(), Stray>
+    ensures { result ≡ told ended }
+{
+    match ended {
+        Ok(()) => Ok(()),
+        Err(refusal) => Err(stray_of(refusal)),
+    }
+}
+
+/// A refusal says that the event isn't made, or that memory was refused.
+fn stray_of(refusal: Refusal) -> Stray
+    ensures { result ≡ stray_of refusal }
+{
+    match refusal {
+        Refusal::NoMemory => Stray::NoMemory,
+        _ => Stray::NotMade,
+    }
+}
