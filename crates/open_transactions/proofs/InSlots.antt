@@ -62,6 +62,14 @@ module _ {ended : ℕ} (index numbers : List ℕ) (placed : IsPlaced ended index
 
 -- ---- rows
 
+-- an open transaction began
+pub open-began : {R : Type 0} (rows : List (Option R)) (t : ℕ) → is_open rows t ≡ true → t < length rows
+open-began {R} rows t opened =
+    elim (cases_lt t (length rows)) [
+      | inl began ↦ began
+      | inr past ↦ let no : is_some (row rows t) ≡ is_some {T = R} None = ap is_some (get_or_past rows t None past) in cc
+    ]
+
 module _ {S R : Type 0} {ended : ℕ} (number : S → ℕ) (shown : S → R) (slots : List S) (index : List ℕ) (placed : IsPlaced ended index (map number slots))
     (rows : List (Option R)) (rows_are : shown_rows shown slots index ≡ rows) where
   abbrev row_of : S → Option R
@@ -126,7 +134,7 @@ module _ {S R : Type 0} {ended : ℕ} (number : S → ℕ) (shown : S → R) (sl
     inside = open-slot t opened
 
     began : t < length index
-    began = slot-began 0 (map number slots) index (map number slots) placed refl t (omega (arith, inside, len-numbers))
+    began = omega (arith, open-began rows t opened, as-many)
 
     slot-is : slot_of ended index t ≡ k
     slot-is = get_or_default index t ended d began ∙ sym read
