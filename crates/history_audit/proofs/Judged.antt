@@ -1,12 +1,15 @@
 -- How an event is judged, told by the row of its transaction.
-use Rattle.std.proofs.Common.{◌≡◌, ℕ, ◌-◌, ◌<◌, ◌≤◌, true, List, [], ◌∷◌, ◌++◌, length, take, set, Option, Some, None, is_some, Result, Ok, Err, slice_get, refl, sym, ap, subst, ◌∙◌, inl, inr, arith}
-use Rattle.std.proofs.lemmas.Bool.{cases_lt, false≢true}
-use Rattle.std.proofs.lemmas.List.{get_or_past, length-map}
+use Rattle.std.proofs.Common.{◌≡◌, ℕ, ◌-◌, ◌<◌, ◌≤◌, true, List, [], ◌∷◌, ◌++◌, length, take, set, Option, Some, None, is_some, Result, Ok, Err, slice_get, refl, sym, ap, subst, ◌∙◌, arith}
+use Rattle.std.proofs.lemmas.Bool.{false≢true}
+use Rattle.std.proofs.lemmas.List.{length-map}
 use Rattle.std.proofs.lemmas.Option.{slice_get-get_or}
 use Rattle.type_table.specs.Table.{Table}
 use Rattle.object_trait.specs.declared.event.EventKind.{EventKind}
 use Rattle.object_trait.specs.declared.event.EventKind.TheVariants as kind
 use Rattle.object_trait.specs.declared.event.EventKind.TheVariants.{Begin, Op, Busy, Commit, Abort, Rollback}
+use Rattle.open_transactions.specs.Transactions as table
+use Rattle.open_transactions.specs.Transactions.{row}
+use Rattle.open_transactions.proofs.InSlots.{open-began}
 use Rattle.serial_order.specs.Operations.{of}
 use Rattle.serial_order.specs.History.{Seen, seen, is_open, IsOperation, MayStand}
 use Rattle.history_audit.specs.declared.event_fault.EventFault.{EventFault}
@@ -14,21 +17,14 @@ use Rattle.history_audit.specs.declared.event_fault.EventFault.TheVariants.{Bad}
 use Rattle.history_audit.specs.declared.operation.Operation.{Operation}
 use Rattle.history_audit.specs.Rows.{plain, operations_of, AreRows, committed_in}
 use Rattle.history_audit.specs.Moves.{RowsMove, MovedRowsAgree}
-use Rattle.history_audit.specs.Slots.{row, has_row, its_of}
+use Rattle.history_audit.specs.Slots.{its_of}
 use Rattle.history_audit.specs.Judges.{Judges, Takes, handed}
 
 -- the row of an open transaction is that of its operations
-pub there : (rows shown : List (Option (List Operation))) (t : ℕ) → rows ≡ shown → has_row rows t ≡ true → slice_get shown t ≡ Some (Some (its_of (row rows t)))
+pub there : (rows shown : List (Option (List Operation))) (t : ℕ) → rows ≡ shown → table.is_open rows t ≡ true → slice_get shown t ≡ Some (Some (its_of (row rows t)))
 there rows shown t shown_is opened =
-    ap (λ rs. slice_get rs t) (sym shown_is) ∙ slice_get-get_or rows t None (began rows t opened) ∙ ap Some (some_row (row rows t) opened)
+    ap (λ rs. slice_get rs t) (sym shown_is) ∙ slice_get-get_or rows t None (open-began rows t opened) ∙ ap Some (some_row (row rows t) opened)
   where
-    began : (rows : List (Option (List Operation))) (t : ℕ) → has_row rows t ≡ true → t < length rows
-    began rows t opened =
-        elim (cases_lt t (length rows)) [
-          | inl inside ↦ inside
-          | inr past ↦ absurd (false≢true (sym (ap is_some (get_or_past rows t None past)) ∙ opened))
-        ]
-
     some_row : (its : Option (List Operation)) → is_some its ≡ true → its ≡ Some (its_of its)
     some_row None is = absurd (false≢true is)
     some_row (Some its) is = refl

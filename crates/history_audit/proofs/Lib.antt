@@ -1,9 +1,6 @@
-mod SlotsLooked
-mod SlotsEnded
-mod SlotsRows
 pub mod Rows
 pub mod Judged
-pub mod Lines
+pub mod PlacedTexts
 pub mod Serials
 pub mod Said
 pub mod EpochTables

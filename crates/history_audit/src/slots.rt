@@ -1,7 +1,8 @@
 //! The rows of transactions in slots, so that one that ended keeps four bytes.
 
 ghost use Rattle.std.specs.Prelude.{◌≡◌, true, [], ◌∷◌, ◌++◌, length, take, None, Some, OnOk, OnErr, slice_set};
-ghost use Rattle.history_audit.specs.Slots.{row, has_row, its_of};
+ghost use Rattle.open_transactions.specs.Transactions.{row, is_open};
+ghost use Rattle.history_audit.specs.Slots.{its_of};
 
 use crate::operation::Operation;
 use crate::operations::Operations;
@@ -31,15 +32,16 @@ pub(crate) struct Slots {
 }
 
 impl Model for Slots {
-    ghost use Rattle.std.specs.Prelude.{List, Option};
+    ghost use Rattle.std.specs.Prelude.{List, map, Option};
+    ghost use Rattle.open_transactions.specs.InSlots.{IsPlaced};
     ghost use Rattle.history_audit.specs.declared.operation.Operation.{Operation};
-    ghost use Rattle.history_audit.specs.Slots.{rows_of, numbers_of, IsPlaced};
+    ghost use Rattle.history_audit.specs.Slots.{number_of, rows_of};
 
     ghost Value = { List (Option (List Operation)) };
 
     ghost view = { λ a. rows_of a.slots.items a.slot_of.items };
 
-    ghost invariant = { λ a. IsPlaced a.slot_of.items (numbers_of a.slots.items) };
+    ghost invariant = { λ a. IsPlaced 4294967295 a.slot_of.items (map number_of a.slots.items) };
 }
 
 impl Slots {
@@ -62,7 +64,7 @@ impl Slots {
 
     /// Whether t began and hasn't ended.
     pub(crate) fn is_open(&self, t: u32) -> bool
-        ensures { result ≡ has_row self.now t }
+        ensures { result ≡ is_open self.now t }
     {
         let t = t as usize;
         t < self.slot_of.len() && self.slot_of[t] != ENDED
@@ -70,7 +72,7 @@ impl Slots {
 
     /// How many operations of t live.
     pub(crate) fn count(&self, t: u32) -> usize
-        requires { has_row self.now t ≡ true }
+        requires { is_open self.now t ≡ true }
         ensures { result ≡ length (its_of (row self.now t)) }
     {
         let slot = self.slot_of[t as usize] as usize;
@@ -100,7 +102,7 @@ impl Slots {
 
     /// One more operation of t.
     pub(crate) fn add(&mut self, t: u32, operation: Operation) -> Result<(), AllocError>
-        requires { has_row self.old t ≡ true }
+        requires { is_open self.old t ≡ true }
         ensures ok { OnOk result (self.new ≡ slice_set self.old t (Some (its_of (row self.old t) ++ operation ∷ []))) }
         ensures err { OnErr result (self.new ≡ self.old) }
     {
@@ -110,7 +112,7 @@ impl Slots {
 
     /// Keeps the first n operations of t, or all where it has fewer. It takes no memory.
     pub(crate) fn keep(&mut self, t: u32, n: usize)
-        requires { has_row self.old t ≡ true }
+        requires { is_open self.old t ≡ true }
         ensures { self.new ≡ slice_set self.old t (Some (take n (its_of (row self.old t)))) }
     {
         let slot = self.slot_of[t as usize] as usize;
@@ -119,7 +121,7 @@ impl Slots {
 
     /// Ends t, and hands out its operations. It takes no memory.
     pub(crate) fn end(&mut self, t: u32) -> Operations
-        requires { has_row self.old t ≡ true }
+        requires { is_open self.old t ≡ true }
         ensures operations { result ≡ its_of (row self.old t) }
         ensures rows { self.new ≡ slice_set self.old t None }
     {

@@ -1,22 +1,13 @@
 -- How many transactions are open, when a row changes.
-use Rattle.std.proofs.Common.{◌≡◌, ℕ, ◌+◌, ◌<◌, true, cond, List, [], ◌∷◌, ◌++◌, length, set, ap, inl, inr, arith, Option, None, Some}
+use Rattle.std.proofs.Common.{◌≡◌, ℕ, ◌+◌, true, cond, List, [], ◌∷◌, ◌++◌, set, ap, arith, Option, None, Some}
 use Rattle.std.specs.Option.{is_some}
-use Rattle.std.proofs.lemmas.Bool.{cases_lt}
-use Rattle.std.proofs.lemmas.List.{get_or_past}
 use Rattle.std.proofs.lemmas.List.Sums.{sum_by-set, sum_by-append}
-use Rattle.open_transactions.specs.Transactions.{Row, row, is_open, count_open}
+use Rattle.open_transactions.specs.Transactions.{Row, is_open, count_open}
+use Rattle.open_transactions.proofs.InSlots.{open-began}
 
 -- what an option counts for
 abbrev weight : Option Row → ℕ
 weight o = cond (is_some o) 1 0
-
--- an open transaction began
-pub open-began : (rows : List (Option Row)) (t : ℕ) → is_open rows t ≡ true → t < length rows
-open-began rows t opened =
-    elim (cases_lt t (length rows)) [
-      | inl began ↦ began
-      | inr past ↦ let no : is_some (row rows t) ≡ is_some {T = Row} None = ap is_some (get_or_past rows t None past) in cc
-    ]
 
 pub count-more : (rows : List (Option Row)) (r : Row) → count_open (rows ++ Some r ∷ []) ≡ count_open rows + 1
 count-more rows r = sum_by-append weight rows (Some r ∷ [])

@@ -1,6 +1,6 @@
 pub mod Cut
 pub mod Looked
 pub mod Ended
+pub mod InSlots
 pub mod Counts
-pub mod Rows
 pub mod Calls

@@ -1,4 +1,5 @@
 pub mod Index
 pub mod Transactions
+pub mod InSlots
 pub mod Slots
 pub mod Examples

@@ -15,11 +15,11 @@ pub record Transactions : Type 0 where
   pub room_to_push : List ℕ
 
 -- the row of the transaction with this number, None where it ended or never began
-abbrev pub row : List (Option Row) → ℕ → Option Row
+abbrev pub row : {R : Type 0} → List (Option R) → ℕ → Option R
 row rows t = slice_index_or rows t None
 
 -- the transaction began and hasn't ended
-abbrev pub is_open : List (Option Row) → ℕ → Bool
+abbrev pub is_open : {R : Type 0} → List (Option R) → ℕ → Bool
 is_open rows t = is_some (row rows t)
 
 -- how many transactions are open

@@ -1,4 +1,3 @@
-pub mod Lines
 pub mod KeptTexts
 pub mod Works
 pub mod Comments

@@ -1,5 +1,6 @@
 use Rattle.std.proofs.Common.{rules, Some, [], ◌∷◌, ◌++◌, set, refl, ap, ◌∙◌, sym}
-use Rattle.history_audit.specs.Slots.{row, its_of}
+use Rattle.open_transactions.specs.Transactions.{row}
+use Rattle.history_audit.specs.Slots.{its_of}
 use Rattle.history_audit.proofs.Judged.{there, op_taken}
 use Rattle.history_audit.proofs.judge.Judge.op.Goals as goal
 use Rattle.history_audit.proofs.judge.Judge.op.Goals.{in-Ok, in-Err}

@@ -1,5 +1,6 @@
 use Rattle.std.proofs.Common.{◌-◌, Some, take, set, ap, ◌∙◌, arith, sym}
-use Rattle.history_audit.specs.Slots.{row, its_of}
+use Rattle.open_transactions.specs.Transactions.{row}
+use Rattle.history_audit.specs.Slots.{its_of}
 use Rattle.history_audit.proofs.Judged.{there, rollback_taken}
 use Rattle.history_audit.proofs.judge.Judge.rollback.Goals as goal
 

@@ -1,6 +1,6 @@
 use Rattle.std.proofs.Common.{◌++◌, ◌∷◌, [], ap, arith, ◌∙◌, Some}
 use Rattle.open_transactions.specs.Transactions.{count_open, begun_by}
-use Rattle.open_transactions.proofs.Calls.{begin-known, begin-shows}
+use Rattle.open_transactions.proofs.Calls.{begin-known, begin-shown}
 use Rattle.open_transactions.proofs.Counts.{count-more}
 use Rattle.open_transactions.proofs.open_transactions.OpenTransactions.begin.Goals as goal
 
@@ -13,7 +13,7 @@ invariant_of-self c =
 pub returns-clause-rows : goal.returns-clause-rows
 returns-clause-rows c =
     rw (c.push_reserved.ensures.items, c.push_reserved-2.ensures.slots)
-    (begin-shows c.self.inside.slots.items c.self.inside.index.slots c.self.invariant c.args.self.now.rows (ap (λ a. a.rows) c.self.view_is) c.len-slot.result
+    (begin-shown c.self.inside.slots.items c.self.inside.index.slots c.self.invariant c.args.self.now.rows (ap (λ a. a.rows) c.self.view_is) c.len-slot.result
     (omega (arith, c.len-slot.ensures, c.self.inside.slots.ok.0)) c.requires.few c.requires.fits _
     ∙ ap (λ places. c.args.self.now.rows ++ Some (record { worker = c.args.worker; places = places }) ∷ []) c.new-places.ensures.items)
 

@@ -1,7 +1,6 @@
 use Rattle.std.proofs.lemmas.Result.{on_ok_weaker}
-use Rattle.std.proofs.Common.{Some, refl, ap, ◌∙◌, arith}
-use Rattle.open_transactions.proofs.Calls.{set-known, set-room}
-use Rattle.open_transactions.proofs.Rows.{rows-same}
+use Rattle.std.proofs.Common.{refl, ap, ◌∙◌, arith}
+use Rattle.open_transactions.proofs.Calls.{rows-same, set-known, set-room}
 use Rattle.open_transactions.proofs.open_transactions.OpenTransactions.reserve_place.Goals as goal
 
 pub invariant_of-self : goal.invariant_of-self
@@ -12,7 +11,7 @@ invariant_of-self c =
 pub returns-clause-rows : goal.returns-clause-rows
 returns-clause-rows c =
     rows-same c.self.inside.slots.items c.self.inside.index.slots c.open_slot-slot.result c.index_mut.result.now _ c.index_mut.ensures.value
-    (ap (λ items. Some (record { worker = c.index_mut.result.now.worker; places = items })) c.reserve_one.ensures.items)
+    (ap (λ items. record { worker = c.index_mut.result.now.worker; places = items }) c.reserve_one.ensures.items)
     ∙ ap (λ a. a.rows) c.self.view_is
 
 pub returns-clause-room : goal.returns-clause-room
