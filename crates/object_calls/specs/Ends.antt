@@ -2,7 +2,10 @@
 use Rattle.std.specs.Prelude.{◌≡◌, ◌≤◌, ℕ, true, ◌==◌, List, length, filter, Some, slice_get}
 use Rattle.std.specs.List.{list_any}
 use Rattle.object_trait.specs.Meaning.{Meaning, open_of}
+use Rattle.object_trait.specs.Steps.{IsCommit, IsAbort}
 use Rattle.op_locks.specs.Locks.{Locks, count_of}
+use Rattle.object_calls.specs.declared.end.End.{End}
+use Rattle.object_calls.specs.declared.end.End.TheVariants.{Commit, Abort}
 
 -- the place is one of these, and how often it is
 abbrev pub is_at : List ℕ → ℕ → Type 0
@@ -16,6 +19,11 @@ pub record ChangesAt {A : Type 0} (places : List ℕ) (change : ℕ → A → A 
   pub as_many : length new ≡ length old
   pub changed : (x : ℕ) (a b : A) → slice_get old x ≡ Some a → slice_get new x ≡ Some b → is_at places x → change x a b
   pub others : (x : ℕ) → (is_at places x → ⊥) → slice_get new x ≡ slice_get old x
+
+-- what an end of a transaction makes of an object
+abbrev pub IsEnd : End → Meaning → ℕ → Meaning → Type 0
+IsEnd Commit = IsCommit
+IsEnd Abort = IsAbort
 
 -- at each of these places t has so many operations to be struck
 pub record HasLast (t : ℕ) (places : List ℕ) (ms : List Meaning) (locks : List Locks) : Type 0 where

@@ -14,7 +14,7 @@ pub use answer::Answer;
 pub use call::{Call, NamedCall};
 pub use call_table::CallTable;
 pub use choosing::choose;
-pub use end::{abort_at, commit_at};
+pub use end::{End, end_at};
 pub use strike::strike_at;
 
 pub mod worked;

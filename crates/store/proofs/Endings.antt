@@ -1,40 +1,51 @@
 -- The end of a transaction.
-use Rattle.std.proofs.Common.{◌≡◌, ℕ, ◌+◌, ◌<◌, ◌≤◌, Bool, true, not, List, [], ◌∷◌, ◌++◌, length, set, Option, Some, None, Ok, refl, sym, ap, subst, arith}
+use Rattle.std.proofs.Common.{◌≡◌, ℕ, ◌+◌, ◌<◌, ◌≤◌, Bool, true, not, List, [], ◌∷◌, ◌++◌, length, set, Option, Some, None, Ok, refl, sym, ap, subst, ◌∙◌, arith}
 use Rattle.std.specs.Prelude.{if◌then◌else◌}
 use Rattle.object_trait.specs.Object.{Object}
 use Rattle.object_trait.specs.Meaning.{Meaning}
 use Rattle.object_trait.specs.declared.event.Event.{Event}
-use Rattle.object_trait.specs.declared.event.EventKind.{EventKind}
-use Rattle.serial_order.specs.History.{seen, is_open}
+use Rattle.serial_order.specs.History.{Seen, seen, is_open}
 use Rattle.serial_order.specs.Machine.{MayFollow}
 use Rattle.serial_order.specs.Replay.{open_count, refusal, event_of}
-use Rattle.serial_order.specs.declared.command.Command.{Command}
-use Rattle.serial_order.specs.declared.command.Command.TheVariants as command
 use Rattle.serial_order.specs.declared.refusal.Refusal.TheVariants.{NotOpen}
 use Rattle.op_locks.specs.Locks.{Locks, without}
-use Rattle.object_calls.specs.Ends.{ChangesAt}
+use Rattle.object_calls.specs.Ends.{ChangesAt, IsEnd}
+use Rattle.object_calls.specs.declared.end.End.{End}
+use Rattle.object_calls.specs.declared.end.End.TheVariants as end
 use Rattle.open_transactions.specs.Transactions as table
 use Rattle.open_transactions.specs.Transactions.{Row, row, places_of, count_open}
 use Rattle.object_calls.specs.declared.call.NamedCall.{NamedCall}
 use Rattle.store_laws.specs.Stored.{Stored, Steps}
 use Rattle.store_laws.specs.Kept.{keeping, objects_of, IsKept, IsStore}
 use Rattle.store_laws.specs.Moves.{Moves, StaysKept}
-use Rattle.store_laws.specs.Before.{RowsAreCounted}
-use Rattle.store_laws.specs.Events.{EndMoves, TypesStay, RoomAfter, takes}
+use Rattle.store_laws.specs.Before.{RowsSayWhoIsOpen, RowsAreCounted}
+use Rattle.store_laws.specs.Events.{end_event, EndMoves, TypesStay, RoomAfter, takes}
 use Rattle.store.specs.Whole.{IsWhole}
+use Rattle.store.specs.Ends.{end_command}
 use Rattle.store.proofs.Stored.{shown, event-shown, event-whole}
-use Rattle.store.proofs.Opens.{its-row, row-places}
+use Rattle.store.proofs.Opens.{its-row, row-places, open-alike}
 
--- ---- whether it is refused
+-- ---- either end
 
--- a transaction that isn't open has no end
-pub commit-refusal : (objects : List Object) (most : ℕ) (H : List Event) (t : ℕ) (going : Bool) → is_open (seen H) t ≡ going
-    → refusal objects most H (command.Commit t) ≡ (if not going then Some NotOpen else None)
-commit-refusal objects most H t going same = ap (λ b. if not b then Some NotOpen else None) same
+-- a transaction that isn't open has none
+pub end-refusal : (how : End) (objects : List Object) (most : ℕ) (H : List Event) (t : ℕ) (going : Bool) → is_open (seen H) t ≡ going
+    → refusal objects most H (end_command how t) ≡ (if not going then Some NotOpen else None)
+end-refusal end.Commit objects most H t going same = ap (λ b. if not b then Some NotOpen else None) same
+end-refusal end.Abort objects most H t going same = ap (λ b. if not b then Some NotOpen else None) same
 
-pub abort-refusal : (objects : List Object) (most : ℕ) (H : List Event) (t : ℕ) (going : Bool) → is_open (seen H) t ≡ going
-    → refusal objects most H (command.Abort t) ≡ (if not going then Some NotOpen else None)
-abort-refusal objects most H t going same = ap (λ b. if not b then Some NotOpen else None) same
+-- one that is open may end
+end-may : (how : End) (objects : List Object) (H : List Event) (w t : ℕ) → is_open (seen H) t ≡ true → MayFollow objects H (record { worker = w; kind = end_event how t })
+end-may end.Commit objects H w t opened = opened
+end-may end.Abort objects H w t opened = opened
+
+-- which is an event, and takes no room
+end-makes : (how : End) (objects : List Object) (s : Seen) (t : ℕ) → event_of objects s (end_command how t) ≡ Some (end_event how t)
+end-makes end.Commit objects s t = refl
+end-makes end.Abort objects s t = refl
+
+end-takes : (how : End) (t : ℕ) → takes (end_event how t) ≡ 0
+end-takes end.Commit t = refl
+end-takes end.Abort t = refl
 
 -- ---- what it does
 
@@ -47,37 +58,40 @@ end-room counted ms locks rows H room max left store one =
     let limited : length H + count_open rows ≤ max = subst (λ n. length H + n ≤ max) counts store.limited in
     (omega (arith, reserved, one), omega (arith, limited, one))
 
--- each object where it has operations changes, what it holds there is given up, and it has no row
-module _ (change : Meaning → ℕ → Meaning → Type 0) (ends : ℕ → EventKind) (moves : EndMoves change ends) (ms ms_now : List Meaning) (locks locks_now : List Locks)
+-- each object where it has operations is as after its end, what it holds there is given up, and it has no row
+module _ (how : End) (moves : EndMoves) (says : RowsSayWhoIsOpen) (ms ms_now : List Meaning) (locks locks_now : List Locks)
     (rows now : List (Option Row)) (H after : List Event) (w t : ℕ) (places : List ℕ) (kept : IsKept (keeping ms locks rows) H)
-    (going : table.is_open rows t ≡ true) (its : places ≡ places_of (row rows t)) (objects : ChangesAt places (λ x m n. change m t n) ms ms_now)
+    (going : table.is_open rows t ≡ true) (its : places ≡ places_of (row rows t)) (objects : ChangesAt places (λ x m n. IsEnd how m t n) ms ms_now)
     (held : ChangesAt places (λ x a b. b.held ≡ without t a.held) locks locks_now) (gone : now ≡ set rows t None)
-    (appended : after ≡ H ++ (record { worker = w; kind = ends t }) ∷ []) where
+    (appended : after ≡ H ++ (record { worker = w; kind = end_event how t }) ∷ []) where
+  opened : is_open (seen H) t ≡ true
+  opened = open-alike says ms locks rows H t kept ∙ going
+
   -- so it is what its event does to what is kept
-  end-moved : Moves (keeping ms locks rows) (keeping ms_now locks_now now) H (record { worker = w; kind = ends t })
+  end-moved : Moves (keeping ms locks rows) (keeping ms_now locks_now now) H (record { worker = w; kind = end_event how t })
   end-moved =
       let found = its-row ms locks rows H t places kept going its in
       let same = row-places ms locks rows H t places kept going its in
-      moves (keeping ms locks rows) (keeping ms_now locks_now now) H w t found.0 locks locks_now kept found.1 refl refl
-      (subst (λ ps. ChangesAt ps (λ x m n. change m t n) ms ms_now) (sym same) objects)
+      moves how (keeping ms locks rows) (keeping ms_now locks_now now) H w t found.0 locks locks_now kept found.1 refl refl
+      (subst (λ ps. ChangesAt ps (λ x m n. IsEnd how m t n) ms ms_now) (sym same) objects)
       (subst (λ ps. ChangesAt ps (λ x (a : Locks) (b : Locks). b.held ≡ without t a.held) locks locks_now) (sym same) held) gone
 
   -- the store stays whole
-  pub end-whole : StaysKept → RoomAfter → TypesStay → RowsAreCounted → MayFollow (objects_of ms) H (record { worker = w; kind = ends t }) → takes (ends t) ≡ 0
-      → (calls : List (List NamedCall)) (room more max : ℕ) → IsWhole ms calls locks rows H room max → room ≤ more → max ≤ 4294967295
-      → count_open now + 1 ≡ count_open rows → IsWhole ms_now calls locks_now now after more max
-  end-whole stays room_after types counted may free calls room more max whole grown fits one =
+  pub end-whole : StaysKept → RoomAfter → TypesStay → RowsAreCounted → (calls : List (List NamedCall)) (room more max : ℕ) → IsWhole ms calls locks rows H room max
+      → room ≤ more → max ≤ 4294967295 → count_open now + 1 ≡ count_open rows → IsWhole ms_now calls locks_now now after more max
+  end-whole stays room_after types counted calls room more max whole grown fits one =
       let low = (end-room counted ms locks rows H room max (count_open now) whole.store one).1 in
       let reserved = whole.store.reserved in
       let limited = whole.store.limited in
-      event-whole stays room_after types ms ms_now calls locks locks_now rows now H after (record { worker = w; kind = ends t }) room more max whole may
-      end-moved appended (omega (arith, low, fits))
+      let free : takes (end_event how t) ≡ 0 = end-takes how t in
+      event-whole stays room_after types ms ms_now calls locks locks_now rows now H after (record { worker = w; kind = end_event how t }) room more max whole
+      (end-may how (objects_of ms) H w t opened) end-moved appended (omega (arith, low, fits))
       (subst (λ n. length H + open_count (seen H) + n ≤ more) (sym free) (omega (arith, reserved, grown)))
       (subst (λ n. length H + open_count (seen H) + n ≤ max) (sym free) (omega (arith, limited)))
 
   -- and callers see the event
-  pub end-shown : TypesStay → (T : Type 0) (x : T) (command : Command) (max forgotten : ℕ) (s : Stored) → shown (keeping ms locks rows) H max forgotten ≡ s
-      → refusal (objects_of ms) max H command ≡ None → event_of (objects_of ms) (seen H) command ≡ Some (ends t)
-      → Steps {T = T} s w command (Ok x) (shown (keeping ms_now locks_now now) after max forgotten)
-  end-shown types T x command max forgotten s same unrefused makes =
-      event-shown types T (keeping ms locks rows) (keeping ms_now locks_now now) H after w max forgotten (ends t) command x s same end-moved appended unrefused makes
+  pub end-shown : TypesStay → (T : Type 0) (x : T) (max forgotten : ℕ) (s : Stored) → shown (keeping ms locks rows) H max forgotten ≡ s
+      → Steps {T = T} s w (end_command how t) (Ok x) (shown (keeping ms_now locks_now now) after max forgotten)
+  end-shown types T x max forgotten s same =
+      event-shown types T (keeping ms locks rows) (keeping ms_now locks_now now) H after w max forgotten (end_event how t) (end_command how t) x s same end-moved appended
+      (end-refusal how (objects_of ms) max H t true opened) (end-makes how (objects_of ms) (seen H) t)

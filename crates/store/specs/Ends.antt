@@ -1,4 +1,4 @@
--- The beginning and the end of a store.
+-- The end of a transaction, and the beginning and the end of a store.
 use Rattle.std.specs.Prelude.{◌≡◌, ℕ, ◌<◌, List, [], length, map, filter, ◌≤◌, Bool, true, false, ◌&&◌, nat_le, nat_lt, Some, slice_get, slice_index_or}
 use Rattle.std.specs.List.{range_with_len}
 use Rattle.type_table.specs.Limits.{longest_history, most_objects}
@@ -8,9 +8,20 @@ use Rattle.object_trait.specs.declared.event.Event.{Event}
 use Rattle.object_trait.specs.declared.event.EventKind.TheVariants.{Abort}
 use Rattle.serial_order.specs.History.{seen, is_open}
 use Rattle.serial_order.specs.After.{beginners}
+use Rattle.serial_order.specs.declared.command.Command.{Command}
+use Rattle.serial_order.specs.declared.command.Command.TheVariants as command
+use Rattle.object_calls.specs.declared.end.End.{End}
+use Rattle.object_calls.specs.declared.end.End.TheVariants as end
 use Rattle.store_laws.specs.Kept.{IsObject}
 use Rattle.store.specs.declared.refusals.NewRefusal.{NewRefusal}
 use Rattle.store.specs.declared.refusals.NewRefusal.TheVariants.{NoObjects, TooManyObjects, NotFresh, BadMax, NoMemory}
+
+-- ---- the end of a transaction
+
+-- the command that asks for it
+abbrev pub end_command : End → ℕ → Command
+end_command end.Commit t = command.Commit t
+end_command end.Abort t = command.Abort t
 
 -- ---- the beginning
 

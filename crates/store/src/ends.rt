@@ -1,15 +1,18 @@
 //! The end of a transaction.
 
+ghost use Rattle.std.specs.Prelude.{◌≡◌};
 ghost use Rattle.serial_order.specs.declared.command.Command.TheVariants as command;
+ghost use Rattle.store_laws.specs.Events.{end_event};
 ghost use Rattle.store_laws.specs.Stored.{Steps};
+ghost use Rattle.store.specs.Ends.{end_command};
 
 use crate::store::Store;
-use object_calls::{abort_at, commit_at};
+use object_calls::{End, end_at};
 use object_trait::{Event, EventKind, Recovery};
 use serial_order::Refusal;
 use store_laws::{
-    abort_moves, commit_moves, places_are_inside, room_after, rows_are_counted,
-    rows_say_who_is_open, stays_kept, types_stay,
+    end_moves, places_are_inside, room_after, rows_are_counted, rows_say_who_is_open, stays_kept,
+    types_stay,
 };
 
 impl<R: Recovery> Store<R> {
@@ -21,28 +24,7 @@ impl<R: Recovery> Store<R> {
     pub fn commit(&mut self, w: u8, t: u32) -> Result<(), Refusal>
         ensures { Steps self.old w (command.Commit t) result self.new }
     {
-        rows_say_who_is_open();
-        rows_are_counted();
-        places_are_inside();
-        commit_moves();
-        stays_kept();
-        room_after();
-        types_stay();
-        if !self.transactions.is_open(t) {
-            return Err(Refusal::NotOpen);
-        }
-        commit_at(
-            &mut self.objects,
-            &mut self.locks,
-            self.transactions.places(t),
-            t,
-        );
-        self.transactions.end(t);
-        self.history.push_reserved(Event {
-            worker: w,
-            kind: EventKind::Commit { t },
-        });
-        Ok(())
+        self.end(w, t, End::Commit)
     }
 
     /// Aborts transaction t, as worker w: all its operations are struck. It takes no memory, and
@@ -54,27 +36,43 @@ impl<R: Recovery> Store<R> {
     pub fn abort(&mut self, w: u8, t: u32) -> Result<(), Refusal>
         ensures { Steps self.old w (command.Abort t) result self.new }
     {
+        self.end(w, t, End::Abort)
+    }
+
+    /// Ends transaction t, as worker w.
+    fn end(&mut self, w: u8, t: u32, how: End) -> Result<(), Refusal>
+        ensures { Steps self.old w (end_command how t) result self.new }
+    {
         rows_say_who_is_open();
         rows_are_counted();
         places_are_inside();
-        abort_moves();
+        end_moves();
         stays_kept();
         room_after();
         types_stay();
         if !self.transactions.is_open(t) {
             return Err(Refusal::NotOpen);
         }
-        abort_at(
+        end_at(
             &mut self.objects,
             &mut self.locks,
             self.transactions.places(t),
             t,
+            how,
         );
         self.transactions.end(t);
-        self.history.push_reserved(Event {
-            worker: w,
-            kind: EventKind::Abort { t },
-        });
+        let kind = kind_of_end(how, t);
+        self.history.push_reserved(Event { worker: w, kind });
         Ok(())
+    }
+}
+
+/// The event of an end of t.
+fn kind_of_end(how: End, t: u32) -> EventKind
+    ensures { result ≡ end_event how t }
+{
+    match how {
+        End::Commit => EventKind::Commit { t },
+        End::Abort => EventKind::Abort { t },
     }
 }

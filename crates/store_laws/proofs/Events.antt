@@ -1,5 +1,5 @@
 -- What the calls of a store change is what their events do to what is kept.
-use Rattle.std.proofs.Common.{◌≡◌, ℕ, ◌+◌, ◌-◌, ◌<◌, false, not, ◌==◌, ◌⊎◌, List, [], ◌∷◌, ◌++◌, map, filter, length, set, Some, slice_get, sym, ap, subst, ◌∙◌, inl, inr, arith}
+use Rattle.std.proofs.Common.{◌≡◌, ℕ, ◌+◌, ◌-◌, ◌<◌, false, not, ◌==◌, ◌⊎◌, List, [], ◌∷◌, ◌++◌, map, filter, length, set, Option, Some, None, slice_get, refl, sym, ap, subst, ◌∙◌, inl, inr, arith}
 use Rattle.std.specs.List.{list_any}
 use Rattle.std.proofs.lemmas.Bool.{cases_Bool, eq-eqb, true≢false}
 use Rattle.std.proofs.lemmas.List.{length-map, length-set, length-append, map-append, nil_from_length}
@@ -8,7 +8,7 @@ use Rattle.type_table.proofs.Elements.{cases-set, element_at, eqb-sym}
 use Rattle.object_trait.specs.Strike.{keep_first}
 use Rattle.object_trait.specs.Meaning.{Meaning, open_of}
 use Rattle.object_trait.specs.Sound.{IsSound}
-use Rattle.object_trait.specs.Steps.{applied, IsCommit, IsAbort, IsStrike}
+use Rattle.object_trait.specs.Steps.{applied, IsStrike}
 use Rattle.object_trait.specs.Laws.{UntouchedStays}
 use Rattle.object_trait.specs.declared.event.Event.{Event}
 use Rattle.object_trait.specs.declared.event.EventKind.{EventKind}
@@ -23,12 +23,15 @@ use Rattle.serial_order.specs.Replay.{open_count}
 use Rattle.serial_order.specs.Held.{held_at, held_after}
 use Rattle.op_locks.specs.Locks.{Locks, without, without_last}
 use Rattle.op_locks.specs.declared.held.Held.{Held}
-use Rattle.object_calls.specs.Ends.{count_at, ChangesAt}
+use Rattle.object_calls.specs.Ends.{count_at, ChangesAt, IsEnd}
+use Rattle.object_calls.specs.declared.end.End.{End}
+use Rattle.object_calls.specs.declared.end.End.TheVariants as end
 use Rattle.open_transactions.specs.Transactions.{Row}
 use Rattle.store_laws.specs.Kept.{Keeping, held_of, as_held, IsKept}
+use Rattle.store_laws.specs.Moves.{IsRowMoved, RowsMove}
 use Rattle.store_laws.specs.Words.{EndsAsHeld, StrikesAsHeld}
 use Rattle.store_laws.specs.Before.{IsOpenRow, last_places}
-use Rattle.store_laws.specs.Events.{QuietMoves, BeginMoves, OpMoves, CommitMoves, AbortMoves, RollbackMoves, TypesStay, takes, RoomAfter}
+use Rattle.store_laws.specs.Events.{QuietMoves, BeginMoves, OpMoves, end_event, EndMoves, RollbackMoves, TypesStay, takes, RoomAfter}
 use Rattle.store_laws.proofs.Filters.{filter-others, count-none}
 use Rattle.store_laws.proofs.Untouched.{strike-untouched}
 use Rattle.store_laws.proofs.Places.{row-at, held-at, held-from, entries-count, held-count, count-elsewhere, struck-count}
@@ -163,37 +166,46 @@ module _ (counted : LogsAreCounted) (ends_held : EndsAsHeld) (k : Keeping) (H : 
         (sym (filter-others (is_by t) (held_at x (seen H)) (held-count k H t row kept there x ∙ count-elsewhere k H t row kept there x none)));
   }
 
-  -- an object where it has no operation is as after the end
-  end-objects : (change : Meaning → ℕ → Meaning → Type 0) → ((m : Meaning) (u : ℕ) → IsSound m → open_of u m.log ≡ [] → change m u m)
-      → (new : List Meaning) → ChangesAt row.places (λ x m n. change m t n) k.meanings new
-      → (x : ℕ) (m n : Meaning) → slice_get k.meanings x ≡ Some m → slice_get new x ≡ Some n → change m t n
-  end-objects change untouched new changes x m n was is =
-      elim (cases-at row.places (λ y a b. change a t b) k.meanings new changes x m n was is) [
+  -- an object where it has no operation is as after either end
+  end-untouched : UntouchedStays → (how : End) (m : Meaning) → IsSound m → open_of t m.log ≡ [] → IsEnd how m t m
+  end-untouched untouched end.Commit m sound none = (untouched m t sound none).0
+  end-untouched untouched end.Abort m sound none = (untouched m t sound none).1 0
+
+  end-objects : UntouchedStays → (how : End) (new : List Meaning) → ChangesAt row.places (λ x m n. IsEnd how m t n) k.meanings new
+      → (x : ℕ) (m n : Meaning) → slice_get k.meanings x ≡ Some m → slice_get new x ≡ Some n → IsEnd how m t n
+  end-objects untouched how new changes x m n was is =
+      elim (cases-at row.places (λ y a b. IsEnd how a t b) k.meanings new changes x m n was is) [
         | inl here ↦ here
         | inr apart ↦
-            subst (change m t) (sym apart.1)
-            (untouched m t (kept.objects x m was).sound
+            subst (IsEnd how m t) (sym apart.1)
+            (end-untouched untouched how m (kept.objects x m was).sound
             (nil_from_length (open_of t m.log) (entries-count k H t row kept there counted x m was ∙ count-elsewhere k H t row kept there x apart.0)))
       ]
 
-pub commit_moves : UntouchedStays → LogsAreCounted → EndsAsHeld → CommitMoves
-commit_moves untouched counted ends_held = λ old new H w t row before now kept there was becomes objects locks rows.
-    record {
-      as_many = objects.as_many;
-      objects = end-objects counted ends_held old H t row kept there IsCommit (λ m u sound none. (untouched m u sound none).0) new.meanings objects;
-      lists = as-many old new before now was becomes locks.as_many;
-      held = left-held old new before now was becomes row.places _ _ locks (left-end counted ends_held old H t row kept there);
-      rows = record { row = row; was = row-at old H t row kept there; becomes = rows };
-    }
+-- its event says the same of an object, of what is held there, and of the rows
+end-changes : (how : End) (x : ℕ) (s : Seen) (t : ℕ) (m n : Meaning) → IsEnd how m t n → Changes x s (end_event how t) m n
+end-changes end.Commit x s t m n is = is
+end-changes end.Abort x s t m n is = is
 
-pub abort_moves : UntouchedStays → LogsAreCounted → EndsAsHeld → AbortMoves
-abort_moves untouched counted ends_held = λ old new H w t row before now kept there was becomes objects locks rows.
+end-held : (how : End) (x : ℕ) (s : Seen) (t : ℕ) → filter (λ e. not (is_by t e)) (held_at x s) ≡ held_after x s (end_event how t)
+end-held end.Commit x s t = refl
+end-held end.Abort x s t = refl
+
+end-rows : (how : End) (w t : ℕ) (old new : List (Option Row)) → IsRowMoved old new t (λ r. None) → RowsMove w (end_event how t) old new
+end-rows end.Commit w t old new moved = moved
+end-rows end.Abort w t old new moved = moved
+
+pub end_moves : UntouchedStays → LogsAreCounted → EndsAsHeld → EndMoves
+end_moves untouched counted ends_held = λ how old new H w t row before now kept there was becomes objects locks rows.
     record {
       as_many = objects.as_many;
-      objects = end-objects counted ends_held old H t row kept there IsAbort (λ m u sound none. (untouched m u sound none).1 0) new.meanings objects;
+      objects = λ x m n is_m is_n.
+          end-changes how x (seen H) t m n (end-objects counted ends_held old H t row kept there untouched how new.meanings objects x m n is_m is_n);
       lists = as-many old new before now was becomes locks.as_many;
-      held = left-held old new before now was becomes row.places _ _ locks (left-end counted ends_held old H t row kept there);
-      rows = record { row = row; was = row-at old H t row kept there; becomes = rows };
+      held = λ x l is.
+          left-held old new before now was becomes row.places _ _ locks (left-end counted ends_held old H t row kept there) x l is
+          ∙ ap (map as_held) (end-held how x (seen H) t);
+      rows = end-rows how w t old.rows new.rows (record { row = row; was = row-at old H t row kept there; becomes = rows });
     }
 
 -- ---- a rollback

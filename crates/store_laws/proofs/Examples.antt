@@ -15,9 +15,10 @@ use Rattle.serial_order.specs.Held.{held_after}
 use Rattle.op_locks.specs.Locks.{Locks}
 use Rattle.op_locks.specs.declared.held.Held.{Held}
 use Rattle.object_calls.specs.Ends.{is_at, ChangesAt}
+use Rattle.object_calls.specs.declared.end.End.TheVariants as end
 use Rattle.store_laws.specs.Kept.{as_held, IsKept}
 use Rattle.store_laws.specs.Moves.{Moves, StaysKept}
-use Rattle.store_laws.specs.Events.{OpMoves, CommitMoves, RollbackMoves}
+use Rattle.store_laws.specs.Events.{OpMoves, EndMoves, RollbackMoves}
 use Rattle.store_laws.specs.Examples.{by_seven, hold, one_up, new_counters, begun, counted, committed}
 
 -- ---- two objects
@@ -114,10 +115,10 @@ takes_back-by_law moves kept =
     refl
 
 -- or commits
-pub commits-by_law : CommitMoves → IsKept counted (take 2 one_up) → Moves counted committed (take 2 one_up) (record { worker = 7; kind = Commit 0 })
+pub commits-by_law : EndMoves → IsKept counted (take 2 one_up) → Moves counted committed (take 2 one_up) (record { worker = 7; kind = Commit 0 })
 unfolding next two_lists
 commits-by_law moves kept =
-    moves counted committed (take 2 one_up) 7 0 (by_seven (1 ∷ [])) (two_lists [] (hold 0 0 ∷ [])) (two_lists [] []) kept refl refl refl
+    moves end.Commit counted committed (take 2 one_up) 7 0 (by_seven (1 ∷ [])) (two_lists [] (hold 0 0 ∷ [])) (two_lists [] []) kept refl refl refl
     (changes-second _ _ _ _
     (record { checked = refl; commit = record { rest = refl; inside = refl; reached = (λ ks legal. legal, λ ks legal. legal); still = λ none. absurd (has_entry none) } }))
     (changes-second _ _ _ _ refl)

@@ -2,7 +2,7 @@
 use Rattle.std.specs.Prelude.{◌≡◌, ℕ, ◌+◌, List, [], ◌∷◌, ◌++◌, length, set, Some, None, slice_get}
 use Rattle.object_trait.specs.Object.{Object}
 use Rattle.object_trait.specs.Meaning.{Meaning}
-use Rattle.object_trait.specs.Steps.{applied, IsCommit, IsAbort, IsStrike}
+use Rattle.object_trait.specs.Steps.{applied, IsStrike}
 use Rattle.object_trait.specs.declared.event.Event.{Event}
 use Rattle.object_trait.specs.declared.event.EventKind.{EventKind}
 use Rattle.object_trait.specs.declared.event.EventKind.TheVariants as kind
@@ -12,7 +12,9 @@ use Rattle.serial_order.specs.Machine.{MayFollow, IsRun}
 use Rattle.serial_order.specs.Replay.{open_count}
 use Rattle.op_locks.specs.Locks.{Locks, without, without_last}
 use Rattle.op_locks.specs.declared.held.Held.{Held}
-use Rattle.object_calls.specs.Ends.{count_at, ChangesAt}
+use Rattle.object_calls.specs.Ends.{count_at, ChangesAt, IsEnd}
+use Rattle.object_calls.specs.declared.end.End.{End}
+use Rattle.object_calls.specs.declared.end.End.TheVariants as end
 use Rattle.store_laws.specs.Stored.{types_of}
 use Rattle.open_transactions.specs.Transactions.{Row}
 use Rattle.store_laws.specs.Kept.{Keeping, held_of, IsKept}
@@ -41,20 +43,19 @@ OpMoves =
     → new.meanings ≡ set old.meanings x (applied m t op) → new.held ≡ set old.held x (held ++ (record { by = t; op = op }) ∷ [])
     → new.rows ≡ set old.rows t (Some (at_too x row)) → Moves old new H (record { worker = w; kind = Op t x op })
 
--- with this change of each object where t has operations, nothing held there by t any more, and no row of t: an end of t
-abbrev pub EndMoves : (Meaning → ℕ → Meaning → Type 0) → (ℕ → EventKind) → Type 0
-EndMoves change ends =
-    (old new : Keeping) (H : List Event) (w t : ℕ) (row : Row) (before now : List Locks) → IsKept old H → IsOpenRow old t row
+-- the event of an end of t
+abbrev pub end_event : End → ℕ → EventKind
+end_event end.Commit t = Commit t
+end_event end.Abort t = Abort t
+
+-- with this end of t at each object where t has operations, nothing held there by t any more, and no row of t
+abbrev pub EndMoves : Type 0
+EndMoves =
+    (how : End) (old new : Keeping) (H : List Event) (w t : ℕ) (row : Row) (before now : List Locks) → IsKept old H → IsOpenRow old t row
     → old.held ≡ held_of before → new.held ≡ held_of now
-    → ChangesAt row.places (λ x m n. change m t n) old.meanings new.meanings
+    → ChangesAt row.places (λ x m n. IsEnd how m t n) old.meanings new.meanings
     → ChangesAt row.places (λ x a b. b.held ≡ without t a.held) before now
-    → new.rows ≡ set old.rows t None → Moves old new H (record { worker = w; kind = ends t })
-
-abbrev pub CommitMoves : Type 0
-CommitMoves = EndMoves IsCommit Commit
-
-abbrev pub AbortMoves : Type 0
-AbortMoves = EndMoves IsAbort Abort
+    → new.rows ≡ set old.rows t None → Moves old new H (record { worker = w; kind = end_event how t })
 
 -- with as many entries struck at each object as are among the last n places of t, and as many given up of what it holds there: a rollback
 abbrev pub RollbackMoves : Type 0

@@ -5,7 +5,7 @@ ghost use Rattle.store_laws.specs.Moves.{StaysKept};
 ghost use Rattle.store_laws.specs.Words.{EndsAsHeld, StrikesAsHeld, BlocksAsHeld, AnswersAsDefined};
 ghost use Rattle.store_laws.specs.Before.{NewIsKept, RowsSayWhoIsOpen, RowsAreCounted, PlacesAreCounted, RowsAreFew, PlacesAreFew, PlacesAreInside, HeldAreOperations, HasWhatIsStruck};
 ghost use Rattle.store_laws.specs.Asked.{AskedIsReplayed, StepIsAsked, AnswerIsDefined};
-ghost use Rattle.store_laws.specs.Events.{QuietMoves, BeginMoves, OpMoves, CommitMoves, AbortMoves, RollbackMoves, TypesStay, RoomAfter};
+ghost use Rattle.store_laws.specs.Events.{QuietMoves, BeginMoves, OpMoves, EndMoves, RollbackMoves, TypesStay, RoomAfter};
 
 use object_trait::{
     checked_is_covered, fresh_is_sound, sound_after_apply, sound_after_commit, sound_after_strike,
@@ -154,20 +154,10 @@ pub fn op_moves()
     ensures { OpMoves }
 {}
 
-/// A commit commits at each object where its transaction has operations, and gives up what it holds
-/// there. At any other object nothing changes, which is a commit too.
-pub fn commit_moves()
-    ensures { CommitMoves }
-{
-    untouched_stays();
-    logs_are_counted();
-    ends_as_held();
-}
-
-/// An abort aborts at each object where its transaction has operations, and gives up what it holds
-/// there.
-pub fn abort_moves()
-    ensures { AbortMoves }
+/// A commit commits, and an abort aborts, at each object where its transaction has operations, and
+/// gives up what it holds there. At any other object nothing changes, which is such an end too.
+pub fn end_moves()
+    ensures { EndMoves }
 {
     untouched_stays();
     logs_are_counted();

@@ -11,7 +11,7 @@ ghost use Rattle.store_laws.specs.Before.{last_places};
 ghost use Rattle.store_laws.specs.Asked.{AreAsked, left_by, commands_of, wanting_in, replayed};
 ghost use Rattle.store_laws.specs.Examples.{AreAccepted, by_seven, one_up, new_counters, begun, counted, committed, one_back, stored, by_worker, up_and_again};
 
-use crate::laws::{commit_moves, op_moves, rollback_moves, stays_kept};
+use crate::laws::{end_moves, op_moves, rollback_moves, stays_kept};
 use object_calls::Answer;
 use object_trait::{EventKind, checked_is_covered, fresh_is_sound};
 use serial_order::{Command, Refusal, fresh_stands};
@@ -45,7 +45,7 @@ pub fn its_calls_are_its_events()
     it_goes_on_agreeing();
     op_moves();
     rollback_moves();
-    commit_moves();
+    end_moves();
 }
 
 /// What is kept after one event doesn't agree with the history before it, or with that after another.

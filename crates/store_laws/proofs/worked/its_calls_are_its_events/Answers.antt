@@ -9,4 +9,4 @@ pub returns-clause-takes_back : goal.returns-clause-takes_back
 returns-clause-takes_back c = λ accepted. takes_back-by_law c.rollback_moves.ensures (c.it_goes_on_agreeing.ensures.counted accepted)
 
 pub returns-clause-commits : goal.returns-clause-commits
-returns-clause-commits c = λ accepted. commits-by_law c.commit_moves.ensures (c.it_goes_on_agreeing.ensures.counted accepted)
+returns-clause-commits c = λ accepted. commits-by_law c.end_moves.ensures (c.it_goes_on_agreeing.ensures.counted accepted)

@@ -1,11 +1,11 @@
 //! The laws of a store and of its objects' calls, each called once.
 
 use store_laws::{
-    abort_moves, answer_is_defined, answers_as_defined, asked_is_replayed, begin_moves,
-    blocks_as_held, commit_moves, ends_as_held, has_what_is_struck, held_are_operations,
-    new_is_kept, op_moves, places_are_counted, places_are_few, places_are_inside, quiet_moves,
-    rollback_moves, room_after, rows_are_counted, rows_are_few, rows_say_who_is_open, stays_kept,
-    step_is_asked, strikes_as_held, types_stay,
+    answer_is_defined, answers_as_defined, asked_is_replayed, begin_moves, blocks_as_held,
+    end_moves, ends_as_held, has_what_is_struck, held_are_operations, new_is_kept, op_moves,
+    places_are_counted, places_are_few, places_are_inside, quiet_moves, rollback_moves, room_after,
+    rows_are_counted, rows_are_few, rows_say_who_is_open, stays_kept, step_is_asked,
+    strikes_as_held, types_stay,
 };
 
 #[test]
@@ -17,8 +17,7 @@ fn laws_of_stores_are_called() {
     quiet_moves();
     begin_moves();
     op_moves();
-    commit_moves();
-    abort_moves();
+    end_moves();
     rollback_moves();
     ends_as_held();
     strikes_as_held();

@@ -1,17 +1,23 @@
-use Rattle.std.proofs.Common.{◌≡◌, ◌+◌, ◌++◌, true, false, length, map, vec_capacity, sym, refl, ◌∙◌, arith}
+use Rattle.std.proofs.Common.{◌≡◌, ℕ, ◌+◌, List, [], ◌∷◌, ◌++◌, false, length, map, vec_capacity, sym, ap, ◌∙◌, arith}
 use Rattle.std.proofs.lemmas.List.{length-map}
-use Rattle.object_trait.specs.Steps.{IsAbort}
-use Rattle.object_trait.specs.declared.event.EventKind.TheVariants.{Abort}
+use Rattle.object_trait.specs.declared.event.Event.{Event}
+use Rattle.object_trait.specs.declared.event.EventKind.{EventKind}
 use Rattle.serial_order.specs.History.{seen, is_open}
-use Rattle.serial_order.specs.declared.command.Command.TheVariants as command
 use Rattle.serial_order.specs.declared.refusal.Refusal.TheVariants.{NotOpen}
 use Rattle.open_transactions.specs.Transactions.{count_open}
+use Rattle.store_laws.specs.Events.{end_event}
 use Rattle.store_laws.specs.Kept.{Keeping, keeping, objects_of}
+use Rattle.store.specs.Ends.{end_command}
 use Rattle.store.proofs.Stored.{refused-shown}
 use Rattle.store.proofs.Opens.{open-alike, lists-alike, places-inside}
 use Rattle.store.proofs.Pasts.{past-more, past-length}
-use Rattle.store.proofs.Endings.{abort-refusal, end-room, end-whole, end-shown}
-use Rattle.store.proofs.store.Store.abort.Goals as goal
+use Rattle.store.proofs.Endings.{end-refusal, end-room, end-whole, end-shown}
+use Rattle.store.proofs.store.Store.end.Goals as goal
+
+-- the event is that of the end
+event-last : (K after : List Event) (w : ℕ) (kind happened : EventKind) → after ≡ K ++ (record { worker = w; kind = kind }) ∷ [] → kind ≡ happened
+    → after ≡ K ++ (record { worker = w; kind = happened }) ∷ []
+event-last K after w kind happened appended same = appended ∙ ap (λ k. K ++ (record { worker = w; kind = k }) ∷ []) same
 
 pub returns-then-not-is_open : goal.returns-then-not-is_open
 returns-then-not-is_open g c =
@@ -21,18 +27,18 @@ returns-then-not-is_open g c =
     let k : Keeping = keeping ms inside.locks.items inside.transactions.rows in
     let closed : is_open (seen H) c.args.t ≡ false =
     open-alike c.rows_say_who_is_open.ensures ms inside.locks.items inside.transactions.rows H c.args.t c.self.invariant.1.store.kept ∙ sym c.is_open.ensures ∙ c.if-not-is_open.true in
-    refused-shown (Unit {0}) k H c.args.w inside.max_events inside.forgotten (command.Abort c.args.t) NotOpen c.args.self.now c.self.view_is
-    (abort-refusal (objects_of ms) inside.max_events H c.args.t false closed)
+    refused-shown (Unit {0}) k H c.args.w inside.max_events inside.forgotten (end_command c.args.how c.args.t) NotOpen c.args.self.now c.self.view_is
+    (end-refusal c.args.how (objects_of ms) inside.max_events H c.args.t false closed)
 
-pub abort_at-requires-clause-as_many : goal.abort_at-requires-clause-as_many
-abort_at-requires-clause-as_many g c =
+pub end_at-requires-clause-as_many : goal.end_at-requires-clause-as_many
+end_at-requires-clause-as_many g c =
     λ κs outlives.
     let inside = c.self.inside in
     lists-alike (map g.R.Recovery.meaning inside.objects.items) inside.locks.items inside.transactions.rows (inside.past.items ++ inside.history.items) (length inside.objects.items) c.self.invariant.1.store.kept
     (length-map inside.objects.items g.R.Recovery.meaning)
 
-pub abort_at-requires-clause-inside : goal.abort_at-requires-clause-inside
-abort_at-requires-clause-inside g c =
+pub end_at-requires-clause-inside : goal.end_at-requires-clause-inside
+end_at-requires-clause-inside g c =
     λ κs outlives.
     let inside = c.self.inside in
     places-inside (map g.R.Recovery.meaning inside.objects.items) inside.locks.items inside.transactions.rows (inside.past.items ++ inside.history.items) c.args.t c.places.result.now c.self.invariant.1.store.kept
@@ -51,13 +57,14 @@ invariant_of-self g c =
     let inside = c.self.inside in
     let H = inside.past.items ++ inside.history.items in
     let ms = map g.R.Recovery.meaning inside.objects.items in
-    let going = sym c.is_open.ensures ∙ c.if-not-is_open.false in
-    let may = open-alike c.rows_say_who_is_open.ensures ms inside.locks.items inside.transactions.rows H c.args.t c.self.invariant.1.store.kept ∙ going in (
+    let event : Event = record { worker = c.args.w; kind = end_event c.args.how c.args.t } in (
       c.self.invariant.0,
-      end-whole IsAbort Abort c.abort_moves.ensures ms (map g.R.Recovery.meaning c.abort_at.new.objects.items) inside.locks.items c.abort_at.new.locks.items
+      end-whole c.args.how c.end_moves.ensures c.rows_say_who_is_open.ensures ms (map g.R.Recovery.meaning c.end_at.new.objects.items) inside.locks.items c.end_at.new.locks.items
           inside.transactions.rows c.end.new.self.rows H (inside.past.items ++ c.push_reserved.new.self.items) c.args.w c.args.t c.places.result.now c.self.invariant.1.store.kept
-          going c.places.ensures c.abort_at.ensures.objects c.abort_at.ensures.locks c.end.ensures.rows (past-more inside.past.items inside.history.items c.push_reserved.new.self.items (record { worker = c.args.w; kind = Abort c.args.t }) c.push_reserved.ensures.items)
-          c.stays_kept.ensures c.room_after.ensures c.types_stay.ensures c.rows_are_counted.ensures may refl inside.calls.items (inside.forgotten + vec_capacity inside.history) (inside.forgotten + vec_capacity c.push_reserved.new.self) inside.max_events c.self.invariant.1
+          (sym c.is_open.ensures ∙ c.if-not-is_open.false) c.places.ensures c.end_at.ensures.objects c.end_at.ensures.locks c.end.ensures.rows
+          (past-more inside.past.items inside.history.items c.push_reserved.new.self.items event (event-last inside.history.items c.push_reserved.new.self.items c.args.w _ _ c.push_reserved.ensures.items c.kind_of_end-kind.ensures))
+          c.stays_kept.ensures c.room_after.ensures c.types_stay.ensures c.rows_are_counted.ensures
+          inside.calls.items (inside.forgotten + vec_capacity inside.history) (inside.forgotten + vec_capacity c.push_reserved.new.self) inside.max_events c.self.invariant.1
           (omega (arith, c.push_reserved.ensures.capacity)) (omega arith) c.end.ensures.count,
     )
 
@@ -66,11 +73,9 @@ returns g c =
     let inside = c.self.inside in
     let H = inside.past.items ++ inside.history.items in
     let ms = map g.R.Recovery.meaning inside.objects.items in
-    let going = sym c.is_open.ensures ∙ c.if-not-is_open.false in
-    let opened : is_open (seen H) c.args.t ≡ true =
-    open-alike c.rows_say_who_is_open.ensures ms inside.locks.items inside.transactions.rows H c.args.t c.self.invariant.1.store.kept ∙ going in
-    end-shown IsAbort Abort c.abort_moves.ensures ms (map g.R.Recovery.meaning c.abort_at.new.objects.items) inside.locks.items c.abort_at.new.locks.items
+    let event : Event = record { worker = c.args.w; kind = end_event c.args.how c.args.t } in
+    end-shown c.args.how c.end_moves.ensures c.rows_say_who_is_open.ensures ms (map g.R.Recovery.meaning c.end_at.new.objects.items) inside.locks.items c.end_at.new.locks.items
     inside.transactions.rows c.end.new.self.rows H (inside.past.items ++ c.push_reserved.new.self.items) c.args.w c.args.t c.places.result.now c.self.invariant.1.store.kept
-    going c.places.ensures c.abort_at.ensures.objects c.abort_at.ensures.locks c.end.ensures.rows (past-more inside.past.items inside.history.items c.push_reserved.new.self.items (record { worker = c.args.w; kind = Abort c.args.t }) c.push_reserved.ensures.items)
-    c.types_stay.ensures (Unit {0}) tt (command.Abort c.args.t) inside.max_events inside.forgotten c.args.self.now c.self.view_is
-    (abort-refusal (objects_of ms) inside.max_events H c.args.t true opened) refl
+    (sym c.is_open.ensures ∙ c.if-not-is_open.false) c.places.ensures c.end_at.ensures.objects c.end_at.ensures.locks c.end.ensures.rows
+    (past-more inside.past.items inside.history.items c.push_reserved.new.self.items event (event-last inside.history.items c.push_reserved.new.self.items c.args.w _ _ c.push_reserved.ensures.items c.kind_of_end-kind.ensures))
+    c.types_stay.ensures (Unit {0}) tt inside.max_events inside.forgotten c.args.self.now c.self.view_is
