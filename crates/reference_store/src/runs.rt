@@ -226,10 +226,8 @@ pub fn types_of(alloc: Global, sorts: &[Sort]) -> Result<Vec<Arc<CheckedType>>, 
         types.reserve(sorts.len())?;
     }
     for (kind, text) in sorts {
-        types
-            .push(checked_of(alloc, text, *kind)?)
-            .ok()
-            .ok_or("no room")?;
+        let checked = checked_of(alloc, text, *kind).ok_or("no checked type")?;
+        types.push(checked).ok().ok_or("no room")?;
     }
     Ok(types)
 }
