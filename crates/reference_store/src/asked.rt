@@ -17,7 +17,7 @@ pub enum Ask {
 }
 
 /// What came of it.
-#[derive(Clone, Copy, Debug, PartialEq, Eq)]
+#[derive(Clone, Copy, PartialEq, Eq)]
 pub enum Told {
     Begun(u32),
     Reply(u8),

@@ -2,7 +2,6 @@
 
 use std::alloc::Global;
 use std::sync::Arc;
-use std::test::Fail;
 use table_checker::{CheckedType, check};
 use type_table::Kind;
 use type_text::read_type;
@@ -17,10 +16,10 @@ fn checked_once(alloc: Global, text: &str, kind: Kind) -> Option<Arc<CheckedType
     Arc::new(alloc, checked).ok()
 }
 
-/// The same. Where one allocation is refused, the next try has it.
-pub fn checked_of(alloc: Global, text: &str, kind: Kind) -> Result<Arc<CheckedType>, Fail> {
-    if let Some(checked) = checked_once(alloc, text, kind) {
-        return Ok(checked);
+/// The same, where the text is of a type that is accepted. Where one allocation is refused, the next try has it.
+pub fn checked_of(alloc: Global, text: &str, kind: Kind) -> Option<Arc<CheckedType>> {
+    match checked_once(alloc, text, kind) {
+        Some(checked) => Some(checked),
+        None => checked_once(alloc, text, kind),
     }
-    Ok(checked_once(alloc, text, kind).ok_or("no checked type")?)
 }

@@ -37,16 +37,15 @@ pub fn refusal_line(refusal: Refusal) -> &'static str {
 
 /// The line of an event of worker 0.
 pub fn event_line(alloc: Global, event: Event) -> Result<String, AllocError> {
-    let line = match event.kind {
-        EventKind::Begin { t } => format!(in alloc; "begin 0 {t}")?,
-        EventKind::Op { t, x, k } => format!(in alloc; "op 0 {t} {x} {k}")?,
-        EventKind::Busy { c, t, x, u } => format!(in alloc; "busy 0 {t} {x} {c} {u}")?,
-        EventKind::None { t, x, c } => format!(in alloc; "none 0 {t} {x} {c}")?,
-        EventKind::Commit { t } => format!(in alloc; "commit 0 {t}")?,
-        EventKind::Abort { t } => format!(in alloc; "abort 0 {t}")?,
-        EventKind::Rollback { t, n } => format!(in alloc; "rollback 0 {t} {n}")?,
-    };
-    Ok(line)
+    match event.kind {
+        EventKind::Begin { t } => format!(in alloc; "begin 0 {t}"),
+        EventKind::Op { t, x, k } => format!(in alloc; "op 0 {t} {x} {k}"),
+        EventKind::Busy { c, t, x, u } => format!(in alloc; "busy 0 {t} {x} {c} {u}"),
+        EventKind::None { t, x, c } => format!(in alloc; "none 0 {t} {x} {c}"),
+        EventKind::Commit { t } => format!(in alloc; "commit 0 {t}"),
+        EventKind::Abort { t } => format!(in alloc; "abort 0 {t}"),
+        EventKind::Rollback { t, n } => format!(in alloc; "rollback 0 {t} {n}"),
+    }
 }
 
 /// The number that a word is.
@@ -134,6 +133,23 @@ fn push_lines(
     Ok(())
 }
 
+/// Puts the line of the state of object x behind the others, where it has one.
+fn push_state(
+    alloc: Global,
+    text: &mut Vec<u8>,
+    word: &str,
+    x: u32,
+    state: Option<u16>,
+) -> Result<(), AllocError> {
+    match state {
+        Some(state) => {
+            let line = format!(in alloc; "# {word} {x} {state}")?;
+            push_line(text, line.as_str())
+        }
+        None => Ok(()),
+    }
+}
+
 /// Puts the lines behind the commands.
 pub fn push_end(alloc: Global, text: &mut Vec<u8>, fold: &mut Reference) -> Result<(), AllocError> {
     for t in 0..fold.count() {
@@ -143,29 +159,36 @@ pub fn push_end(alloc: Global, text: &mut Vec<u8>, fold: &mut Reference) -> Resu
     }
     push_line(text, "end")?;
     for x in 0..256 {
-        if let Some(state) = fold.committed(x) {
-            let line = format!(in alloc; "# kept {x} {state}")?;
+        push_state(alloc, text, "kept", x, fold.committed(x))?;
+    }
+    Ok(())
+}
+
+/// Puts the lines of who committed, in that order.
+fn push_commits(alloc: Global, text: &mut Vec<u8>, events: &[Event]) -> Result<(), AllocError> {
+    for event in events {
+        if let EventKind::Commit { t } = event.kind {
+            let line = format!(in alloc; "# commit {t}")?;
             push_line(text, line.as_str())?;
         }
     }
     Ok(())
 }
 
-/// The lines of the audit: who committed, in that order, and where their operations lead.
-pub fn audit_of(alloc: Global, fold: &Reference) -> Result<Vec<u8>, AllocError> {
-    let mut text = b"# audit yes\n".to_vec(alloc)?;
-    for event in fold.events() {
-        if let EventKind::Commit { t } = event.kind {
-            let line = format!(in alloc; "# commit {t}")?;
-            push_line(&mut text, line.as_str())?;
-        }
-    }
+/// Puts the lines of the audit: who committed, and where their operations lead.
+fn push_audit(alloc: Global, text: &mut Vec<u8>, fold: &Reference) -> Result<(), AllocError> {
+    push_line(text, "# audit yes")?;
+    push_commits(alloc, text, fold.events())?;
     for x in 0..256 {
-        if let Some(state) = fold.serial_state(x) {
-            let line = format!(in alloc; "# serial {x} {state}")?;
-            push_line(&mut text, line.as_str())?;
-        }
+        push_state(alloc, text, "serial", x, fold.serial_state(x))?;
     }
+    Ok(())
+}
+
+/// The lines of the audit.
+pub fn audit_of(alloc: Global, fold: &Reference) -> Result<Vec<u8>, AllocError> {
+    let mut text = Vec::new(alloc);
+    push_audit(alloc, &mut text, fold)?;
     Ok(text)
 }
 
@@ -203,10 +226,8 @@ pub fn types_of(alloc: Global, sorts: &[Sort]) -> Result<Vec<Arc<CheckedType>>, 
         types.reserve(sorts.len())?;
     }
     for (kind, text) in sorts {
-        types
-            .push(checked_of(alloc, text, *kind)?)
-            .ok()
-            .ok_or("no room")?;
+        let checked = checked_of(alloc, text, *kind).ok_or("no checked type")?;
+        types.push(checked).ok().ok_or("no room")?;
     }
     Ok(types)
 }

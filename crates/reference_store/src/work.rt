@@ -139,6 +139,15 @@ impl Fold {
         }
         Ok(Outcome::GaveUp)
     }
+
+    /// What comes of all jobs.
+    fn all_jobs(&mut self, jobs: &[Vec<Call>], tries: u32) -> Result<(), AllocError> {
+        for calls in jobs {
+            let outcome = self.job(calls, tries)?;
+            self.outcomes.push(outcome)?;
+        }
+        Ok(())
+    }
 }
 
 /// What comes of jobs at objects of these types.
@@ -153,11 +162,7 @@ fn folded_once(
         outcomes: Vec::new(alloc),
         room,
     };
-    let jobs = jobs_in(alloc, worker.jobs)?;
-    for calls in &jobs {
-        let outcome = fold.job(calls, worker.tries)?;
-        fold.outcomes.push(outcome)?;
-    }
+    fold.all_jobs(&jobs_in(alloc, worker.jobs)?, worker.tries)?;
     Ok(fold)
 }
 
@@ -178,34 +183,45 @@ pub struct WorkText {
     pub jobs: Vec<u8>,
 }
 
+/// Puts the lines of the objects.
+fn push_objects(text: &mut Vec<u8>, jobs: &str) -> Result<(), AllocError> {
+    for line in jobs.lines() {
+        if line.starts_with("object ") {
+            push_line(text, line)?;
+        }
+    }
+    Ok(())
+}
+
+/// Puts the lines of what happened.
+fn push_events(alloc: Global, text: &mut Vec<u8>, events: &[Event]) -> Result<(), AllocError> {
+    for event in events {
+        let line = event_line(alloc, *event)?;
+        push_line(text, line.as_str())?;
+    }
+    Ok(())
+}
+
 /// The lines of the history and of the objects.
 fn run_of(alloc: Global, worker: &OneWorker, fold: &mut Fold) -> Result<Vec<u8>, AllocError> {
     let mut text = Vec::new(alloc);
-    for line in worker.jobs.lines() {
-        if line.starts_with("object ") {
-            push_line(&mut text, line)?;
-        }
-    }
-    for event in fold.reference.events() {
-        let line = event_line(alloc, *event)?;
-        push_line(&mut text, line.as_str())?;
-    }
+    push_objects(&mut text, worker.jobs)?;
+    push_events(alloc, &mut text, fold.reference.events())?;
     push_end(alloc, &mut text, &mut fold.reference)?;
     Ok(text)
 }
 
 /// The line of job i of worker 0.
 fn job_line(alloc: Global, i: usize, outcome: Outcome) -> Result<String, AllocError> {
-    let line = match outcome {
-        Outcome::Committed(t) => format!(in alloc; "# job 0 {i} committed {t}")?,
-        Outcome::GaveUp => format!(in alloc; "# job 0 {i} gaveup")?,
+    match outcome {
+        Outcome::Committed(t) => format!(in alloc; "# job 0 {i} committed {t}"),
+        Outcome::GaveUp => format!(in alloc; "# job 0 {i} gaveup"),
         Outcome::Refused(refusal) => {
             let why = refusal_line(refusal).strip_prefix("#").unwrap_or("");
-            format!(in alloc; "# job 0 {i}{why}")?
+            format!(in alloc; "# job 0 {i}{why}")
         }
-        Outcome::NotRun => format!(in alloc; "# job 0 {i} notrun")?,
-    };
-    Ok(line)
+        Outcome::NotRun => format!(in alloc; "# job 0 {i} notrun"),
+    }
 }
 
 /// The lines of the jobs.

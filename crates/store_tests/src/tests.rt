@@ -3,8 +3,8 @@
 mod any_objects;
 mod histories;
 mod locks;
-mod managers;
+pub mod managers;
 mod readme;
-mod reports;
+pub mod reports;
 mod stores;
 mod transactions;

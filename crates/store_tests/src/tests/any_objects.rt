@@ -1,6 +1,6 @@
 //! Objects of any kind of recovery, their events, and the laws of them.
 
-mod boxed;
+pub mod boxed;
 pub mod one_entry;
 pub mod replayed;
 

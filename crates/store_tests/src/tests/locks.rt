@@ -1,6 +1,6 @@
 //! The operations that transactions hold at an object.
 
-ghost use Rattle.std.specs.Prelude.{◌≡◌, [], ◌∷◌, ◌++◌, IfOk, OnOk, length};
+ghost use Rattle.std.specs.Prelude.{◌≡◌, [], ◌∷◌, ◌++◌, IfOk, length};
 ghost use Rattle.op_locks.specs.Examples.{hold, three_held};
 
 use op_locks::{Held, OpLocks};
@@ -34,19 +34,18 @@ fn three_held(alloc: Global) -> Result<OpLocks, AllocError>
 }
 
 #[test]
-fn the_earliest_of_others_blocks(rt: HostRuntime) -> Result<(), Fail> {
+fn the_earliest_of_others_blocks(rt: HostRuntime) {
     let table = one_pair();
-    let locks = three_held(rt.alloc())?;
+    let locks = three_held(rt.alloc()).expect(&rt, "no memory");
     assert!(rt; locks.blocker(&table, 6, 0) == Some(5));
     assert!(rt; locks.blocker(&table, 5, 0) == Some(4));
     assert!(rt; locks.blocker(&table, 6, 1) == None);
-    Ok(())
 }
 
 #[test]
-fn what_is_released_blocks_no_more(rt: HostRuntime) -> Result<(), Fail> {
+fn what_is_released_blocks_no_more(rt: HostRuntime) {
     let table = one_pair();
-    let mut locks = three_held(rt.alloc())?;
+    let mut locks = three_held(rt.alloc()).expect(&rt, "no memory");
     locks.release(5);
     assert!(rt; locks.blocker(&table, 6, 0) == Some(4));
     locks.release_last(4, 1);
@@ -54,36 +53,33 @@ fn what_is_released_blocks_no_more(rt: HostRuntime) -> Result<(), Fail> {
     let mut both = one_pair();
     both.set(1, 0);
     assert!(rt; locks.blocker(&both, 6, 1) == Some(4));
-    Ok(())
 }
 
 /// Transaction 1 holds operation 1 once more.
-fn hold_one_more(locks: &mut OpLocks) -> Result<(), AllocError>
-    ensures { OnOk result (locks.new.held ≡ locks.old.held ++ hold 1 1 ∷ []) }
+fn hold_one_more(rt: &impl Abort, locks: &mut OpLocks)
+    ensures { locks.new.held ≡ locks.old.held ++ hold 1 1 ∷ [] }
 {
-    locks.reserve()?;
+    locks.reserve().expect(rt, "no memory");
     locks.hold(1, 1);
-    Ok(())
 }
 
 /// Nine are held, more than have their place in the list itself.
 #[test]
-fn many_are_held(rt: HostRuntime) -> Result<(), Fail> {
+fn many_are_held(rt: HostRuntime) {
     let table = one_pair();
-    let mut locks = three_held(rt.alloc())?;
-    hold_one_more(&mut locks)?;
-    hold_one_more(&mut locks)?;
-    hold_one_more(&mut locks)?;
-    hold_one_more(&mut locks)?;
-    hold_one_more(&mut locks)?;
-    hold_one_more(&mut locks)?;
+    let mut locks = three_held(rt.alloc()).expect(&rt, "no memory");
+    hold_one_more(&rt, &mut locks);
+    hold_one_more(&rt, &mut locks);
+    hold_one_more(&rt, &mut locks);
+    hold_one_more(&rt, &mut locks);
+    hold_one_more(&rt, &mut locks);
+    hold_one_more(&rt, &mut locks);
     assert!(rt; locks.blocker(&table, 6, 0) == Some(5));
     locks.release(5);
     locks.release(4);
     assert!(rt; locks.blocker(&table, 6, 0) == Some(1));
     locks.release(1);
     assert!(rt; locks.blocker(&table, 6, 0) == None);
-    Ok(())
 }
 
 #[test]

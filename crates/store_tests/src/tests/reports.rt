@@ -7,6 +7,7 @@ mod many;
 mod meeting;
 mod memory;
 
+use crate::tests::stores::scripts::{Happened, are_events};
 use history_audit::{Audit, AuditFault, audit};
 use jobs_text::{Job, JobsFile, read_jobs};
 use object_trait::{Event, EventKind, Recovery};
@@ -14,7 +15,6 @@ use objects::Object;
 use std::alloc::{AllocError, Global};
 use std::process::Abort;
 use std::sync::Wait;
-use std::test::Fail;
 use std::thread::Threads;
 use store::Store;
 use type_table::TypeTable;
@@ -63,17 +63,17 @@ pub fn do_jobs<R: AllocGlobal + Threads + Wait + Sync>(
 }
 
 /// The jobs of a text, in so many lists. Where one allocation is refused, the next try has it.
-pub fn jobs_of(alloc: Global, text: &str, lists: u8) -> Result<Vec<Vec<Job>>, Fail> {
-    let file = match read_jobs(alloc, text.as_bytes(), lists) {
+pub fn jobs_of(rt: &(impl Abort + AllocGlobal), text: &str, lists: u8) -> Vec<Vec<Job>> {
+    let file = match read_jobs(rt.alloc(), text.as_bytes(), lists) {
         Ok(file) => file,
-        Err(_) => read_jobs(alloc, text.as_bytes(), lists)?,
+        Err(_) => read_jobs(rt.alloc(), text.as_bytes(), lists).expect(rt, "no jobs"),
     };
     let JobsFile {
         max: _,
         objects: _,
         jobs,
     } = file;
-    Ok(jobs)
+    jobs
 }
 
 /// That the receipts are the events of worker w from a place of a history on, in order.
@@ -131,23 +131,45 @@ fn tables_of(alloc: Global, objects: &[Object]) -> Result<Vec<&TypeTable>, Alloc
 }
 
 /// The audit of what was done. Where one allocation is refused, the next try has it.
-pub fn audit_of(alloc: Global, done: &Done) -> Result<Audit, Fail> {
-    let tables = match tables_of(alloc, &done.objects) {
+fn audit_of(rt: &(impl Abort + AllocGlobal), done: &Done) -> Audit {
+    let tables = match tables_of(rt.alloc(), &done.objects) {
         Ok(tables) => tables,
-        Err(_) => tables_of(alloc, &done.objects)?,
+        Err(_) => tables_of(rt.alloc(), &done.objects).expect(rt, "no memory"),
     };
-    match audit(alloc, &done.history, &tables) {
-        Err(AuditFault::NoMemory) => Ok(audit(alloc, &done.history, &tables)?),
-        audited => Ok(audited?),
+    let audited = match audit(rt.alloc(), &done.history, &tables) {
+        Err(AuditFault::NoMemory) => audit(rt.alloc(), &done.history, &tables),
+        audited => audited,
+    };
+    audited.expect(rt, "no audit")
+}
+
+/// That each object is at the state in its place.
+pub fn are_at<R: Recovery>(rt: &impl Abort, objects: &[R], states: &[u16]) {
+    assert!(rt; states.len() == objects.len());
+    for (object, state) in objects.iter().zip(states) {
+        assert!(rt; object.state() == *state);
     }
 }
 
 /// That the audit says yes, and that each object keeps its serial state.
-pub fn is_serial(rt: &(impl Abort + AllocGlobal), done: &Done) -> Result<Audit, Fail> {
-    let audit = audit_of(rt.alloc(), done)?;
-    assert!(rt; audit.finals.len() == done.objects.len());
-    for (object, state) in done.objects.iter().zip(&audit.finals) {
-        assert!(rt; object.state() == *state);
+pub fn is_serial(rt: &(impl Abort + AllocGlobal), done: &Done) -> Audit {
+    let audit = audit_of(rt, done);
+    are_at(rt, &done.objects, &audit.finals);
+    audit
+}
+
+/// That the history has these events and no job met a fault, as the reports tell, and serially.
+pub fn is_told(rt: &(impl Abort + AllocGlobal), done: &Done, wanted: &[Happened]) {
+    assert!(rt; done.fault == None);
+    are_events(rt, &done.history, wanted);
+    are_reported(rt, &done.history, 0, &done.reports);
+    let _ = is_serial(rt, done);
+}
+
+/// That there is a report of each of these lists of outcomes, with them.
+pub fn are_outcomes(rt: &impl Abort, reports: &[Report], wanted: &[&[Outcome]]) {
+    assert!(rt; reports.len() == wanted.len());
+    for (report, outcomes) in reports.iter().zip(wanted) {
+        assert!(rt; report.outcomes.as_slice() == *outcomes);
     }
-    Ok(audit)
 }

@@ -19,21 +19,18 @@ pub mod scripts;
 
 use objects::Object;
 use reference_store::checked_types::{Sort, checked_of};
-use std::alloc::Global;
-use std::test::Fail;
+use std::process::Abort;
 
 /// New objects of these sorts. Where one allocation is refused, the next try has it.
-pub fn objects_of(alloc: Global, sorts: &[Sort]) -> Result<Vec<Object>, Fail> {
-    let mut objects = Vec::new(alloc);
+pub fn objects_of(rt: &(impl Abort + AllocGlobal), sorts: &[Sort]) -> Vec<Object> {
+    let mut objects = Vec::new(rt.alloc());
     if objects.reserve(sorts.len()).is_err() {
-        objects.reserve(sorts.len())?;
+        objects.reserve(sorts.len()).expect(rt, "no room");
     }
     for (kind, text) in sorts {
-        let checked = checked_of(alloc, text, *kind)?;
-        objects
-            .push(Object::new(alloc, checked))
-            .ok()
-            .ok_or("no room")?;
+        let checked = checked_of(rt.alloc(), text, *kind).expect(rt, "no checked type");
+        let object = Object::new(rt.alloc(), checked);
+        objects.push(object).ok().expect(rt, "no room");
     }
-    Ok(objects)
+    objects
 }

@@ -1,9 +1,7 @@
 //! The transactions of a store, of which some are open.
 
 use open_transactions::OpenTransactions;
-use std::alloc::AllocError;
 use std::process::Abort;
-use std::test::Fail;
 
 /// An open transaction: its number, its worker and its places.
 type Row = (u32, u8, &'static [u8]);
@@ -19,38 +17,27 @@ fn are_open(rt: &impl Abort, open: &OpenTransactions, rows: &[Row]) {
 }
 
 /// Begins a transaction of this worker, and answers its number.
-fn begin(rt: &impl Abort, open: &mut OpenTransactions, worker: u8) -> Result<u32, AllocError> {
+fn begin(rt: &impl Abort, open: &mut OpenTransactions, worker: u8) -> u32 {
     assert!(rt; open.open_count() < 1024);
     assert!(rt; open.begun() < u32::MAX);
-    open.reserve_begin()?;
-    Ok(open.begin(worker))
+    open.reserve_begin().expect(rt, "no memory");
+    open.begin(worker)
 }
 
 /// Begins a transaction of each of these workers.
-fn begin_all(
-    rt: &impl Abort,
-    open: &mut OpenTransactions,
-    workers: &[u8],
-) -> Result<(), AllocError> {
+fn begin_all(rt: &impl Abort, open: &mut OpenTransactions, workers: &[u8]) {
     for worker in workers {
-        begin(rt, open, *worker)?;
+        let _ = begin(rt, open, *worker);
     }
-    Ok(())
 }
 
 /// More operations of t, at these places.
-fn push_all(
-    rt: &impl Abort,
-    open: &mut OpenTransactions,
-    t: u32,
-    places: &[u8],
-) -> Result<(), AllocError> {
+fn push_all(rt: &impl Abort, open: &mut OpenTransactions, t: u32, places: &[u8]) {
     for place in places {
         assert!(rt; open.is_open(t));
-        open.reserve_place(t)?;
+        open.reserve_place(t).expect(rt, "no memory");
         open.push_place(t, *place);
     }
-    Ok(())
 }
 
 /// Keeps the first n operations of t.
@@ -67,35 +54,32 @@ fn end(rt: &impl Abort, open: &mut OpenTransactions, t: u32) {
 }
 
 #[test]
-fn the_open_are_told(rt: HostRuntime) -> Result<(), Fail> {
+fn the_open_are_told(rt: HostRuntime) {
     let mut open = OpenTransactions::new(rt.alloc());
-    begin_all(&rt, &mut open, &[4, 5, 6])?;
-    push_all(&rt, &mut open, 0, &[7, 2, 7])?;
+    begin_all(&rt, &mut open, &[4, 5, 6]);
+    push_all(&rt, &mut open, 0, &[7, 2, 7]);
     are_open(&rt, &open, &[(0, 4, &[7, 2, 7]), (1, 5, &[]), (2, 6, &[])]);
     keep(&rt, &mut open, 0, 1);
     are_open(&rt, &open, &[(0, 4, &[7]), (1, 5, &[]), (2, 6, &[])]);
-    Ok(())
 }
 
 #[test]
-fn numbers_are_never_used_again(rt: HostRuntime) -> Result<(), Fail> {
+fn numbers_are_never_used_again(rt: HostRuntime) {
     let mut open = OpenTransactions::new(rt.alloc());
-    begin_all(&rt, &mut open, &[4, 5, 6])?;
+    begin_all(&rt, &mut open, &[4, 5, 6]);
     end(&rt, &mut open, 1);
     are_open(&rt, &open, &[(0, 4, &[]), (2, 6, &[])]);
-    assert!(rt; begin(&rt, &mut open, 9)? == 3);
+    assert!(rt; begin(&rt, &mut open, 9) == 3);
     are_open(&rt, &open, &[(0, 4, &[]), (2, 6, &[]), (3, 9, &[])]);
     assert!(rt; open.begun() == 4);
-    Ok(())
 }
 
 #[test]
-fn many_places_are_kept(rt: HostRuntime) -> Result<(), Fail> {
+fn many_places_are_kept(rt: HostRuntime) {
     let mut open = OpenTransactions::new(rt.alloc());
-    begin_all(&rt, &mut open, &[4])?;
-    push_all(&rt, &mut open, 0, &[3; 50])?;
+    begin_all(&rt, &mut open, &[4]);
+    push_all(&rt, &mut open, 0, &[3; 50]);
     are_open(&rt, &open, &[(0, 4, &[3; 50])]);
-    Ok(())
 }
 
 /// The worker of t, where many are open.
@@ -104,11 +88,10 @@ fn worker_of(t: u32) -> u8 {
 }
 
 /// Begins a transaction as long as another can be open.
-fn begin_most(rt: &impl Abort, open: &mut OpenTransactions) -> Result<(), AllocError> {
+fn begin_most(rt: &impl Abort, open: &mut OpenTransactions) {
     for t in 0..1024 {
-        assert!(rt; begin(rt, open, worker_of(t))? == t);
+        assert!(rt; begin(rt, open, worker_of(t)) == t);
     }
-    Ok(())
 }
 
 /// Ends each of these, in another order than that in which they began.
@@ -122,11 +105,10 @@ fn end_most(rt: &impl Abort, open: &mut OpenTransactions) {
 }
 
 #[test]
-fn as_many_as_can_be_are_open(rt: HostRuntime) -> Result<(), Fail> {
+fn as_many_as_can_be_are_open(rt: HostRuntime) {
     let mut open = OpenTransactions::new(rt.alloc());
-    begin_most(&rt, &mut open)?;
+    begin_most(&rt, &mut open);
     assert!(rt; open.open_count() == 1024);
     end_most(&rt, &mut open);
     are_open(&rt, &open, &[]);
-    Ok(())
 }

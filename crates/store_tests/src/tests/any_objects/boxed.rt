@@ -1,44 +1,28 @@
 //! An object in a box, by each call.
 
-ghost use Rattle.std.specs.Prelude.{◌≡◌, length, OnOk};
+ghost use Rattle.std.specs.Prelude.{◌≡◌, length};
 ghost use Rattle.object_trait.specs.Meaning.{open_of};
 
 use crate::tests::any_objects::one_entry::OneEntry;
 use object_trait::{AnyObject, Recovery};
-use std::alloc::Global;
 use std::process::Abort;
-use std::test::Fail;
-use table_checker::{CheckedType, check};
+use table_checker::check;
+use test_support::type_texts::COUNTER;
 use type_table::Kind;
 use type_text::read_type;
 
-/// The counter of two, whose operation 0 counts up and whose operation 1 counts down.
-static COUNTER: &str = "type counter
-states 3
-initial 0
-op inc:1 ok
-op dec:1 ok
-step 0 0 1
-step 1 0 2
-step 1 1 0
-step 2 1 1
-conflict undo 0 1
-conflict undo 1 0
-end
-";
-
 /// An object of the counter, as it is made.
-fn made(alloc: Global) -> Result<OneEntry, Fail> {
-    let file = read_type(alloc, COUNTER.as_bytes()).ok().ok_or("no type")?;
-    match check(file, Kind::Undo) {
-        Ok(checked) => Ok(OneEntry::new(checked)),
-        Err(_) => Err("refused")?,
+pub fn made(rt: &(impl Abort + AllocGlobal)) -> OneEntry {
+    let file = read_type(rt.alloc(), COUNTER.as_bytes());
+    match check(file.ok().expect(rt, "no type"), Kind::Undo) {
+        Ok(checked) => OneEntry::new(checked),
+        Err(_) => panic!(rt; "not for update in place"),
     }
 }
 
 /// What an object answers: its state, how many transactions are open, and whether it is as it was
 /// made.
-#[derive(Clone, Copy, Debug, PartialEq, Eq)]
+#[derive(Clone, Copy, PartialEq, Eq)]
 struct Seen {
     state: u16,
     open: u32,
@@ -59,14 +43,13 @@ fn is_legal<R: Recovery>(object: &R, t: u32, k: u8) -> bool {
 }
 
 /// Executes operation k for transaction t at an object that is as it was made.
-fn apply_first<R: Recovery>(object: &mut R, t: u32, k: u8) -> Result<(), Fail>
-    ensures { OnOk result (length (open_of t (R.meaning object.new).log) ≡ 1) }
+fn apply_first<R: Recovery>(rt: &impl Abort, object: &mut R, t: u32, k: u8)
+    ensures { length (open_of t (R.meaning object.new).log) ≡ 1 }
 {
-    if k >= object.checked().table().op_count() || !object.legal(t, k) || !object.is_fresh() {
-        return Err("not legal, or not the first")?;
-    }
-    object.apply(t, k)?;
-    Ok(())
+    assert!(rt; k < object.checked().table().op_count());
+    assert!(rt; object.legal(t, k));
+    assert!(rt; object.is_fresh());
+    object.apply(t, k).expect(rt, "no memory");
 }
 
 const MADE: Seen = Seen {
@@ -93,10 +76,10 @@ fn shows<R: Recovery>(rt: &impl Abort, object: &R, seen: Seen) {
 }
 
 /// That the calls that take nothing out of an object, and then an abort, do as they say.
-fn aborts<R: Recovery>(rt: &impl Abort, object: &mut R) -> Result<(), Fail> {
+fn aborts<R: Recovery>(rt: &impl Abort, object: &mut R) {
     shows(rt, object, MADE);
     assert!(rt; is_legal(object, 1, 0) & !is_legal(object, 1, 1));
-    apply_first(object, 1, 0)?;
+    apply_first(rt, object, 1, 0);
     shows(rt, object, COUNTED);
     assert!(rt; is_legal(object, 2, 1));
     object.strike(1, 0);
@@ -105,38 +88,35 @@ fn aborts<R: Recovery>(rt: &impl Abort, object: &mut R) -> Result<(), Fail> {
     shows(rt, object, COUNTED);
     object.abort(1);
     shows(rt, object, MADE);
-    Ok(())
 }
 
 /// That a strike of the one entry does as it says.
-fn strikes<R: Recovery>(rt: &impl Abort, object: &mut R) -> Result<(), Fail> {
-    apply_first(object, 1, 0)?;
+fn strikes<R: Recovery>(rt: &impl Abort, object: &mut R) {
+    apply_first(rt, object, 1, 0);
     object.strike(1, 1);
     shows(rt, object, MADE);
-    Ok(())
 }
 
 /// That a commit does as it says.
-fn commits<R: Recovery>(rt: &impl Abort, object: &mut R) -> Result<(), Fail> {
-    apply_first(object, 2, 0)?;
+fn commits<R: Recovery>(rt: &impl Abort, object: &mut R) {
+    apply_first(rt, object, 2, 0);
     object.commit(2);
     shows(rt, object, COMMITTED);
-    Ok(())
 }
 
 /// That the calls of an object do as they say, one after another.
-fn is_called<R: Recovery>(rt: &impl Abort, object: &mut R) -> Result<(), Fail> {
+fn is_called<R: Recovery>(rt: &impl Abort, object: &mut R) {
     assert!(rt; object.checked().kind() == Kind::Undo);
-    aborts(rt, object)?;
-    strikes(rt, object)?;
-    commits(rt, object)
+    aborts(rt, object);
+    strikes(rt, object);
+    commits(rt, object);
 }
 
 #[test]
-fn a_boxed_object_is_called(rt: HostRuntime) -> Result<(), Fail> {
-    let object = made(rt.alloc())?;
-    let mut object = AnyObject::new(Box::new(rt.alloc(), object)?);
-    is_called(&rt, &mut object)?;
+fn a_boxed_object_is_called(rt: HostRuntime) {
+    let object = made(&rt);
+    let object = Box::new(rt.alloc(), object).ok().expect(&rt, "no memory");
+    let mut object = AnyObject::new(object);
+    is_called(&rt, &mut object);
     assert!(rt; object.into_inner().state() == 1);
-    Ok(())
 }

@@ -5,7 +5,6 @@ ghost use Rattle.std.specs.Prelude.{◌≡◌};
 use super::driven::{apply_next, strike_last};
 use object_trait::{LogEntry, Recovery};
 use std::process::Abort;
-use std::test::Fail;
 use test_support::type_texts::{
     COUNTER, COUNTER_FROM_ONE, COUNTER_OF_FOUR, ONE_WAY, SEMIQUEUE, TWIN,
 };
@@ -132,7 +131,7 @@ fn apply_one<R: Recovery>(
     object: &mut R,
     log: &mut Vec<LogEntry>,
     applied: Applied,
-) -> Result<(), Fail>
+)
     requires { (R.meaning object.old).log ≡ log.old.items }
     ensures { (R.meaning object.new).log ≡ log.new.items }
 {
@@ -140,10 +139,9 @@ fn apply_one<R: Recovery>(
     let before = (object.state(), object.open_count());
     if apply_next(rt, object, log, t, k).is_err() {
         assert!(rt; (object.state(), object.open_count()) == before);
-        apply_next(rt, object, log, t, k)?;
+        apply_next(rt, object, log, t, k).expect(rt, "no memory");
     }
     assert!(rt; object.state() == state);
-    Ok(())
 }
 
 /// Executes the operations.
@@ -152,14 +150,13 @@ fn apply_all<R: Recovery>(
     object: &mut R,
     log: &mut Vec<LogEntry>,
     applied: &[Applied],
-) -> Result<(), Fail>
+)
     requires { (R.meaning object.old).log ≡ log.old.items }
     ensures { (R.meaning object.new).log ≡ log.new.items }
 {
     for one in applied {
-        apply_one(rt, object, log, *one)?;
+        apply_one(rt, object, log, *one);
     }
-    Ok(())
 }
 
 /// That these operations are legal, or not.
@@ -182,24 +179,18 @@ fn end_one<R: Recovery>(object: &mut R, end: End) {
 fn end_all<R: Recovery>(rt: &impl Abort, object: &mut R, ends: &[Ended]) {
     for (how, state, open) in ends {
         end_one(object, *how);
-        assert!(rt; object.state() == *state);
-        assert!(rt; object.open_count() == *open);
+        assert!(rt; (object.state(), object.open_count()) == (*state, *open));
     }
 }
 
 /// That an object, as it was made, answers as in this scene.
-pub fn plays<R: Recovery>(
-    rt: &(impl Abort + AllocGlobal),
-    object: &mut R,
-    scene: &Scene,
-) -> Result<(), Fail> {
+pub fn plays<R: Recovery>(rt: &(impl Abort + AllocGlobal), object: &mut R, scene: &Scene) {
     assert!(rt; object.is_fresh());
     let mut log = Vec::new(rt.alloc());
-    apply_all(rt, object, &mut log, scene.applied)?;
+    apply_all(rt, object, &mut log, scene.applied);
     let (t, m, state) = scene.struck;
     strike_last(rt, object, &log, t, m);
     assert!(rt; object.state() == state);
     are_legal(rt, object, scene.legal);
     end_all(rt, object, scene.ends);
-    Ok(())
 }

@@ -1,14 +1,13 @@
 //! One worker: by drawn turns it does what it does in a thread of its own.
 
-use super::{Done, Turns, are_reported, do_jobs, is_serial, jobs_of};
+use super::{Done, Turns, are_outcomes, do_jobs, is_told, jobs_of};
 use crate::tests::stores::objects_of;
-use crate::tests::stores::scripts::{Happened, are_events, store_of};
+use crate::tests::stores::scripts::{Happened, store_of};
 use object_trait::EventKind;
 use reference_store::work::GIVES_UP;
 use serial_order::Refusal;
 use std::process::Abort;
 use std::sync::Wait;
-use std::test::Fail;
 use std::thread::Threads;
 use test_support::type_texts::COUNTER;
 use type_table::Kind;
@@ -97,37 +96,24 @@ pub fn done_alone<R: Abort + AllocGlobal + Threads + Wait + Sync>(
     text: &str,
     max: u32,
     turns: Turns,
-) -> Result<Done, Fail> {
-    let jobs = jobs_of(rt.alloc(), text, 1)?;
-    let objects = objects_of(rt.alloc(), &[(Kind::Undo, COUNTER)])?;
-    let store = store_of(rt, objects, max)?;
-    Ok(do_jobs(rt, store, jobs, 2, turns))
+) -> Done {
+    let jobs = jobs_of(rt, text, 1);
+    let store = store_of(rt, objects_of(rt, &[(Kind::Undo, COUNTER)]), max);
+    do_jobs(rt, store, jobs, 2, turns)
 }
 
 /// That this comes of the jobs of a row.
-fn is_alone<R: Abort + AllocGlobal + Threads + Wait + Sync>(
-    rt: &R,
-    row: &Alone,
-    turns: Turns,
-) -> Result<(), Fail> {
-    let done = done_alone(rt, row.text, row.max, turns)?;
-    assert!(rt; done.fault == None);
-    assert!(rt; done.reports.len() == 1);
-    are_events(rt, &done.history, row.history);
-    are_reported(rt, &done.history, 0, &done.reports);
-    is_serial(rt, &done)?;
-    for report in &done.reports {
-        assert!(rt; report.outcomes.as_slice() == row.outcomes);
-    }
-    Ok(())
+fn is_alone<R: Abort + AllocGlobal + Threads + Wait + Sync>(rt: &R, row: &Alone, turns: Turns) {
+    let done = done_alone(rt, row.text, row.max, turns);
+    is_told(rt, &done, row.history);
+    are_outcomes(rt, &done.reports, &[row.outcomes]);
 }
 
 #[test]
-fn one_worker_is_as_in_a_thread(rt: HostRuntime) -> Result<(), Fail> {
+fn one_worker_is_as_in_a_thread(rt: HostRuntime) {
     for row in &ROWS {
-        is_alone(&rt, row, Turns::SideBySide)?;
-        is_alone(&rt, row, Turns::Drawn(7))?;
-        is_alone(&rt, row, Turns::Drawn(u64::MAX))?;
+        is_alone(&rt, row, Turns::SideBySide);
+        is_alone(&rt, row, Turns::Drawn(7));
+        is_alone(&rt, row, Turns::Drawn(u64::MAX));
     }
-    Ok(())
 }

@@ -1,18 +1,16 @@
 //! Workers whose turns are drawn: many seeds, and whose turn each word makes it.
 
-use super::{Done, Turns, are_reported, do_jobs, is_serial, jobs_of};
+use super::{Done, Turns, are_outcomes, are_reported, do_jobs, is_serial, is_told, jobs_of};
 use crate::tests::stores;
-use crate::tests::stores::scripts::{Happened, are_events, store_of};
+use crate::tests::stores::scripts::{Happened, store_of};
 use object_trait::{Event, EventKind};
 use objects::Object;
 use rand_core::utils::NextWord;
 use rand_pcg::Lcg64Xsh32;
 use reference_store::checked_types::checked_of;
 use serial_order::Refusal;
-use std::alloc::Global;
 use std::process::Abort;
 use std::sync::{Arc, Wait};
-use std::test::Fail;
 use std::thread::Threads;
 use table_checker::CheckedType;
 use test_support::type_texts::COUNTER;
@@ -65,13 +63,14 @@ struct Types {
 }
 
 /// New objects of these types.
-fn objects_of(alloc: Global, types: &Types) -> Result<Vec<Object>, Fail> {
-    let mut objects = Vec::new(alloc);
+fn objects_of(rt: &(impl Abort + AllocGlobal), types: &Types) -> Vec<Object> {
+    let mut objects = Vec::new(rt.alloc());
     for checked in [&types.undo, &types.intentions] {
-        let object = Object::new(alloc, Arc::try_clone(checked)?);
-        objects.push(object).ok().ok_or("no room")?;
+        let copy = Arc::try_clone(checked).expect(rt, "too many");
+        let object = Object::new(rt.alloc(), copy);
+        objects.push(object).ok().expect(rt, "no room");
     }
-    Ok(objects)
+    objects
 }
 
 /// What comes of the jobs by turns from a seed, each job tried three times at the most.
@@ -79,10 +78,10 @@ fn done_by<R: Abort + AllocGlobal + Threads + Wait + Sync>(
     rt: &R,
     types: &Types,
     seed: u64,
-) -> Result<Done, Fail> {
-    let jobs = jobs_of(rt.alloc(), TEXT, WORKERS)?;
-    let store = store_of(rt, objects_of(rt.alloc(), types)?, 1000)?;
-    Ok(do_jobs(rt, store, jobs, 3, Turns::Drawn(seed)))
+) -> Done {
+    let jobs = jobs_of(rt, TEXT, WORKERS);
+    let store = store_of(rt, objects_of(rt, types), 1000);
+    do_jobs(rt, store, jobs, 3, Turns::Drawn(seed))
 }
 
 /// Whether worker w makes one of these events.
@@ -169,47 +168,51 @@ impl Tally {
     }
 }
 
-/// That each job committed or was given up.
+/// That each of so many jobs committed or was given up.
+fn has_ended(rt: &impl Abort, outcomes: &[Outcome], jobs: usize) {
+    assert!(rt; outcomes.len() == jobs);
+    for outcome in outcomes {
+        assert!(rt; matches!(outcome, Outcome::Committed(_) | Outcome::GaveUp));
+    }
+}
+
+/// That each job of each worker did.
 fn have_ended(rt: &impl Abort, reports: &[Report]) {
     assert!(rt; reports.len() == usize::from(WORKERS));
     for (report, jobs) in reports.iter().zip(&JOBS) {
-        assert!(rt; report.outcomes.len() == *jobs);
-        for outcome in &report.outcomes {
-            assert!(rt; matches!(outcome, Outcome::Committed(_) | Outcome::GaveUp));
-        }
+        has_ended(rt, &report.outcomes, *jobs);
     }
 }
 
 /// That the jobs were done by turns from a seed, as the reports tell, and serially.
-fn is_done<R: Abort + AllocGlobal + Threads + Wait + Sync>(
-    rt: &R,
-    types: &Types,
-    seed: u64,
-    tally: &mut Tally,
-) -> Result<(), Fail> {
-    let done = done_by(rt, types, seed)?;
+fn is_done(rt: &(impl Abort + AllocGlobal), done: &Done, seed: u64) {
     assert!(rt; done.fault == None);
     have_ended(rt, &done.reports);
     are_reported(rt, &done.history, 0, &done.reports);
     are_drawn(rt, &done.history, seed);
-    tally.count_all(&done.history);
     // both counters keep their serial states: no other state is equieffective to one of theirs
-    is_serial(rt, &done)?;
-    Ok(())
+    let _ = is_serial(rt, done);
+}
+
+/// That the jobs are done by turns from each of a thousand seeds, and how many events of each kind there are.
+fn counted<R: Abort + AllocGlobal + Threads + Wait + Sync>(rt: &R, types: &Types) -> Tally {
+    let mut tally = Tally::default();
+    for seed in 0..1000 {
+        let done = done_by(rt, types, seed);
+        is_done(rt, &done, seed);
+        tally.count_all(&done.history);
+    }
+    tally
 }
 
 #[test]
-fn turns_are_drawn(rt: HostRuntime) -> Result<(), Fail> {
+fn turns_are_drawn(rt: HostRuntime) {
+    let alloc = rt.alloc();
     let types = Types {
-        undo: checked_of(rt.alloc(), COUNTER, Kind::Undo)?,
-        intentions: checked_of(rt.alloc(), COUNTER, Kind::Intentions)?,
+        undo: checked_of(alloc, COUNTER, Kind::Undo).expect(&rt, "no type"),
+        intentions: checked_of(alloc, COUNTER, Kind::Intentions).expect(&rt, "no type"),
     };
-    let mut tally = Tally::default();
-    for seed in 0..1000 {
-        is_done(&rt, &types, seed, &mut tally)?;
-    }
-    assert!(rt; tally == ALL);
-    Ok(())
+    assert!(rt; counted(&rt, &types) == ALL);
 }
 
 /// Jobs of three workers, of which two are refused.
@@ -267,16 +270,11 @@ static OUTCOMES: [&[Outcome]; 3] = [
 ];
 
 #[test]
-fn refused_calls_take_turns(rt: HostRuntime) -> Result<(), Fail> {
-    let jobs = jobs_of(rt.alloc(), REFUSED, 3)?;
-    let objects = stores::objects_of(rt.alloc(), &[(Kind::Undo, COUNTER)])?;
-    let store = store_of(&rt, objects, 40)?;
+fn refused_calls_take_turns(rt: HostRuntime) {
+    let jobs = jobs_of(&rt, REFUSED, 3);
+    let objects = stores::objects_of(&rt, &[(Kind::Undo, COUNTER)]);
+    let store = store_of(&rt, objects, 40);
     let done = do_jobs(&rt, store, jobs, 2, Turns::Drawn(6));
-    are_events(&rt, &done.history, &HAPPENED);
-    are_reported(&rt, &done.history, 0, &done.reports);
-    assert!(rt; done.reports.len() == OUTCOMES.len());
-    for (report, outcomes) in done.reports.iter().zip(&OUTCOMES) {
-        assert!(rt; report.outcomes.as_slice() == *outcomes);
-    }
-    Ok(())
+    is_told(&rt, &done, &HAPPENED);
+    are_outcomes(&rt, &done.reports, &OUTCOMES);
 }

@@ -1,16 +1,15 @@
 //! How many lists of jobs there may be, how often a job may be tried, and how many transactions may be
 //! open.
 
-use super::{Done, Turns, are_reported, do_jobs, jobs_of};
+use super::{Done, Turns, are_outcomes, are_reported, do_jobs, jobs_of};
 use crate::tests::stores::full::begin_many;
 use crate::tests::stores::objects_of;
 use crate::tests::stores::scripts::{Happened, Row, answers, are_events, store_of};
-use object_trait::EventKind;
+use object_trait::{Event, EventKind};
 use reference_store::asked::{Ask, Told};
 use serial_order::Refusal;
 use std::process::Abort;
 use std::sync::Wait;
-use std::test::Fail;
 use std::thread::Threads;
 use test_support::type_texts::{COUNTER, COUNTER_OF_FOUR};
 use type_table::Kind;
@@ -103,29 +102,22 @@ fn is_limited(rt: &impl Abort, limit: &Limit, done: &Done) {
 }
 
 /// That these numbers of lists and tries are taken, or not, at a store at which something happened.
-fn is_taken<R: Abort + AllocGlobal + Threads + Wait + Sync>(
-    rt: &R,
-    limit: &Limit,
-    turns: Turns,
-) -> Result<(), Fail> {
+fn is_taken<R: Abort + AllocGlobal + Threads + Wait + Sync>(rt: &R, limit: &Limit, turns: Turns) {
     let (text, lists, tries, _) = *limit;
-    let jobs = jobs_of(rt.alloc(), text, lists)?;
-    let objects = objects_of(rt.alloc(), &[(Kind::Undo, COUNTER_OF_FOUR)])?;
-    let mut store = store_of(rt, objects, 20)?;
+    let jobs = jobs_of(rt, text, lists);
+    let objects = objects_of(rt, &[(Kind::Undo, COUNTER_OF_FOUR)]);
+    let mut store = store_of(rt, objects, 20);
     answers(rt, &mut store, &BEFORE);
     let done = do_jobs(rt, store, jobs, tries, turns);
     is_limited(rt, limit, &done);
-    Ok(())
 }
 
 #[test]
-fn lists_and_tries_are_limited(rt: HostRuntime) -> Result<(), Fail> {
-    for turns in &BOTH {
-        for limit in &LIMITS {
-            is_taken(&rt, limit, *turns)?;
-        }
+fn lists_and_tries_are_limited(rt: HostRuntime) {
+    for limit in &LIMITS {
+        is_taken(&rt, limit, Turns::SideBySide);
+        is_taken(&rt, limit, Turns::Drawn(7));
     }
-    Ok(())
 }
 
 /// Three jobs of two workers.
@@ -146,64 +138,58 @@ fn done_beside<R: Abort + AllocGlobal + Threads + Wait + Sync>(
     text: &str,
     lists: u8,
     turns: Turns,
-) -> Result<Done, Fail> {
-    let jobs = jobs_of(rt.alloc(), text, lists)?;
-    let objects = objects_of(rt.alloc(), &[(Kind::Undo, COUNTER)])?;
-    let mut store = store_of(rt, objects, 3000)?;
+) -> Done {
+    let jobs = jobs_of(rt, text, lists);
+    let objects = objects_of(rt, &[(Kind::Undo, COUNTER)]);
+    let mut store = store_of(rt, objects, 3000);
     begin_many(rt, &mut store, open);
-    Ok(do_jobs(rt, store, jobs, 3, turns))
+    do_jobs(rt, store, jobs, 3, turns)
 }
 
-/// That all jobs were refused, and there are so many events.
-fn are_refused(rt: &impl Abort, done: &Done, events: usize) {
-    assert!(rt; done.fault == None);
-    assert!(rt; done.history.len() == events);
-    for event in &done.history {
+const TOO_MANY: Outcome = Outcome::Refused(Refusal::TooManyOpen);
+
+/// The outcomes of the three jobs, where all are refused.
+static ALL_REFUSED: [&[Outcome]; 2] = [&[TOO_MANY, TOO_MANY], &[TOO_MANY]];
+
+/// That worker 7 alone made events, and so many.
+fn are_of_seven(rt: &impl Abort, history: &[Event], events: usize) {
+    assert!(rt; history.len() == events);
+    for event in history {
         assert!(rt; event.worker == 7);
     }
+}
+
+/// That all jobs were refused. The 1,024 begins and their ends are all that happened.
+fn are_refused(rt: &impl Abort, done: &Done) {
+    assert!(rt; done.fault == None);
+    are_of_seven(rt, &done.history, 2048);
+    are_outcomes(rt, &done.reports, &ALL_REFUSED);
     for report in &done.reports {
         assert!(rt; report.receipts.is_empty());
-        for outcome in &report.outcomes {
-            assert!(rt; *outcome == Outcome::Refused(Refusal::TooManyOpen));
-        }
     }
 }
 
-/// How many jobs have an outcome.
-fn outcomes_of(done: &Done) -> [usize; 2] {
-    let mut counts = [0; 2];
-    for (count, report) in counts.iter_mut().zip(&done.reports) {
-        *count = report.outcomes.len();
-    }
-    counts
-}
-
-/// The 1,024 begins and their ends are all that happened.
 #[test]
-fn too_many_are_open(rt: HostRuntime) -> Result<(), Fail> {
+fn too_many_are_open(rt: HostRuntime) {
     for turns in &BOTH {
-        let done = done_beside(&rt, 1024, THREE_JOBS, 2, *turns)?;
-        are_refused(&rt, &done, 2048);
-        assert!(rt; done.reports.len() == 2);
-        assert!(rt; outcomes_of(&done) == [2, 1]);
+        let done = done_beside(&rt, 1024, THREE_JOBS, 2, *turns);
+        are_refused(&rt, &done);
     }
-    Ok(())
+}
+
+/// That the one worker began and committed beside 1,023 others.
+fn has_begun(rt: &impl Abort, done: &Done) {
+    assert!(rt; done.history.len() == 2049);
+    let before = done.history.get(..1026).unwrap_or(&[]);
+    are_reported(rt, before, 1023, &done.reports);
+    are_outcomes(rt, &done.reports, &[&[Outcome::Committed(1023)]]);
 }
 
 /// Where one more can be open, the one worker begins.
 #[test]
-fn one_more_may_be_open(rt: HostRuntime) -> Result<(), Fail> {
+fn one_more_may_be_open(rt: HostRuntime) {
     for turns in &BOTH {
-        let done = done_beside(&rt, 1023, ONE_JOB, 1, *turns)?;
-        assert!(rt; done.history.len() == 2049);
-        are_reported(
-            &rt,
-            done.history.get(..1026).unwrap_or(&[]),
-            1023,
-            &done.reports,
-        );
-        let outcomes = done.reports.first().ok_or("no report")?.outcomes.as_slice();
-        assert!(rt; outcomes == [Outcome::Committed(1023)].as_slice());
+        let done = done_beside(&rt, 1023, ONE_JOB, 1, *turns);
+        has_begun(&rt, &done);
     }
-    Ok(())
 }

@@ -7,7 +7,6 @@ use object_trait::{Event, EventKind};
 use std::process::Abort;
 use std::sync::Wait;
 use std::sync::atomic::{AtomicBool, AtomicU32, Ordering};
-use std::test::Fail;
 use std::thread;
 use std::thread::Threads;
 use test_support::type_texts::COUNTER;
@@ -87,13 +86,9 @@ end
 ";
 
 /// What comes of them in one try.
-fn done_at<R: Abort + AllocGlobal + Threads + Wait + Sync>(
-    rt: &R,
-    gate: &Meeting,
-) -> Result<Done, Fail> {
-    let jobs = jobs_of(rt.alloc(), TWO_JOBS, 2)?;
-    let objects = objects_of(rt.alloc(), &[(Kind::Undo, COUNTER)])?;
-    let store = store_of(rt, objects, 20)?;
+fn done_at<R: Abort + AllocGlobal + Threads + Wait + Sync>(rt: &R, gate: &Meeting) -> Done {
+    let jobs = jobs_of(rt, TWO_JOBS, 2);
+    let store = store_of(rt, objects_of(rt, &[(Kind::Undo, COUNTER)]), 20);
     let Worked {
         store,
         reports,
@@ -101,12 +96,12 @@ fn done_at<R: Abort + AllocGlobal + Threads + Wait + Sync>(
     } = run_workers(rt, store, jobs, 1, gate);
     assert!(rt; store.kept(0) == Some(2));
     let (history, objects) = store.close();
-    Ok(Done {
+    Done {
         history,
         objects,
         reports,
         fault,
-    })
+    }
 }
 
 /// That both operations come before both commits.
@@ -133,20 +128,24 @@ fn both_committed(rt: &impl Abort, reports: &[Report]) {
     }
 }
 
+/// That the jobs of both overlapped, and that both are counted.
+fn is_met(rt: &(impl Abort + AllocGlobal), done: &Done) {
+    assert!(rt; done.fault == None);
+    do_overlap(rt, &done.history);
+    both_committed(rt, &done.reports);
+    are_reported(rt, &done.history, 0, &done.reports);
+    let audit = is_serial(rt, done);
+    assert!(rt; audit.finals.as_slice() == [2].as_slice());
+}
+
 #[test]
-fn jobs_overlap(rt: HostRuntime) -> Result<(), Fail> {
+fn jobs_overlap(rt: HostRuntime) {
     let gate = Meeting {
         first: Side::new(),
         second: Side::new(),
         failed: AtomicBool::new(false),
     };
-    let done = done_at(&rt, &gate)?;
+    let done = done_at(&rt, &gate);
     assert!(rt; !gate.failed.load(Ordering::SeqCst));
-    assert!(rt; done.fault == None);
-    do_overlap(&rt, &done.history);
-    both_committed(&rt, &done.reports);
-    are_reported(&rt, &done.history, 0, &done.reports);
-    let audit = is_serial(&rt, &done)?;
-    assert!(rt; audit.finals.as_slice() == [2].as_slice());
-    Ok(())
+    is_met(&rt, &done);
 }

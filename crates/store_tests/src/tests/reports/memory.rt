@@ -36,6 +36,12 @@ fn is_folded(alloc: Global, done: &Done) -> Result<bool, Fail> {
     Ok(false)
 }
 
+/// That the receipts of what happened behind so many events are told, and that it was serial.
+fn is_reported(rt: &(impl Abort + AllocGlobal), done: &Done, from: usize) {
+    are_reported(rt, &done.history, from, &done.reports);
+    let _ = is_serial(rt, done);
+}
+
 /// That nothing was done.
 fn is_nothing(rt: &impl Abort, done: &Done, events: usize) {
     assert!(rt; done.fault == Some(WorkFault::NoMemory));
@@ -48,15 +54,14 @@ fn one_works<R: Abort + AllocGlobal + Threads + Wait + Sync>(
     rt: &R,
     turns: Turns,
 ) -> Result<(), Fail> {
-    let done = done_alone(rt, ONE_WORKER.jobs, ONE_WORKER.max, turns)?;
+    let done = done_alone(rt, ONE_WORKER.jobs, ONE_WORKER.max, turns);
     if done.reports.is_empty() {
         is_nothing(rt, &done, 0);
         return Ok(());
     }
     assert!(rt; done.fault == None);
+    is_reported(rt, &done, 0);
     assert!(rt; is_folded(rt.alloc(), &done)?);
-    are_reported(rt, &done.history, 0, &done.reports);
-    is_serial(rt, &done)?;
     Ok(())
 }
 
@@ -92,19 +97,20 @@ static USUAL: [&[Outcome]; 2] = [
 ];
 
 /// What comes of them in two tries, at a store with two events.
-fn done_apart<R: Abort + AllocGlobal + Threads + Wait + Sync>(
-    rt: &R,
-    turns: Turns,
-) -> Result<Done, Fail> {
-    let jobs = jobs_of(rt.alloc(), APART, 2)?;
+fn done_apart<R: Abort + AllocGlobal + Threads + Wait + Sync>(rt: &R, turns: Turns) -> Done {
+    let jobs = jobs_of(rt, APART, 2);
     let sorts = [(Kind::Undo, COUNTER), (Kind::Intentions, COUNTER)];
-    let mut store = store_of(rt, objects_of(rt.alloc(), &sorts)?, 20)?;
+    let mut store = store_of(rt, objects_of(rt, &sorts), 20);
     answers(rt, &mut store, &BEFORE);
-    Ok(do_jobs(rt, store, jobs, 2, turns))
+    do_jobs(rt, store, jobs, 2, turns)
 }
 
-/// Whether an outcome is the usual one, or memory was refused.
-fn is_usual(outcome: Outcome, usual: Outcome) -> bool {
+/// Whether an outcome is the usual one, or memory was refused; of a worker that wasn't started, whether the
+/// job wasn't run.
+fn is_usual(outcome: Outcome, usual: Outcome, is_started: bool) -> bool {
+    if !is_started {
+        return outcome == Outcome::NotRun;
+    }
     match (outcome, usual) {
         (Outcome::Committed(_), Outcome::Committed(_)) => true,
         (Outcome::Refused(Refusal::NoMemory), _) => true,
@@ -116,37 +122,33 @@ fn is_usual(outcome: Outcome, usual: Outcome) -> bool {
 fn are_usual(rt: &impl Abort, outcomes: &[Outcome], usual: &[Outcome], is_started: bool) {
     assert!(rt; outcomes.len() == usual.len());
     for (outcome, usual) in outcomes.iter().zip(usual) {
-        if is_started {
-            assert!(rt; is_usual(*outcome, *usual));
-        } else {
-            assert!(rt; *outcome == Outcome::NotRun);
-        }
+        assert!(rt; is_usual(*outcome, *usual, is_started));
     }
 }
 
-/// That two workers did their jobs, each but one at the most; or the first of them did, or nobody.
-fn two_work<R: Abort + AllocGlobal + Threads + Wait + Sync>(
-    rt: &R,
-    turns: Turns,
-) -> Result<(), Fail> {
-    let done = done_apart(rt, turns)?;
-    if done.reports.is_empty() {
-        is_nothing(rt, &done, BEFORE.len());
-        return Ok(());
-    }
+/// That each of two workers was started, or the first alone.
+fn are_all_usual(rt: &impl Abort, done: &Done) {
     assert!(rt; done.reports.len() == 2);
     assert!(rt; matches!(done.fault, None | Some(WorkFault::NoMemory)));
     for (w, (report, usual)) in done.reports.iter().zip(&USUAL).enumerate() {
         let is_started = w == 0 || done.fault.is_none();
         are_usual(rt, &report.outcomes, usual, is_started);
     }
-    are_reported(rt, &done.history, BEFORE.len(), &done.reports);
-    is_serial(rt, &done)?;
-    Ok(())
+}
+
+/// That two workers did their jobs, each but one at the most; or the first of them did, or nobody.
+fn two_work<R: Abort + AllocGlobal + Threads + Wait + Sync>(rt: &R, turns: Turns) {
+    let done = done_apart(rt, turns);
+    if done.reports.is_empty() {
+        is_nothing(rt, &done, BEFORE.len());
+    } else {
+        are_all_usual(rt, &done);
+        is_reported(rt, &done, BEFORE.len());
+    }
 }
 
 #[test]
-fn two_workers_want_memory(rt: HostRuntime) -> Result<(), Fail> {
-    two_work(&rt, Turns::SideBySide)?;
-    two_work(&rt, Turns::Drawn(7))
+fn two_workers_want_memory(rt: HostRuntime) {
+    two_work(&rt, Turns::SideBySide);
+    two_work(&rt, Turns::Drawn(7));
 }

@@ -1,56 +1,41 @@
 //! A store of boxes: objects of both kinds of recovery, and one of a stranger's, each in a box of its
 //! own.
 
-use super::scripts::{Happened, Row, answers, are_closed, are_events, store_of};
-use crate::tests::any_objects::one_entry::OneEntry;
-use intentions_manager::IntentionsManager;
+use super::scripts::{Happened, Row, answers, is_closed, store_of};
+use crate::tests::any_objects::boxed::made;
+use crate::tests::managers::{deferred, in_place};
+use crate::tests::reports::are_at;
 use object_trait::{AnyObject, EventKind, Recovery};
 use reference_store::asked::{Ask, Told};
-use reference_store::checked_types::checked_of;
 use serial_order::Refusal;
-use std::alloc::Global;
 use std::process::Abort;
-use std::test::Fail;
-use table_checker::check;
 use test_support::type_texts::{COUNTER, TWIN};
-use type_table::Kind;
-use type_text::read_type;
-use undo_manager::UndoManager;
 
 /// A new counter, in place, in a box.
-fn counter(alloc: Global) -> Result<AnyObject, Fail> {
-    let checked = checked_of(alloc, COUNTER, Kind::Undo)?;
-    match UndoManager::new(alloc, checked) {
-        Ok(object) => Ok(AnyObject::new(Box::new(alloc, object)?)),
-        Err(_) => Err("not for update in place")?,
-    }
+fn counter(rt: &(impl Abort + AllocGlobal)) -> AnyObject {
+    let object = in_place(rt, COUNTER);
+    AnyObject::new(Box::new(rt.alloc(), object).ok().expect(rt, "no memory"))
 }
 
 /// A new deferred object of the twin type, in a box.
-fn twin(alloc: Global) -> Result<AnyObject, Fail> {
-    let checked = checked_of(alloc, TWIN, Kind::Intentions)?;
-    match IntentionsManager::new(alloc, checked) {
-        Ok(object) => Ok(AnyObject::new(Box::new(alloc, object)?)),
-        Err(_) => Err("not for deferred update")?,
-    }
+fn twin(rt: &(impl Abort + AllocGlobal)) -> AnyObject {
+    let object = deferred(rt, TWIN);
+    AnyObject::new(Box::new(rt.alloc(), object).ok().expect(rt, "no memory"))
 }
 
 /// A new counter in place that has room for one entry, in a box.
-fn one_entry(alloc: Global) -> Result<AnyObject, Fail> {
-    let file = read_type(alloc, COUNTER.as_bytes()).ok().ok_or("no type")?;
-    match check(file, Kind::Undo) {
-        Ok(checked) => Ok(AnyObject::new(Box::new(alloc, OneEntry::new(checked))?)),
-        Err(_) => Err("not for update in place")?,
-    }
+fn one_entry(rt: &(impl Abort + AllocGlobal)) -> AnyObject {
+    let object = made(rt);
+    AnyObject::new(Box::new(rt.alloc(), object).ok().expect(rt, "no memory"))
 }
 
 /// One of each.
-fn boxes(alloc: Global) -> Result<Vec<AnyObject>, Fail> {
-    let mut objects = Vec::with_capacity(alloc, 3)?;
-    objects.push_reserved(counter(alloc)?);
-    objects.push_reserved(twin(alloc)?);
-    objects.push_reserved(one_entry(alloc)?);
-    Ok(objects)
+fn boxes(rt: &(impl Abort + AllocGlobal)) -> Vec<AnyObject> {
+    let mut objects = Vec::with_capacity(rt.alloc(), 3).expect(rt, "no room");
+    objects.push_reserved(counter(rt));
+    objects.push_reserved(twin(rt));
+    objects.push_reserved(one_entry(rt));
+    objects
 }
 
 /// Two transactions beside each other, and a third. The deferred object keeps 4, where `p` and then
@@ -104,24 +89,14 @@ const HISTORY: &[Happened] = &[
 ];
 
 /// A store of these objects does what the rows say, and hands them back with these states.
-fn is_played<R: Recovery>(
-    rt: &(impl Abort + AllocGlobal),
-    objects: Vec<R>,
-    kept: [u16; 3],
-) -> Result<(), Fail> {
-    let mut store = store_of(rt, objects, 20)?;
+fn is_played<R: Recovery>(rt: &(impl Abort + AllocGlobal), objects: Vec<R>, kept: &[u16]) {
+    let mut store = store_of(rt, objects, 20);
     answers(rt, &mut store, ROWS);
-    let (history, objects) = store.close();
-    are_events(rt, &history, HISTORY);
-    are_closed(rt, &objects);
-    assert!(rt; objects.len() == kept.len());
-    for (object, state) in objects.iter().zip(kept) {
-        assert!(rt; object.state() == state);
-    }
-    Ok(())
+    let objects = is_closed(rt, store, HISTORY);
+    are_at(rt, &objects, kept);
 }
 
 #[test]
-fn a_store_of_boxes_answers(rt: HostRuntime) -> Result<(), Fail> {
-    is_played(&rt, boxes(rt.alloc())?, [1, 4, 1])
+fn a_store_of_boxes_answers(rt: HostRuntime) {
+    is_played(&rt, boxes(&rt), &[1, 4, 1]);
 }

@@ -1,10 +1,10 @@
 //! The end of a store, at which transactions are open.
 
 use super::objects_of;
-use super::scripts::{Happened, Row, answers, are_closed, are_events, store_of};
-use object_trait::{EventKind, Recovery};
+use super::scripts::{Happened, Row, answers, is_closed, store_of};
+use crate::tests::reports::are_at;
+use object_trait::EventKind;
 use reference_store::asked::{Ask, Told};
-use std::test::Fail;
 use test_support::type_texts::{COUNTER, ONE_WAY};
 use type_table::Kind;
 
@@ -33,17 +33,10 @@ static CLOSED: [Happened; 9] = [
 ];
 
 #[test]
-fn open_transactions_are_aborted_in_order(rt: HostRuntime) -> Result<(), Fail> {
+fn open_transactions_are_aborted_in_order(rt: HostRuntime) {
     let sorts = [(Kind::Undo, COUNTER), (Kind::Undo, ONE_WAY)];
-    let mut store = store_of(&rt, objects_of(rt.alloc(), &sorts)?, 100)?;
+    let mut store = store_of(&rt, objects_of(&rt, &sorts), 100);
     answers(&rt, &mut store, &LEFT_OPEN);
-    let (history, objects) = store.close();
-    are_events(&rt, &history, &CLOSED);
-    are_closed(&rt, &objects);
-    let states: Vec<u16> = objects
-        .iter()
-        .map(|object| object.state())
-        .collect(rt.alloc())?;
-    assert!(rt; states.as_slice() == [1, 0].as_slice());
-    Ok(())
+    let objects = is_closed(&rt, store, &CLOSED);
+    are_at(&rt, &objects, &[1, 0]);
 }

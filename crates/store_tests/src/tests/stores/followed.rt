@@ -5,8 +5,7 @@ use super::scripts::store_of;
 use object_trait::{Event, EventKind, Recovery};
 use objects::Object;
 use std::process::Abort;
-use std::test::Fail;
-use store::{NewRefusal, ReplayFault, Store, Stray, follow, replay};
+use store::{ReplayFault, Store, Stray, follow, replay};
 use test_support::type_texts::COUNTER;
 use type_table::Kind;
 
@@ -85,10 +84,8 @@ static STRAYS: [(usize, EventKind); 18] = [
 ];
 
 /// A store of such a counter.
-fn counter(rt: &(impl Abort + AllocGlobal)) -> Result<Store<Object>, Fail> {
-    let objects = objects_of(rt.alloc(), &[(Kind::Undo, COUNTER)])?;
-    let store: Result<Store<Object>, NewRefusal> = store_of(rt, objects, 20);
-    Ok(store?)
+fn counter(rt: &(impl Abort + AllocGlobal)) -> Store<Object> {
+    store_of(rt, objects_of(rt, &[(Kind::Undo, COUNTER)]), 20)
 }
 
 /// What a store shows at a glance.
@@ -109,51 +106,60 @@ fn at_last<R: Recovery>(rt: &impl Abort, store: &mut Store<R>, event: Event) -> 
 }
 
 #[test]
-fn followed_events_want_memory(rt: HostRuntime) -> Result<(), Fail> {
-    let mut store = counter(&rt)?;
+fn followed_events_want_memory(rt: HostRuntime) {
+    let mut store = counter(&rt);
     for event in &EVENTS {
         let told = at_last(&rt, &mut store, *event);
         assert!(rt; told == Ok(()));
     }
+    has_all(&rt, store);
+}
+
+/// That the store of a counter has all of these events at its close.
+fn has_all(rt: &impl Abort, store: Store<Object>) {
     let (history, _) = store.close();
     assert!(rt; history.as_slice() == EVENTS.as_slice());
-    Ok(())
+}
+
+/// That a store makes these events.
+fn makes<R: Recovery>(rt: &impl Abort, store: &mut Store<R>, events: &[Event], place: usize) {
+    let made = replay(store, events);
+    assert!(rt; made == Ok(()), "{place}");
 }
 
 /// That this event isn't made behind so many others, and leaves the store as it was.
-fn is_stray(rt: &(impl Abort + AllocGlobal), place: usize, kind: EventKind) -> Result<(), Fail> {
+fn strays<R: Recovery>(rt: &impl Abort, store: &mut Store<R>, place: usize, kind: EventKind) {
+    let was = glance(store);
+    let stray = follow(store, Event { worker: 9, kind });
+    assert!(rt; stray == Err(Stray::NotMade), "{place} {kind:?}");
+    assert!(rt; glance(store) == was);
+}
+
+/// The same at a store of a counter, which then makes the rest.
+fn is_stray(rt: &(impl Abort + AllocGlobal), place: usize, kind: EventKind) {
     let events = EVENTS.as_slice();
     assert!(rt; place <= events.len());
     let (before, behind) = events.split_at(place);
-    let mut store = counter(rt)?;
-    let made = replay(&mut store, before);
-    let was = glance(&store);
-    let stray = follow(&mut store, Event { worker: 9, kind });
-    let same = glance(&store) == was;
-    let rest = replay(&mut store, behind);
-    let (history, _) = store.close();
-    assert!(rt; made == Ok(()), "{place}");
-    assert!(rt; stray == Err(Stray::NotMade), "{place} {kind:?}");
-    assert!(rt; same);
-    assert!(rt; rest == Ok(()), "{place}");
-    assert!(rt; history.as_slice() == events);
-    Ok(())
+    let mut store = counter(rt);
+    makes(rt, &mut store, before, place);
+    strays(rt, &mut store, place, kind);
+    makes(rt, &mut store, behind, place);
+    has_all(rt, store);
 }
 
 #[test]
-fn strays_change_nothing(rt: HostRuntime) -> Result<(), Fail> {
+fn strays_change_nothing(rt: HostRuntime) {
     for (place, kind) in &STRAYS {
-        is_stray(&rt, *place, *kind)?;
+        is_stray(&rt, *place, *kind);
     }
-    Ok(())
 }
 
 /// The events before the first stray are made, and no other.
 #[test]
-fn a_replay_ends_at_a_stray(rt: HostRuntime) -> Result<(), Fail> {
+fn a_replay_ends_at_a_stray(rt: HostRuntime) {
     let mut events = EVENTS;
     events[4] = events[3];
-    let mut store = counter(&rt)?;
+    let mut store = counter(&rt);
     let told = replay(&mut store, &events);
     let was = glance(&store);
     let _ = store.close();
@@ -163,14 +169,13 @@ fn a_replay_ends_at_a_stray(rt: HostRuntime) -> Result<(), Fail> {
     };
     assert!(rt; told == Err(fault));
     assert!(rt; was == (4, Some(2)));
-    Ok(())
 }
 
 /// A store may forget what it followed before it follows the rest.
 #[test]
-fn a_replay_goes_on_behind_what_is_forgotten(rt: HostRuntime) -> Result<(), Fail> {
+fn a_replay_goes_on_behind_what_is_forgotten(rt: HostRuntime) {
     let (first, rest) = EVENTS.split_at(5);
-    let mut store = counter(&rt)?;
+    let mut store = counter(&rt);
     let told = (replay(&mut store, first), store.kept(0));
     store.forget(4);
     let last = (replay(&mut store, rest), store.kept(0));
@@ -180,5 +185,4 @@ fn a_replay_goes_on_behind_what_is_forgotten(rt: HostRuntime) -> Result<(), Fail
     assert!(rt; last == (Ok(()), Some(0)));
     assert!(rt; count == 10);
     assert!(rt; history.as_slice() == &EVENTS[4..]);
-    Ok(())
 }

@@ -6,7 +6,6 @@ use object_trait::Recovery;
 use reference_store::asked::{Ask, Told};
 use serial_order::Refusal;
 use std::process::Abort;
-use std::test::Fail;
 use store::Store;
 use test_support::type_texts::COUNTER;
 use type_table::Kind;
@@ -34,11 +33,9 @@ fn are_most<R: Recovery>(rt: &impl Abort, store: &mut Store<R>) {
 
 /// The history holds the begins and ends of 1,025 transactions.
 #[test]
-fn no_more_than_1024_are_open(rt: HostRuntime) -> Result<(), Fail> {
-    let objects = objects_of(rt.alloc(), &[(Kind::Undo, COUNTER)])?;
-    let mut store = store_of(&rt, objects, 2050)?;
+fn no_more_than_1024_are_open(rt: HostRuntime) {
+    let mut store = store_of(&rt, objects_of(&rt, &[(Kind::Undo, COUNTER)]), 2050);
     are_most(&rt, &mut store);
     let (history, _) = store.close();
     assert!(rt; history.len() == 2050);
-    Ok(())
 }

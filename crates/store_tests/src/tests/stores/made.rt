@@ -1,6 +1,6 @@
 //! Of which objects a store is made, and in which order they come back.
 
-use super::scripts::{are_closed, store_of};
+use super::scripts::{is_closed, store_of};
 use crate::tests::managers::driven::apply_next;
 use object_trait::Recovery;
 use objects::Object;
@@ -10,6 +10,7 @@ use std::process::Abort;
 use std::sync::Arc;
 use std::test::Fail;
 use store::{NewRefusal, Store};
+use table_checker::CheckedType;
 use test_support::printed::{are_debugged, are_printed};
 use test_support::type_texts::COUNTER;
 use type_table::Kind;
@@ -37,44 +38,48 @@ fn kind_at(x: usize) -> Kind {
     }
 }
 
-/// So many new objects.
-fn made(alloc: Global, count: usize) -> Result<Vec<Object>, Fail> {
-    let undo = checked_of(alloc, COUNTER, Kind::Undo)?;
-    let intentions = checked_of(alloc, COUNTER, Kind::Intentions)?;
-    let mut objects = Vec::new(alloc);
+/// So many new objects of these two types.
+fn made_of(
+    rt: &(impl Abort + AllocGlobal),
+    undo: &Arc<CheckedType>,
+    intentions: &Arc<CheckedType>,
+    count: usize,
+) -> Vec<Object> {
+    let mut objects = Vec::new(rt.alloc());
     for x in 0..count {
         let checked = match kind_at(x) {
-            Kind::Undo => Arc::try_clone(&undo)?,
-            Kind::Intentions => Arc::try_clone(&intentions)?,
+            Kind::Undo => undo,
+            Kind::Intentions => intentions,
         };
-        objects
-            .push(Object::new(alloc, checked))
-            .ok()
-            .ok_or("no room")?;
+        let copy = Arc::try_clone(checked).expect(rt, "too many");
+        let object = Object::new(rt.alloc(), copy);
+        objects.push(object).ok().expect(rt, "no room");
     }
-    Ok(objects)
+    objects
+}
+
+/// So many new objects.
+fn made(rt: &(impl Abort + AllocGlobal), count: usize) -> Vec<Object> {
+    let undo = checked_of(rt.alloc(), COUNTER, Kind::Undo).expect(rt, "no type");
+    let intentions = checked_of(rt.alloc(), COUNTER, Kind::Intentions).expect(rt, "no type");
+    made_of(rt, &undo, &intentions, count)
 }
 
 /// Executes an operation at an object that is as it was made.
-fn touch(rt: &(impl Abort + AllocGlobal), object: &mut Object) -> Result<(), Fail> {
+fn touch(rt: &(impl Abort + AllocGlobal), object: &mut Object) {
     assert!(rt; object.is_fresh());
     let mut log = Vec::new(rt.alloc());
-    apply_next(rt, object, &mut log, 0, 0)?;
-    Ok(())
+    apply_next(rt, object, &mut log, 0, 0).expect(rt, "no memory");
 }
 
 /// So many objects, of which one may have been touched.
-fn offered(
-    rt: &(impl Abort + AllocGlobal),
-    count: usize,
-    touched: Option<usize>,
-) -> Result<Vec<Object>, Fail> {
-    let mut objects = made(rt.alloc(), count)?;
+fn offered(rt: &(impl Abort + AllocGlobal), count: usize, touched: Option<usize>) -> Vec<Object> {
+    let mut objects = made(rt, count);
     if let Some(x) = touched {
         assert!(rt; x < objects.len());
-        touch(rt, &mut objects[x])?;
+        touch(rt, &mut objects[x]);
     }
-    Ok(objects)
+    objects
 }
 
 /// That these are so many objects in their places, of which one may have been touched.
@@ -115,30 +120,27 @@ fn tried(alloc: Global, objects: Vec<Object>, max: u32) -> (Vec<Object>, Option<
     }
 }
 
-/// That a store is made or refused as in each row.
-fn are_tried(rt: &(impl Abort + AllocGlobal), offers: &[Offer]) -> Result<(), Fail> {
-    for (count, touched, max, refusal) in offers {
-        let objects = offered(rt, *count, *touched)?;
-        let (objects, got) = tried(rt.alloc(), objects, *max);
-        assert!(rt; got == *refusal, "{count} {touched:?} {max}");
-        are_in_place(rt, &objects, *count, *touched);
-    }
-    Ok(())
+/// That a store is made or refused as in a row.
+fn is_tried(rt: &(impl Abort + AllocGlobal), offer: &Offer) {
+    let (count, touched, max, refusal) = *offer;
+    let objects = offered(rt, count, touched);
+    let (objects, got) = tried(rt.alloc(), objects, max);
+    assert!(rt; got == refusal, "{count} {max}");
+    are_in_place(rt, &objects, count, touched);
 }
 
 #[test]
-fn stores_are_made_of_new_objects(rt: HostRuntime) -> Result<(), Fail> {
-    are_tried(&rt, &OFFERS)
+fn stores_are_made_of_new_objects(rt: HostRuntime) {
+    for offer in &OFFERS {
+        is_tried(&rt, offer);
+    }
 }
 
 /// A store is empty at first.
 #[test]
-fn a_new_store_is_empty(rt: HostRuntime) -> Result<(), Fail> {
-    let store = store_of(&rt, made(rt.alloc(), 2)?, 20)?;
+fn a_new_store_is_empty(rt: HostRuntime) {
+    let store = store_of(&rt, made(&rt, 2), 20);
     let seen = (store.history().len(), store.kept(1), store.kept(2));
-    let (history, objects) = store.close();
     assert!(rt; seen == (0, Some(0), None));
-    assert!(rt; history.is_empty());
-    are_closed(&rt, &objects);
-    Ok(())
+    let _ = is_closed(&rt, store, &[]);
 }

@@ -1,7 +1,7 @@
 //! Many commands from a generator, at stores and at lists of what happened.
 
 use super::scripts::{are_closed, called, outcome, store_of};
-use history_audit::{Audit, audit};
+use history_audit::audit;
 use object_trait::{Event, EventKind, Recovery};
 use objects::Object;
 use rand_core::utils::NextWord;
@@ -12,7 +12,6 @@ use reference_store::reference::Reference;
 use std::alloc::{AllocError, Global};
 use std::process::Abort;
 use std::sync::Arc;
-use std::test::Fail;
 use store::{Store, replay};
 use table_checker::CheckedType;
 use test_support::type_texts::{COUNTER_FROM_ONE, COUNTER_OF_FOUR, ONE_WAY, SEMIQUEUE, TWIN};
@@ -153,32 +152,37 @@ impl Dice {
 }
 
 /// The checked types of these sorts.
-fn checked_types(alloc: Global, sorts: &[&'static Sort]) -> Result<Vec<Arc<CheckedType>>, Fail> {
-    let mut types = Vec::new(alloc);
+fn checked_types(
+    rt: &(impl Abort + AllocGlobal),
+    sorts: &[&'static Sort],
+) -> Vec<Arc<CheckedType>> {
+    let mut types = Vec::new(rt.alloc());
     for sort in sorts {
-        let checked = checked_of(alloc, sort.1, sort.0)?;
-        types.push(checked).ok().ok_or("no room")?;
+        let checked = checked_of(rt.alloc(), sort.1, sort.0).expect(rt, "no checked type");
+        types.push(checked).ok().expect(rt, "no room");
     }
-    Ok(types)
+    types
 }
 
 /// The same once more.
-fn copies(alloc: Global, types: &[Arc<CheckedType>]) -> Result<Vec<Arc<CheckedType>>, Fail> {
-    let mut more = Vec::new(alloc);
+fn copies(rt: &(impl Abort + AllocGlobal), types: &[Arc<CheckedType>]) -> Vec<Arc<CheckedType>> {
+    let mut more = Vec::new(rt.alloc());
     for checked in types {
-        more.push(Arc::try_clone(checked)?).ok().ok_or("no room")?;
+        let copy = Arc::try_clone(checked).expect(rt, "too many");
+        more.push(copy).ok().expect(rt, "no room");
     }
-    Ok(more)
+    more
 }
 
 /// A new object of each type.
-fn objects_of(alloc: Global, types: &[Arc<CheckedType>]) -> Result<Vec<Object>, Fail> {
-    let mut objects = Vec::new(alloc);
+fn objects_of(rt: &(impl Abort + AllocGlobal), types: &[Arc<CheckedType>]) -> Vec<Object> {
+    let mut objects = Vec::new(rt.alloc());
     for checked in types {
-        let object = Object::new(alloc, Arc::try_clone(checked)?);
-        objects.push(object).ok().ok_or("no room")?;
+        let copy = Arc::try_clone(checked).expect(rt, "too many");
+        let object = Object::new(rt.alloc(), copy);
+        objects.push(object).ok().expect(rt, "no room");
     }
-    Ok(objects)
+    objects
 }
 
 /// That objects with update in place keep what the lists say.
@@ -203,19 +207,17 @@ fn answer_alike<R: Recovery>(
     store: &mut Store<R>,
     reference: &mut Reference,
     dice: &mut Dice,
-) -> Result<(), Fail> {
+) {
     for _ in 0..COMMANDS {
         let ask = dice.ask(reference);
         let w = dice.byte(16);
-        let wanted = reference.told(w, ask)?;
+        let wanted = reference.told(w, ask).expect(rt, "no memory");
         let would = foretold(store, ask).unwrap_or(wanted);
         let got = outcome(store, w, ask);
-        assert!(rt; got == wanted);
-        assert!(rt; would == wanted);
+        assert!(rt; (got, would) == (wanted, wanted));
         store.forget(dice.forgotten());
         keep_alike(rt, store, reference);
     }
-    Ok(())
 }
 
 /// The tables of these types.
@@ -226,15 +228,26 @@ fn tables_of<'a>(
     types.iter().map(|checked| checked.table()).collect(alloc)
 }
 
-/// That an audit has the commits of the lists in their order, and the serial states.
-fn is_audited_alike(rt: &impl Abort, audit: &Audit, reference: &Reference) {
-    let mut order = audit.order.iter();
-    for event in reference.events() {
+/// That these are the commits among the events, in their order.
+fn are_commits(rt: &impl Abort, order: &[u32], events: &[Event]) {
+    let mut order = order.iter();
+    for event in events {
         if let EventKind::Commit { t } = event.kind {
             assert!(rt; order.next() == Some(&t));
         }
     }
     assert!(rt; order.next() == None);
+}
+
+/// That an audit of the lists has their commits in their order, and the serial states.
+fn is_audited_alike(
+    rt: &(impl Abort + AllocGlobal),
+    types: &[Arc<CheckedType>],
+    reference: &Reference,
+) {
+    let tables = tables_of(rt.alloc(), types).expect(rt, "no memory");
+    let audit = audit(rt.alloc(), reference.events(), &tables).expect(rt, "no audit");
+    are_commits(rt, &audit.order, reference.events());
     for x in 0..5 {
         let state = audit.finals.get(x as usize).copied();
         assert!(rt; state == reference.serial_state(x));
@@ -247,6 +260,13 @@ fn are_last(rt: &impl Abort, history: &[Event], events: &[Event], forgets: bool)
     assert!(rt; forgets || history.len() == events.len());
 }
 
+/// That each of these objects is at the state of the one in its place.
+fn are_at_states(rt: &impl Abort, objects: &[Object], again: &[Object]) {
+    for (one, other) in objects.iter().zip(again) {
+        assert!(rt; one.state() == other.state());
+    }
+}
+
 /// That a new store of these types follows the events, to objects of the same states.
 fn is_followed(
     rt: &(impl Abort + AllocGlobal),
@@ -254,44 +274,43 @@ fn is_followed(
     objects: &[Object],
     events: &[Event],
     max_events: u32,
-) -> Result<(), Fail> {
-    let mut store = store_of(rt, objects_of(rt.alloc(), types)?, max_events)?;
+) {
+    let mut store = store_of(rt, objects_of(rt, types), max_events);
     let told = replay(&mut store, events);
     let (history, again) = store.close();
     assert!(rt; told == Ok(()));
     assert!(rt; history.as_slice() == events);
-    for (one, other) in objects.iter().zip(&again) {
-        assert!(rt; one.state() == other.state());
-    }
-    Ok(())
+    are_at_states(rt, objects, &again);
 }
 
-/// One store, from its beginning to its end, the audit of its history, and a store that follows it.
-fn live_alike(
+/// One store, from its beginning to its end, beside the lists: the objects that come back.
+fn live_beside(
     rt: &(impl Abort + AllocGlobal),
+    types: &[Arc<CheckedType>],
+    reference: &mut Reference,
     dice: &mut Dice,
     max_events: u32,
-) -> Result<(), Fail> {
-    let types = checked_types(rt.alloc(), &dice.sorts)?;
-    let mut reference = Reference::new(rt.alloc(), copies(rt.alloc(), &types)?, max_events);
-    let mut store = store_of(rt, objects_of(rt.alloc(), &types)?, max_events)?;
-    let alike = answer_alike(rt, &mut store, &mut reference, dice);
+) -> Vec<Object> {
+    let mut store = store_of(rt, objects_of(rt, types), max_events);
+    answer_alike(rt, &mut store, reference, dice);
     let (history, objects) = store.close();
-    alike?;
-    reference.close()?;
+    reference.close().expect(rt, "no memory");
     are_last(rt, &history, reference.events(), dice.forgets);
     are_closed(rt, &objects);
-    let audit = audit(
-        rt.alloc(),
-        reference.events(),
-        &tables_of(rt.alloc(), &types)?,
-    )?;
-    is_audited_alike(rt, &audit, &reference);
-    is_followed(rt, &types, &objects, reference.events(), max_events)
+    objects
+}
+
+/// One store, the audit of its history, and a store that follows it.
+fn live_alike(rt: &(impl Abort + AllocGlobal), dice: &mut Dice, max_events: u32) {
+    let types = checked_types(rt, &dice.sorts);
+    let mut reference = Reference::new(rt.alloc(), copies(rt, &types), max_events);
+    let objects = live_beside(rt, &types, &mut reference, dice, max_events);
+    is_audited_alike(rt, &types, &reference);
+    is_followed(rt, &types, &objects, reference.events(), max_events);
 }
 
 /// All stores of a seed.
-fn are_alike(rt: &(impl Abort + AllocGlobal), seed: u64, forgets: bool) -> Result<(), Fail> {
+fn are_alike(rt: &(impl Abort + AllocGlobal), seed: u64, forgets: bool) {
     let mut dice = Dice {
         words: Lcg64Xsh32::new(seed, 0),
         sorts: sorts_of(0),
@@ -299,15 +318,13 @@ fn are_alike(rt: &(impl Abort + AllocGlobal), seed: u64, forgets: bool) -> Resul
     };
     for store in 0..STORES {
         dice.sorts = sorts_of(store);
-        live_alike(rt, &mut dice, EVENTS[store % 2])?;
+        live_alike(rt, &mut dice, EVENTS[store % 2]);
     }
-    Ok(())
 }
 
 #[test]
-fn commands_are_answered_as_by_lists(rt: HostRuntime) -> Result<(), Fail> {
+fn commands_are_answered_as_by_lists(rt: HostRuntime) {
     for seed in 0..SEEDS {
-        are_alike(&rt, seed, seed % 2 == 1)?;
+        are_alike(&rt, seed, seed % 2 == 1);
     }
-    Ok(())
 }

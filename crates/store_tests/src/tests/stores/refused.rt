@@ -4,7 +4,6 @@ use super::scripts::{Script, are_played};
 use object_trait::EventKind;
 use reference_store::asked::{Ask, Told};
 use serial_order::Refusal;
-use std::test::Fail;
 use test_support::type_texts::{COUNTER, SEMIQUEUE};
 use type_table::Kind;
 
@@ -132,6 +131,6 @@ const SECOND_BEGIN: Script = Script {
 static REFUSED: [Script; 4] = [WITH_ROOM, WITHOUT_ROOM, LEAST, SECOND_BEGIN];
 
 #[test]
-fn refusals_have_their_order(rt: HostRuntime) -> Result<(), Fail> {
-    are_played(&rt, &REFUSED)
+fn refusals_have_their_order(rt: HostRuntime) {
+    are_played(&rt, &REFUSED);
 }

@@ -2,17 +2,17 @@
 
 use super::objects_of;
 use super::scripts::{Row, answers, outcome, store_of};
-use history_audit::audit_epochs;
+use crate::tests::reports::are_at;
+use history_audit::{Audit, audit_epochs};
 use object_trait::{Event, Recovery};
 use objects::Object;
 use rand_core::utils::NextWord;
 use rand_pcg::Lcg64Xsh32;
 use reference_store::asked::{Ask, Told};
 use reference_store::checked_types::{Sort, checked_of};
-use std::alloc::Global;
+use std::alloc::{AllocError, Global};
 use std::process::Abort;
 use std::sync::Arc;
-use std::test::Fail;
 use store::{RenewRefusal, Store};
 use table_checker::CheckedType;
 use test_support::type_texts::{COUNTER, COUNTER_OF_FOUR, SEMIQUEUE, TWIN};
@@ -53,9 +53,8 @@ static NEXT: [Row; 5] = [
 ];
 
 /// The end of the first epoch, which begins no other while a transaction is open.
-fn full_counter(rt: &(impl Abort + AllocGlobal)) -> Result<Store<Object>, Fail> {
-    let objects = objects_of(rt.alloc(), &[(Kind::Undo, COUNTER)])?;
-    let mut store = store_of(rt, objects, 8)?;
+fn full_counter(rt: &(impl Abort + AllocGlobal)) -> Store<Object> {
+    let mut store = store_of(rt, objects_of(rt, &[(Kind::Undo, COUNTER)]), 8);
     answers(rt, &mut store, &FULL);
     match renewed(rt, store) {
         Ok((store, _)) => {
@@ -66,26 +65,28 @@ fn full_counter(rt: &(impl Abort + AllocGlobal)) -> Result<Store<Object>, Fail> 
             assert!(rt; refusal == RenewRefusal::StillOpen);
             assert!(rt; store.history().len() == 5);
             store.abort_all();
-            Ok(store)
+            store
         }
     }
 }
 
+/// That a store of such a counter is at the begin of the next epoch, and that goes on from there.
+fn goes_on(rt: &impl Abort, mut store: Store<Object>) {
+    assert!(rt; store.event_count() == 0);
+    answers(rt, &mut store, &NEXT);
+    let (history, objects) = store.close();
+    assert!(rt; history.len() == 4);
+    are_at(rt, &objects, &[1]);
+}
+
 #[test]
-fn an_epoch_begins_at_the_kept_state(rt: HostRuntime) -> Result<(), Fail> {
-    let mut store = full_counter(&rt)?;
+fn an_epoch_begins_at_the_kept_state(rt: HostRuntime) {
+    let mut store = full_counter(&rt);
     store.forget(2);
     match renewed(&rt, store) {
-        Ok((mut store, events)) => {
+        Ok((store, events)) => {
             assert!(rt; events.len() == 4);
-            assert!(rt; store.event_count() == 0);
-            answers(&rt, &mut store, &NEXT);
-            let (history, objects) = store.close();
-            assert!(rt; history.len() == 4);
-            for object in &objects {
-                assert!(rt; object.state() == 1);
-            }
-            Ok(())
+            goes_on(&rt, store);
         }
         Err((store, _)) => {
             let _ = store.close();
@@ -110,16 +111,15 @@ static BOTH_NEXT: [Row; 3] = [
 ];
 
 #[test]
-fn new_epochs_want_memory(rt: HostRuntime) -> Result<(), Fail> {
+fn new_epochs_want_memory(rt: HostRuntime) {
     let sorts = [(Kind::Undo, COUNTER), (Kind::Intentions, COUNTER)];
-    let mut store = store_of(&rt, objects_of(rt.alloc(), &sorts)?, 8)?;
+    let mut store = store_of(&rt, objects_of(&rt, &sorts), 8);
     answers(&rt, &mut store, &BOTH);
     match renewed(&rt, store) {
         Ok((mut store, events)) => {
             assert!(rt; events.len() == 4);
             answers(&rt, &mut store, &BOTH_NEXT);
             let _ = store.close();
-            Ok(())
         }
         Err((store, _)) => {
             let _ = store.close();
@@ -198,32 +198,54 @@ fn live_on(
 }
 
 /// The checked types of these sorts, of which an audit reads the tables.
-fn types_of(alloc: Global, sorts: &[Sort]) -> Result<Vec<Arc<CheckedType>>, Fail> {
-    let mut types = Vec::new(alloc);
+fn types_of(rt: &(impl Abort + AllocGlobal), sorts: &[Sort]) -> Vec<Arc<CheckedType>> {
+    let mut types = Vec::new(rt.alloc());
     for (kind, text) in sorts {
-        types.push(checked_of(alloc, text, *kind)?)?;
+        let checked = checked_of(rt.alloc(), text, *kind).expect(rt, "no checked type");
+        types.push(checked).ok().expect(rt, "no room");
     }
-    Ok(types)
+    types
+}
+
+/// The tables of these types.
+fn tables_of(alloc: Global, types: &[Arc<CheckedType>]) -> Result<Vec<&TypeTable>, AllocError> {
+    types.iter().map(|checked| checked.table()).collect(alloc)
+}
+
+/// The events of each epoch.
+fn slices_of(alloc: Global, histories: &[Vec<Event>]) -> Result<Vec<&[Event]>, AllocError> {
+    histories
+        .iter()
+        .map(|events| events.as_slice())
+        .collect(alloc)
+}
+
+/// The audits of epochs of stores of these sorts.
+fn audits_of(
+    rt: &(impl Abort + AllocGlobal),
+    histories: &[Vec<Event>],
+    sorts: &[Sort],
+) -> Vec<Audit> {
+    let types = types_of(rt, sorts);
+    let tables = tables_of(rt.alloc(), &types).expect(rt, "no memory");
+    let slices = slices_of(rt.alloc(), histories).expect(rt, "no memory");
+    audit_epochs(rt.alloc(), &slices, &tables).expect(rt, "no audits")
+}
+
+/// That the first two objects are at the serial states at the end of the last of so many epochs.
+fn are_serial(rt: &impl Abort, objects: &[Object], audits: &[Audit]) {
+    assert!(rt; audits.len() == EPOCHS as usize);
+    let last = audits.last().expect(rt, "no epoch");
+    assert!(rt; last.finals.len() == objects.len());
+    for (object, state) in objects.iter().zip(&last.finals).take(2) {
+        assert!(rt; object.state() == *state);
+    }
 }
 
 #[test]
-fn a_thousand_epochs_are_one_serial_order(rt: HostRuntime) -> Result<(), Fail> {
-    let alloc = rt.alloc();
-    let store = store_of(&rt, objects_of(alloc, &OBJECTS)?, 1000)?;
+fn a_thousand_epochs_are_one_serial_order(rt: HostRuntime) {
+    let store = store_of(&rt, objects_of(&rt, &OBJECTS), 1000);
     let (histories, objects) = live_on(&rt, store, EPOCHS);
-    let types = types_of(alloc, &OBJECTS)?;
-    let tables: Vec<&TypeTable> = types.iter().map(|checked| checked.table()).collect(alloc)?;
-    let slices: Vec<&[Event]> = histories
-        .iter()
-        .map(|events| events.as_slice())
-        .collect(alloc)?;
-    let audits = audit_epochs(alloc, &slices, &tables)?;
-    assert!(rt; audits.len() == EPOCHS as usize);
-    let finals = audits
-        .last()
-        .map_or(&[][..], |audit| audit.finals.as_slice());
-    for (object, state) in objects.iter().zip(finals).take(2) {
-        assert!(rt; object.state() == *state);
-    }
-    Ok(())
+    let audits = audits_of(&rt, &histories, &OBJECTS);
+    are_serial(&rt, &objects, &audits);
 }

@@ -2,13 +2,11 @@
 //! library's.
 
 use super::objects_of;
-use super::scripts::{Happened, Row, answers, are_closed, are_events, store_of};
+use super::scripts::{Happened, Row, answers, is_closed, store_of};
 use crate::tests::any_objects::replayed::Replayed;
 use object_trait::{EventKind, Recovery};
 use reference_store::asked::{Ask, Told};
-use std::alloc::Global;
 use std::process::Abort;
-use std::test::Fail;
 use table_checker::check;
 use test_support::type_texts::COUNTER_OF_FOUR;
 use type_table::Kind;
@@ -68,31 +66,26 @@ const HISTORY: &[Happened] = &[
 ];
 
 /// A new counter of four, whose log is run anew.
-fn replayed(alloc: Global) -> Result<Vec<Replayed>, Fail> {
-    let file = read_type(alloc, COUNTER_OF_FOUR.as_bytes())
-        .ok()
-        .ok_or("no type")?;
-    match check(file, Kind::Undo) {
-        Ok(checked) => Ok(vec![in alloc; Replayed::new(alloc, checked)]?),
-        Err(_) => Err("not for update in place")?,
+fn replayed(rt: &(impl Abort + AllocGlobal)) -> Replayed {
+    let file = read_type(rt.alloc(), COUNTER_OF_FOUR.as_bytes());
+    match check(file.ok().expect(rt, "no type"), Kind::Undo) {
+        Ok(checked) => Replayed::new(rt.alloc(), checked),
+        Err(_) => panic!(rt; "not for update in place"),
     }
 }
 
 /// That a store of this object does what the rows say.
-fn is_played<R: Recovery>(rt: &(impl Abort + AllocGlobal), objects: Vec<R>) -> Result<(), Fail> {
-    let mut store = store_of(rt, objects, 20)?;
+fn is_played<R: Recovery>(rt: &(impl Abort + AllocGlobal), objects: Vec<R>) {
+    let mut store = store_of(rt, objects, 20);
     answers(rt, &mut store, ROWS);
-    let (history, objects) = store.close();
-    are_events(rt, &history, HISTORY);
-    are_closed(rt, &objects);
-    Ok(())
+    let _ = is_closed(rt, store, HISTORY);
 }
 
 #[test]
-fn a_log_that_is_run_anew_answers(rt: HostRuntime) -> Result<(), Fail> {
-    is_played(&rt, replayed(rt.alloc())?)?;
-    is_played(
-        &rt,
-        objects_of(rt.alloc(), &[(Kind::Undo, COUNTER_OF_FOUR)])?,
-    )
+fn a_log_that_is_run_anew_answers(rt: HostRuntime) {
+    let objects = vec![in rt.alloc(); replayed(&rt)]
+        .ok()
+        .expect(&rt, "no room");
+    is_played(&rt, objects);
+    is_played(&rt, objects_of(&rt, &[(Kind::Undo, COUNTER_OF_FOUR)]));
 }

@@ -4,26 +4,24 @@ ghost use Rattle.std.specs.Prelude.{◌≡◌, true, [], length};
 
 use super::objects_of;
 use super::scripts::{Happened, are_closed, are_events, store_of};
-use object_trait::{EventKind, Recovery};
+use object_trait::{Event, EventKind, Recovery};
 use objects::Object;
 use outputs::OutFault;
 use reference_store::checked_types::Sort;
 use script_run::run_script;
 use script_text::{Script, read_script};
-use std::alloc::Global;
 use std::process::Abort;
-use std::test::Fail;
 use store::Store;
-use test_support::sinks::{AtEnd, MOST_BYTES, memory, sink_over};
+use test_support::sinks::{AtEnd, MOST_BYTES, sink_over};
 use test_support::type_texts::COUNTER;
 use type_table::Kind;
 
 /// The script of a text. Where one allocation is refused, the next try has it.
-fn script_of(alloc: Global, text: &[u8]) -> Result<Script, Fail> {
-    if let Ok(script) = read_script(alloc, text) {
-        return Ok(script);
+fn script_of(rt: &(impl Abort + AllocGlobal), text: &[u8]) -> Script {
+    if let Ok(script) = read_script(rt.alloc(), text) {
+        return script;
     }
-    Ok(read_script(alloc, text).ok().ok_or("no script")?)
+    read_script(rt.alloc(), text).ok().expect(rt, "no script")
 }
 
 /// Whether a store has no history and as many objects as a script.
@@ -45,15 +43,14 @@ pub fn run_with_room(
     text: &[u8],
     room: usize,
     at_end: AtEnd,
-) -> Result<Left, Fail> {
-    let script = script_of(rt.alloc(), text)?;
-    let held = memory(rt.alloc())?;
-    let objects = objects_of(rt.alloc(), sorts)?;
-    let store = store_of(rt, objects, script.max)?;
+) -> Left {
+    let script = script_of(rt, text);
+    let held = memory_of(rt);
+    let store = store_of(rt, objects_of(rt, sorts), script.max);
     let mut out = sink_over(held, usize::MAX, room, at_end);
     assert!(rt; is_ready(&store, &script));
     let (store, result) = run_script(store, &script, &mut out);
-    Ok((store, out.into_inner().held, result))
+    (store, out.into_inner().held, result)
 }
 
 /// One transaction aborts, and another commits.
@@ -105,22 +102,39 @@ static CLOSING: [&[Happened]; 7] = [
     &[],
 ];
 
+/// Memory for the bytes of an output. Where one allocation is refused, the next try has it.
+fn memory_of(rt: &(impl Abort + AllocGlobal)) -> Vec<u8> {
+    if let Ok(held) = Vec::with_capacity(rt.alloc(), MOST_BYTES) {
+        return held;
+    }
+    Vec::with_capacity(rt.alloc(), MOST_BYTES).expect(rt, "no room")
+}
+
 /// How many commands were asked where the output stopped behind so many bytes: the one whose line
 /// failed, and those before it.
 fn asked_at(room: usize) -> usize {
     let text = KEEPS_OTHERS_TEXT.as_bytes();
-    let ended = text.iter().take(room).filter(|b| **b == b'\n').count();
+    let ended = line_count(text.get(..room).unwrap_or(text));
     ended.min(EVENTS.len())
+}
+
+/// The events of the first so many commands.
+fn asked_events(asked: usize) -> &'static [Happened] {
+    EVENTS.get(..asked).unwrap_or(&[])
+}
+
+/// That a history has the events of so many commands, and behind them what `close` appends.
+fn is_ended(rt: &impl Abort, history: &[Event], asked: usize) {
+    are_events(rt, history.get(..asked).unwrap_or(&[]), asked_events(asked));
+    let closing = CLOSING.get(asked).copied().unwrap_or(&[]);
+    are_events(rt, history.get(asked..).unwrap_or(&[]), closing);
 }
 
 /// That a store whose script asked so many commands has their events, and `close` aborts what is open.
 fn is_left(rt: &impl Abort, store: Store<Object>, asked: usize) {
-    let wanted = EVENTS.get(..asked).unwrap_or(&[]);
-    are_events(rt, store.history(), wanted);
+    are_events(rt, store.history(), asked_events(asked));
     let (history, objects) = store.close();
-    are_events(rt, history.get(..asked).unwrap_or(&[]), wanted);
-    let closing = CLOSING.get(asked).copied().unwrap_or(&[]);
-    are_events(rt, history.get(asked..).unwrap_or(&[]), closing);
+    is_ended(rt, &history, asked);
     are_closed(rt, &objects);
 }
 
@@ -129,68 +143,68 @@ fn stops_at(
     rt: &(impl Abort + AllocGlobal),
     room: usize,
     at_end: AtEnd,
-    fault: OutFault,
-) -> Result<(), Fail> {
+    wanted: Result<(), OutFault>,
+) {
     let sorts = [(Kind::Undo, COUNTER)];
     let text = KEEPS_OTHERS.as_bytes();
-    let (store, held, result) = run_with_room(rt, &sorts, text, room, at_end)?;
-    assert!(rt; result == Err(fault));
+    let (store, held, result) = run_with_room(rt, &sorts, text, room, at_end);
+    assert!(rt; result == wanted);
     assert!(rt; KEEPS_OTHERS_TEXT.as_bytes().get(..room) == Some(held.as_slice()));
     if room == 40 {
         assert!(rt; held.ends_with(b"\nop 0 0"));
         assert!(rt; store.kept(0) == Some(1));
     }
     is_left(rt, store, asked_at(room));
-    Ok(())
 }
 
 /// Each beginning of the text is what an output may have taken, and each has its history.
 #[test]
-fn a_stopped_output_has_a_beginning(rt: HostRuntime) -> Result<(), Fail> {
+fn a_stopped_output_has_a_beginning(rt: HostRuntime) {
     let whole = KEEPS_OTHERS_TEXT.len();
     for room in 0..whole {
-        stops_at(&rt, room, AtEnd::Fails, OutFault::Device)?;
-        stops_at(&rt, room, AtEnd::TakesNothing, OutFault::WroteNothing)?;
+        stops_at(&rt, room, AtEnd::Fails, Err(OutFault::Device));
+        stops_at(&rt, room, AtEnd::TakesNothing, Err(OutFault::WroteNothing));
     }
-    let sorts = [(Kind::Undo, COUNTER)];
-    let text = KEEPS_OTHERS.as_bytes();
-    let (store, held, result) = run_with_room(&rt, &sorts, text, whole, AtEnd::Fails)?;
-    assert!(rt; result == Ok(()));
-    assert!(rt; held.as_slice() == KEEPS_OTHERS_TEXT.as_bytes());
-    is_left(&rt, store, EVENTS.len());
-    Ok(())
+    stops_at(&rt, whole, AtEnd::Fails, Ok(()));
+}
+
+/// Adds a line so many times.
+fn push_lines(rt: &impl Abort, text: &mut Vec<u8>, line: &[u8], count: u32) {
+    for _ in 0..count {
+        text.extend_from_slice(line).expect(rt, "no room");
+    }
 }
 
 /// A script of so many begins.
-fn begins(alloc: Global, count: u32) -> Result<Vec<u8>, Fail> {
-    let mut text = memory(alloc)?;
-    text.extend_from_slice(b"max 2048\nobject undo 0\n")?;
-    for _ in 0..count {
-        text.extend_from_slice(b"begin\n")?;
-    }
-    text.extend_from_slice(b"end\n")?;
-    Ok(text)
+fn begins(rt: &(impl Abort + AllocGlobal), count: u32) -> Vec<u8> {
+    let mut text = memory_of(rt);
+    push_lines(rt, &mut text, b"max 2048\nobject undo 0\n", 1);
+    push_lines(rt, &mut text, b"begin\n", count);
+    push_lines(rt, &mut text, b"end\n", 1);
+    text
+}
+
+/// How many lines a text has.
+fn line_count(text: &[u8]) -> usize {
+    text.iter().filter(|b| **b == b'\n').count()
+}
+
+/// That the history is full and all that was begun was aborted, as the text tells.
+fn is_full(rt: &impl Abort, store: Store<Object>, held: &[u8]) {
+    assert!(rt; store.history().len() == 2048);
+    assert!(rt; line_count(held) == 2052);
+    assert!(rt; held.ends_with(b"\nabort 0 1023\nend\n# kept 0 0\n"));
+    let (history, objects) = store.close();
+    assert!(rt; history.len() == 2048);
+    are_closed(rt, &objects);
 }
 
 /// The last begin is one too many, and the history has room for the end of each of the others.
 #[test]
-fn ends_have_their_places(rt: HostRuntime) -> Result<(), Fail> {
+fn ends_have_their_places(rt: HostRuntime) {
     let sorts = [(Kind::Undo, COUNTER)];
-    let text = begins(rt.alloc(), 1025)?;
-    let (store, held, result) = run_with_room(
-        &rt,
-        &sorts,
-        text.as_slice(),
-        MOST_BYTES,
-        AtEnd::Fails,
-    )?;
+    let text = begins(&rt, 1025);
+    let (store, held, result) = run_with_room(&rt, &sorts, &text, MOST_BYTES, AtEnd::Fails);
     assert!(rt; result == Ok(()));
-    assert!(rt; store.history().len() == 2048);
-    let lines = held.iter().filter(|b| **b == b'\n').count();
-    assert!(rt; lines == 2052);
-    assert!(rt; held.ends_with(b"\nabort 0 1023\nend\n# kept 0 0\n"));
-    let (history, objects) = store.close();
-    assert!(rt; history.len() == 2048);
-    are_closed(&rt, &objects);
-    Ok(())
+    is_full(&rt, store, &held);
 }

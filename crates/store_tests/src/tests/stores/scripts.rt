@@ -6,7 +6,6 @@ use reference_store::asked::{Ask, Told, answered};
 use reference_store::checked_types::Sort;
 use serial_order::Refusal;
 use std::process::Abort;
-use std::test::Fail;
 use store::{Answer, NewRefusal, Store};
 
 /// The worker that calls, its call, and what comes of it.
@@ -81,7 +80,7 @@ fn at_last<R: Recovery>(rt: &impl Abort, store: &mut Store<R>, w: u8, ask: Ask) 
 pub fn answers<R: Recovery>(rt: &impl Abort, store: &mut Store<R>, rows: &[Row]) {
     for (i, (w, ask, wanted)) in rows.iter().enumerate() {
         let got = at_last(rt, store, *w, *ask);
-        assert!(rt; got == *wanted, "row {i}: {got:?}");
+        assert!(rt; got == *wanted, "row {i}");
     }
 }
 
@@ -90,17 +89,17 @@ pub fn store_of<R: Recovery>(
     rt: &(impl Abort + AllocGlobal),
     objects: Vec<R>,
     max: u32,
-) -> Result<Store<R>, NewRefusal> {
+) -> Store<R> {
     let back = match Store::new(rt.alloc(), objects, max) {
-        Ok(store) => return Ok(store),
+        Ok(store) => return store,
         Err((back, refusal)) => {
             assert!(rt; refusal == NewRefusal::NoMemory);
             back
         }
     };
     match Store::new(rt.alloc(), back, max) {
-        Ok(store) => Ok(store),
-        Err((_, refusal)) => Err(refusal),
+        Ok(store) => store,
+        Err(_) => panic!(rt; "no memory for a store"),
     }
 }
 
@@ -120,22 +119,25 @@ pub fn are_closed<R: Recovery>(rt: &impl Abort, objects: &[R]) {
     }
 }
 
-/// Plays a script at a new store, and closes that.
-pub fn plays(rt: &(impl Abort + AllocGlobal), script: &Script) -> Result<(), Fail> {
-    let objects = objects_of(rt.alloc(), script.objects)?;
-    let mut store = store_of(rt, objects, script.max)?;
-    answers(rt, &mut store, script.rows);
+/// Closes a store. That its history then has these events, and no transaction is open at its objects.
+pub fn is_closed<R: Recovery>(rt: &impl Abort, store: Store<R>, wanted: &[Happened]) -> Vec<R> {
     let (history, objects) = store.close();
-    are_events(rt, &history, script.history);
-    assert!(rt; objects.len() == script.objects.len());
+    are_events(rt, &history, wanted);
     are_closed(rt, &objects);
-    Ok(())
+    objects
+}
+
+/// Plays a script at a new store, and closes that.
+pub fn plays(rt: &(impl Abort + AllocGlobal), script: &Script) {
+    let mut store = store_of(rt, objects_of(rt, script.objects), script.max);
+    answers(rt, &mut store, script.rows);
+    let objects = is_closed(rt, store, script.history);
+    assert!(rt; objects.len() == script.objects.len());
 }
 
 /// Plays each script.
-pub fn are_played(rt: &(impl Abort + AllocGlobal), scripts: &[Script]) -> Result<(), Fail> {
+pub fn are_played(rt: &(impl Abort + AllocGlobal), scripts: &[Script]) {
     for script in scripts {
-        plays(rt, script)?;
+        plays(rt, script);
     }
-    Ok(())
 }
