@@ -1,5 +1,6 @@
 //! What `check` and `check_parallel` hand back besides their verdict, and how faults are printed.
 
+use crate::tests::type_files::{file_of, is_written};
 use std::process::Abort;
 use std::test::Fail;
 use table_checker::{
@@ -10,14 +11,7 @@ use test_support::printed::are_printed;
 use test_support::texts::changed;
 use test_support::type_texts::{COUNTER, IDLE};
 use type_table::{ConflictTable, Kind};
-use type_text::{Sink, TypeFile, read_type, write_type};
-
-/// That this is the file of a text.
-fn is_file<R: Abort + AllocGlobal>(rt: &R, file: &TypeFile, text: &[u8]) {
-    let mut out = Sink::new(Vec::new(rt.alloc()));
-    assert!(rt; write_type(file, &mut out).is_ok());
-    assert!(rt; out.into_inner().as_slice() == text);
-}
+use type_text::TypeFile;
 
 /// Whether these are the conflicts of two operations, of which each conflicts with itself alone.
 fn are_of_two_alone(conflicts: &ConflictTable) -> bool {
@@ -30,21 +24,20 @@ fn are_of_two_alone(conflicts: &ConflictTable) -> bool {
 
 /// That this is the counter, accepted for deferred update.
 fn is_counter<R: Abort + AllocGlobal>(rt: &R, checked: &CheckedType) {
-    assert!(rt; checked.kind() == Kind::Intentions);
-    assert!(rt; checked.is_strong());
-    assert!(rt; checked.table().name().as_bytes() == b"counter".as_slice());
-    assert!(rt; are_of_two_alone(checked.conflicts()));
-    is_file(rt, checked.file(), COUNTER.as_bytes());
+    assert!(rt; is_strong_counter(checked) && are_of_two_alone(checked.conflicts()));
+    is_written(rt, checked.file(), COUNTER.as_bytes());
+}
+
+fn is_strong_counter(checked: &CheckedType) -> bool {
+    (checked.kind() == Kind::Intentions)
+        & checked.is_strong()
+        & (checked.table().name().as_bytes() == b"counter".as_slice())
 }
 
 #[test]
-fn accepted_counter_has_its_parts(rt: HostRuntime) -> Result<(), Fail> {
-    let file = read_type(rt.alloc(), COUNTER.as_bytes())?;
-    match check(file, Kind::Intentions) {
-        Ok(checked) => is_counter(&rt, &checked),
-        Err(_) => Err("refused")?,
-    }
-    Ok(())
+fn accepted_counter_has_its_parts(rt: HostRuntime) {
+    let checked = check(file_of(&rt, COUNTER.as_bytes()), Kind::Intentions);
+    is_counter(&rt, &checked.ok().expect(&rt, "refused"));
 }
 
 /// The conflicts of the counter.
@@ -57,29 +50,31 @@ fn comes_back<R: Abort + AllocGlobal>(
     text: &[u8],
     checked: Result<CheckedType, (TypeFile, CheckRefusal)>,
     wanted: CheckRefusal,
-) -> Result<(), Fail> {
-    let Err((file, refusal)) = checked else {
-        return Err("accepted")?;
-    };
+) {
+    let (file, refusal) = checked.err().expect(rt, "accepted");
     assert!(rt; refusal == wanted);
-    is_file(rt, &file, text);
-    Ok(())
+    is_written(rt, &file, text);
+}
+
+/// The counter's text with this conflict alone.
+fn with_conflict(rt: &(impl Abort + AllocGlobal), line: &[u8]) -> Vec<u8> {
+    changed(rt.alloc(), COUNTER, PAIRS, line).expect(rt, "no memory")
 }
 
 #[test]
-fn refused_counter_comes_back(rt: HostRuntime) -> Result<(), Fail> {
-    let text = changed(rt.alloc(), COUNTER, PAIRS, b"conflict intentions 1 1\n")?;
-    let checked = check(read_type(rt.alloc(), &text)?, Kind::Intentions);
+fn refused_counter_comes_back(rt: HostRuntime) {
+    let text = with_conflict(&rt, b"conflict intentions 1 1\n");
+    let checked = check(file_of(&rt, &text), Kind::Intentions);
     let wanted = CheckRefusal::NotCommuting { p: 0, q: 0, s: 1 };
-    comes_back(&rt, &text, checked, wanted)
+    comes_back(&rt, &text, checked, wanted);
 }
 
 #[test]
-fn counter_refused_in_parallel_comes_back(rt: HostRuntime) -> Result<(), Fail> {
-    let text = changed(rt.alloc(), COUNTER, PAIRS, b"conflict undo 1 0\n")?;
-    let checked = check_parallel(&rt, read_type(rt.alloc(), &text)?, Kind::Undo);
+fn counter_refused_in_parallel_comes_back(rt: HostRuntime) {
+    let text = with_conflict(&rt, b"conflict undo 1 0\n");
+    let checked = check_parallel(&rt, file_of(&rt, &text), Kind::Undo);
     let wanted = CheckRefusal::NotCommuting { p: 0, q: 1, s: 2 };
-    comes_back(&rt, &text, checked, wanted)
+    comes_back(&rt, &text, checked, wanted);
 }
 
 /// A type begins anew at the states of its set, and at no other.

@@ -4,7 +4,6 @@ ghost use Rattle.line_text.specs.Example.{example, entry_of, with_one, with_two,
 use line_text::*;
 use std::alloc::{AllocError, Global};
 use std::process::Abort;
-use std::test::Fail;
 use type_table::{Kind, Name};
 
 /// The rank and the numbers of a line: `size N`, `op A B`, `step S T`, `open W` or `put W`, which ends
@@ -169,10 +168,9 @@ static ITEMS: [Entry; 6] = [
 ];
 
 #[test]
-fn reads_items(rt: HostRuntime) -> Result<(), Fail> {
-    let items = read_items(rt.alloc(), &Example, TEXT)?;
+fn reads_items(rt: HostRuntime) {
+    let items = read_items(rt.alloc(), &Example, TEXT).expect(&rt, "no items");
     assert!(rt; items.as_slice() == ITEMS.as_slice());
-    Ok(())
 }
 
 /// Texts of the grammar, and their first faults with the lines of these.
@@ -233,15 +231,26 @@ fn names_the_first_fault(rt: HostRuntime) {
 
 static WORDS: [&[u8]; 4] = [b"object", b"undo", b"intentions", b"a:1"];
 
+/// Whether words are kinds, as they are to be.
+fn kinds_are_read() -> bool {
+    (kind_at(&WORDS, 1) == Ok(Kind::Undo))
+        & (kind_at(&WORDS, 2) == Ok(Kind::Intentions))
+        & (kind_at(&WORDS, 3) == Err(FaultKind::UnknownWord))
+}
+
+fn names_are_read() -> bool {
+    (name_at(&WORDS, 3).ok() == Name::new("a:1")) & name_at(&WORDS, 4).is_err()
+}
+
+fn numbers_are_read() -> bool {
+    (number_of(b"9999999") == Some(9_999_999))
+        & (number_of(b"0") == Some(0))
+        & (number_of(b"00") == None)
+}
+
 #[test]
 fn reads_words(rt: HostRuntime) {
-    assert!(rt;
-        (kind_at(&WORDS, 1) == Ok(Kind::Undo)) & (kind_at(&WORDS, 2) == Ok(Kind::Intentions))
-    );
-    assert!(rt; kind_at(&WORDS, 3) == Err(FaultKind::UnknownWord));
-    assert!(rt; (name_at(&WORDS, 3).ok() == Name::new("a:1")) & name_at(&WORDS, 4).is_err());
-    assert!(rt; (number_of(b"9999999") == Some(9_999_999)) & (number_of(b"0") == Some(0)));
-    assert!(rt; number_of(b"00") == None);
+    assert!(rt; kinds_are_read() & names_are_read() & numbers_are_read());
 }
 
 /// The kinds of faults, their numbers, and their texts.
@@ -259,24 +268,21 @@ static KINDS: [(FaultKind, u8, &str); 11] = [
     (FaultKind::NoMemory, 11, "line 12: NoMemory"),
 ];
 
-/// How a fault of this kind at line 12 is printed.
-fn printed(alloc: Global, kind: FaultKind) -> Result<String, AllocError> {
-    TextFault { line: 12, kind }.to_string(alloc)
+/// That a fault of this kind at line 12 is printed so.
+fn is_printed(rt: &(impl Abort + AllocGlobal), kind: FaultKind, wanted: &str) {
+    let text = TextFault { line: 12, kind }.to_string(rt.alloc());
+    assert!(rt; text.expect(rt, "no memory").as_str() == wanted);
 }
 
 /// That each kind has its number, and is printed so.
-fn are_numbered_and_printed(
-    rt: &(impl Abort + AllocGlobal),
-    rows: &[(FaultKind, u8, &str)],
-) -> Result<(), Fail> {
+fn are_numbered_and_printed(rt: &(impl Abort + AllocGlobal), rows: &[(FaultKind, u8, &str)]) {
     for (kind, number, wanted) in rows {
         assert!(rt; *kind as u8 == *number);
-        assert!(rt; printed(rt.alloc(), *kind)?.as_str() == *wanted);
+        is_printed(rt, *kind, wanted);
     }
-    Ok(())
 }
 
 #[test]
-fn prints_faults(rt: HostRuntime) -> Result<(), Fail> {
-    are_numbered_and_printed(&rt, &KINDS)
+fn prints_faults(rt: HostRuntime) {
+    are_numbered_and_printed(&rt, &KINDS);
 }

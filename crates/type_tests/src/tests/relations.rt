@@ -1,11 +1,10 @@
 //! Relations over states, and which of them are simulations.
 
-ghost use Rattle.std.specs.Prelude.{◌≡◌, ◌<◌, ◌≤◌, length, IfOk};
+ghost use Rattle.std.specs.Prelude.{◌≡◌, ◌<◌, ◌≤◌, length};
 
 use crate::tests::type_files::largest_table;
 use crate::tests::types::{Parts, good_table};
 use equi_cert::{CertFault, Relation, check_simulation};
-use std::alloc::{AllocError, Global};
 use std::process::Abort;
 use std::test::Fail;
 use test_support::printed::are_printed;
@@ -82,19 +81,17 @@ static TWIN_CASES: [Case; 3] = [
 ];
 
 /// The relation of these pairs and the equal ones.
-fn relation_of(alloc: Global, states: u16, pairs: &[(u16, u16)]) -> Result<Relation, Fail>
+fn relation_of(rt: &(impl Abort + AllocGlobal), states: u16, pairs: &[(u16, u16)]) -> Relation
     requires some_states { 0 < states }
     requires states_fit { states ≤ 1024 }
-    ensures { IfOk result (λ relation. length relation ≡ states) }
+    ensures { length result ≡ states }
 {
-    let mut relation = Relation::new(alloc, states)?;
+    let mut relation = Relation::new(rt.alloc(), states).expect(rt, "no memory");
     for (s, t) in pairs {
-        if *s >= states || *t >= states {
-            Err("no state")?;
-        }
+        assert!(rt; *s < states && *t < states);
         relation.add(*s, *t);
     }
-    Ok(relation)
+    relation
 }
 
 fn has(relation: &Relation, s: u16, t: u16) -> bool {
@@ -103,15 +100,20 @@ fn has(relation: &Relation, s: u16, t: u16) -> bool {
 }
 
 #[test]
-fn relations_begin_with_the_equal_pairs(rt: HostRuntime) -> Result<(), Fail> {
-    let relation = Relation::new(rt.alloc(), 9)?;
-    assert!(rt; relation.states() == 9);
+fn relations_begin_with_the_equal_pairs(rt: HostRuntime) {
+    let relation = Relation::new(rt.alloc(), 9).expect(&rt, "no memory");
+    assert!(rt; relation.states() == 9 && has_equal_pairs_alone(&relation));
+}
+
+/// Whether of the pairs of nine states the equal ones are there, and no other.
+fn has_equal_pairs_alone(relation: &Relation) -> bool {
+    let mut is_same = true;
     for s in 0..9 {
         for t in 0..9 {
-            assert!(rt; has(&relation, s, t) == (s == t));
+            is_same &= has(relation, s, t) == (s == t);
         }
     }
-    Ok(())
+    is_same
 }
 
 /// Pairs, and whether they are there after the first three were added.
@@ -135,11 +137,10 @@ fn has_pairs(rt: &impl Abort, relation: &Relation, rows: &[(u16, u16, bool)]) {
 }
 
 #[test]
-fn pairs_are_added(rt: HostRuntime) -> Result<(), Fail> {
+fn pairs_are_added(rt: HostRuntime) {
     let pairs = [(0, 1023), (1023, 0), (5, 64), (5, 64)];
-    let relation = relation_of(rt.alloc(), 1024, &pairs)?;
+    let relation = relation_of(&rt, 1024, &pairs);
     has_pairs(&rt, &relation, &PAIRS);
-    Ok(())
 }
 
 /// Pairs of three states, and whether they are in a copy that was made before the second was added.
@@ -149,72 +150,75 @@ static COPIED: [(u16, u16, bool); 2] = [(0, 1, true), (1, 2, false)];
 static ADDED: [(u16, u16, bool); 2] = [(0, 1, true), (1, 2, true)];
 
 #[test]
-fn copies_keep_their_pairs(rt: HostRuntime) -> Result<(), Fail> {
-    let mut relation = relation_of(rt.alloc(), 3, &[(0, 1)])?;
-    let copy = relation.copy(rt.alloc())?;
+fn copies_keep_their_pairs(rt: HostRuntime) {
+    let mut relation = relation_of(&rt, 3, &[(0, 1)]);
+    let copy = relation.copy(rt.alloc()).expect(&rt, "no memory");
     relation.add(1, 2);
     assert!(rt; copy.states() == 3);
     has_pairs(&rt, &copy, &COPIED);
     has_pairs(&rt, &relation, &ADDED);
-    Ok(())
 }
 
 /// What is wrong with the relation of these pairs and the equal ones.
 fn fault_of(
-    alloc: Global,
+    rt: &(impl Abort + AllocGlobal),
     table: &TypeTable,
     pairs: &[(u16, u16)],
-) -> Result<Option<CertFault>, Fail> {
-    let relation = relation_of(alloc, table.states(), pairs)?;
-    Ok(check_simulation(table, &relation).err())
+) -> Option<CertFault> {
+    let relation = relation_of(rt, table.states(), pairs);
+    check_simulation(table, &relation).err()
 }
 
 /// That these are the faults of relations over a table.
-fn have_faults(
-    rt: &(impl Abort + AllocGlobal),
-    table: &TypeTable,
-    cases: &[Case],
-) -> Result<(), Fail> {
+fn have_faults(rt: &(impl Abort + AllocGlobal), table: &TypeTable, cases: &[Case]) {
     for (pairs, fault) in cases {
-        assert!(rt; fault_of(rt.alloc(), table, pairs)? == *fault);
+        assert!(rt; fault_of(rt, table, pairs) == *fault);
     }
-    Ok(())
 }
 
 #[test]
-fn simulations_are_told_from_other_relations(rt: HostRuntime) -> Result<(), Fail> {
-    let table = good_table(rt.alloc(), "oneway", &ONE_WAY)?;
-    have_faults(&rt, &table, &ONE_WAY_CASES)
+fn simulations_are_told_from_other_relations(rt: HostRuntime) {
+    let table = good_table(&rt, "oneway", &ONE_WAY);
+    have_faults(&rt, &table, &ONE_WAY_CASES);
 }
 
 #[test]
-fn states_that_allow_the_same_are_related_both_ways(rt: HostRuntime) -> Result<(), Fail> {
-    let table = good_table(rt.alloc(), "twin", &TWIN)?;
-    have_faults(&rt, &table, &TWIN_CASES)
+fn states_that_allow_the_same_are_related_both_ways(rt: HostRuntime) {
+    let table = good_table(&rt, "twin", &TWIN);
+    have_faults(&rt, &table, &TWIN_CASES);
 }
 
 /// Each of the first of 1,024 states with the next one, in a circle.
-fn neighbours(alloc: Global, count: u16) -> Result<Vec<(u16, u16)>, AllocError> {
-    let mut pairs = Vec::new(alloc);
+fn neighbours(rt: &(impl Abort + AllocGlobal), count: u16) -> Vec<(u16, u16)> {
+    let mut pairs = Vec::new(rt.alloc());
     for s in 0..count {
-        pairs.push((s, (s % 1024 + 1) % 1024))?;
+        pairs
+            .push((s, (s % 1024 + 1) % 1024))
+            .expect(rt, "no memory");
     }
-    Ok(pairs)
+    pairs
 }
 
+/// How many states of the largest type are related with the next one, and the fault of that.
+static NEIGHBOURS: [(u16, Option<CertFault>); 2] = [
+    (1024, None),
+    (
+        1023,
+        Some(CertFault {
+            s: 960,
+            t: 961,
+            k: 63,
+        }),
+    ),
+];
+
 #[test]
-fn largest_types_are_checked(rt: HostRuntime) -> Result<(), Fail> {
-    let table = largest_table(rt.alloc())?;
-    let all = neighbours(rt.alloc(), 1024)?;
-    assert!(rt; fault_of(rt.alloc(), &table, &all)? == None);
-    let fewer = neighbours(rt.alloc(), 1023)?;
-    let last = CertFault {
-        s: 960,
-        t: 961,
-        k: 63,
-    };
-    assert!(rt; fault_of(rt.alloc(), &table, &fewer)? == Some(last));
-    Ok(())
+fn largest_types_are_checked(rt: HostRuntime) {
+    let table = largest_table(&rt);
+    for (count, fault) in &NEIGHBOURS {
+        let pairs = neighbours(&rt, *count);
+        assert!(rt; fault_of(&rt, &table, &pairs) == *fault);
+    }
 }
 
 #[test]

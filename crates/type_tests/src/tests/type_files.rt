@@ -8,7 +8,6 @@ use crate::tests::types;
 use std::alloc::{AllocError, Global};
 use std::fmt::Write;
 use std::process::Abort;
-use std::test::Fail;
 use test_support::texts::add_step;
 use type_table::TypeTable;
 use type_text::*;
@@ -111,17 +110,23 @@ static FAULTS: [(usize, &[u8], usize, FaultKind); 47] = [
 ];
 
 /// The counter's text with other bytes in place of a line, which counts from 1.
-fn counter_with(alloc: Global, line: usize, bytes: &[u8]) -> Result<Vec<u8>, AllocError> {
-    let mut text = Vec::new(alloc);
+fn counter_with(rt: &(impl Abort + AllocGlobal), line: usize, bytes: &[u8]) -> Vec<u8> {
+    let mut text = Vec::new(rt.alloc());
     for (place, here) in COUNTER.iter().enumerate() {
-        text.extend_from_slice(if place + 1 == line { bytes } else { here })?;
+        let bytes = if place + 1 == line { bytes } else { here };
+        text.extend_from_slice(bytes).expect(rt, "no memory");
     }
-    Ok(text)
+    text
 }
 
 /// The counter's text.
-fn counter_text(alloc: Global) -> Result<Vec<u8>, AllocError> {
-    counter_with(alloc, 0, b"")
+fn counter_text(rt: &(impl Abort + AllocGlobal)) -> Vec<u8> {
+    counter_with(rt, 0, b"")
+}
+
+/// The file of a text that has no fault.
+pub fn file_of(rt: &(impl Abort + AllocGlobal), text: &[u8]) -> TypeFile {
+    read_type(rt.alloc(), text).expect(rt, "a fault")
 }
 
 /// The fault that the reader names.
@@ -165,114 +170,140 @@ fn has_conflicts(file: &TypeFile) -> bool
 
 /// That this is the file of the counter.
 fn is_counter(rt: &impl Abort, file: &TypeFile) {
-    types::assert_parts(rt, &file.table, "counter", &types::COUNTER);
+    assert!(rt; types::has_parts(&file.table, "counter", &types::COUNTER));
     assert!(rt; file.table.states() == 3 && has_all_states(file));
     assert!(rt; file.table.op_count() == 2 && has_conflicts(file));
 }
 
+/// The canonical text of a file.
+fn written(rt: &(impl Abort + AllocGlobal), file: &TypeFile) -> Vec<u8> {
+    let mut out = Sink::new(Vec::new(rt.alloc()));
+    write_type(file, &mut out).expect(rt, "not written");
+    out.into_inner()
+}
+
+/// That a file is written so.
+pub fn is_written(rt: &(impl Abort + AllocGlobal), file: &TypeFile, wanted: &[u8]) {
+    assert!(rt; written(rt, file).as_slice() == wanted);
+}
+
 #[test]
-fn reads_the_counter(rt: HostRuntime) -> Result<(), Fail> {
-    let text = counter_text(rt.alloc())?;
-    is_counter(&rt, &read_type(rt.alloc(), &text)?);
-    Ok(())
+fn reads_the_counter(rt: HostRuntime) {
+    let text = counter_text(&rt);
+    is_counter(&rt, &file_of(&rt, &text));
 }
 
 /// That the counter with each of these lines has its fault.
-fn have_faults(
-    rt: &(impl Abort + AllocGlobal),
-    rows: &[(usize, &[u8], usize, FaultKind)],
-) -> Result<(), Fail> {
+fn have_faults(rt: &(impl Abort + AllocGlobal), rows: &[(usize, &[u8], usize, FaultKind)]) {
     for (place, bytes, line, kind) in rows {
-        let text = counter_with(rt.alloc(), *place, bytes)?;
+        let text = counter_with(rt, *place, bytes);
         has_fault(rt, &text, *line, *kind);
     }
-    Ok(())
 }
 
 #[test]
-fn names_each_fault_and_its_line(rt: HostRuntime) -> Result<(), Fail> {
-    have_faults(&rt, &FAULTS)
+fn names_each_fault_and_its_line(rt: HostRuntime) {
+    have_faults(&rt, &FAULTS);
 }
 
 /// The bytes of the longest comment.
 static LONG: [u8; 200] = [b'#'; 200];
 
 /// The counter's text behind a comment of 200 bytes and these.
-fn commented(alloc: Global, more: &[u8]) -> Result<Vec<u8>, AllocError> {
-    let mut text = LONG.to_vec(alloc)?;
-    text.extend_from_slice(more)?;
-    text.push(b'\n')?;
-    text.extend_from_slice(&counter_text(alloc)?)?;
-    Ok(text)
+fn commented(rt: &(impl Abort + AllocGlobal), more: &[u8]) -> Vec<u8> {
+    let counter = counter_text(rt);
+    let parts: [&[u8]; 4] = [&LONG, more, b"\n", &counter];
+    let mut text = Vec::new(rt.alloc());
+    for part in &parts {
+        text.extend_from_slice(part).expect(rt, "no memory");
+    }
+    text
 }
 
 #[test]
-fn comments_have_200_bytes_at_most(rt: HostRuntime) -> Result<(), Fail> {
-    assert!(rt; fault_of(rt.alloc(), &commented(rt.alloc(), b"")?) == None);
-    let text = commented(rt.alloc(), b"#")?;
-    has_fault(&rt, &text, 1, FaultKind::LineTooLong);
-    Ok(())
+fn comments_have_200_bytes_at_most(rt: HostRuntime) {
+    assert!(rt; fault_of(rt.alloc(), &commented(&rt, b"")) == None);
+    has_fault(&rt, &commented(&rt, b"#"), 1, FaultKind::LineTooLong);
 }
 
 /// Each beginning of the counter's text has a fault: what is missing, or that a line has no end.
 #[test]
-fn beginnings_have_their_faults(rt: HostRuntime) -> Result<(), Fail> {
-    let text = counter_text(rt.alloc())?;
+fn beginnings_have_their_faults(rt: HostRuntime) {
+    let text = counter_text(&rt);
     assert!(rt; text.len() == 188);
+    let line = last_of_beginnings(&rt, &text);
+    assert!(rt; line == 15);
+}
+
+/// The same of a text: the line behind its last one.
+fn last_of_beginnings(rt: &(impl Abort + AllocGlobal), text: &[u8]) -> usize {
     let mut line = 1usize;
     let mut kind = FaultKind::Missing;
     for (place, byte) in text.iter().enumerate() {
-        has_fault(&rt, &text[..place], line, kind);
+        has_fault(rt, &text[..place], line, kind);
         kind = FaultKind::Unterminated;
         if *byte == b'\n' {
             line = line.wrapping_add(1);
             kind = FaultKind::Missing;
         }
     }
-    assert!(rt; line == 15);
-    Ok(())
+    line
 }
 
 /// The text with each byte replaced by one that isn't ASCII has a fault in that byte's line.
 #[test]
-fn other_bytes_have_their_faults(rt: HostRuntime) -> Result<(), Fail> {
-    let mut text = counter_text(rt.alloc())?;
+fn other_bytes_have_their_faults(rt: HostRuntime) {
+    let mut text = counter_text(&rt);
+    let line = last_of_others(&rt, &mut text);
+    assert!(rt; line == 15);
+}
+
+/// The same of a text: the line behind its last one.
+fn last_of_others(rt: &(impl Abort + AllocGlobal), text: &mut [u8]) -> usize {
     let mut line = 1usize;
     for place in 0..text.len() {
         let byte = text[place];
         text[place] = 128;
-        has_fault(&rt, &text, line, FaultKind::NotAscii);
+        has_fault(rt, text, line, FaultKind::NotAscii);
         text[place] = byte;
         if byte == b'\n' {
             line = line.wrapping_add(1);
         }
     }
-    assert!(rt; line == 15);
-    Ok(())
+    line
 }
 
 /// A text of 1,024 states and so many operations, with a step of each operation in each state.
-fn full_text(alloc: Global, ops: u32) -> Result<String, AllocError> {
-    let mut text = String::new(alloc);
+fn full_text(rt: &(impl Abort + AllocGlobal), ops: u32) -> String {
+    let mut text = String::new(rt.alloc());
+    put_full(&mut text, ops).expect(rt, "no memory");
+    text
+}
+
+fn put_full(text: &mut String, ops: u32) -> Result<(), AllocError> {
     text.push_str("type full\nstates 1024\ninitial 1023\n")?;
     for k in 0..ops {
         write!(text, "op p:{k} ok\n")?;
     }
     for s in 0..1024u32 {
-        for k in 0..ops {
-            let next = (s + k % 64) % 1024;
-            add_step(&mut text, s, k, next)?;
-        }
+        put_steps(text, ops, s)?;
     }
-    text.push_str("end\n")?;
-    Ok(text)
+    text.push_str("end\n")
+}
+
+/// The steps of a state, each of which leads as many states on as its operation's number says, in a
+/// circle.
+fn put_steps(text: &mut String, ops: u32, s: u32) -> Result<(), AllocError> {
+    for k in 0..ops {
+        add_step(text, s, k, (s % 1024 + k % 64) % 1024)?;
+    }
+    Ok(())
 }
 
 /// The table of 1,024 states and 64 operations, of which operation k leads k states on, in a circle.
-pub fn largest_table(alloc: Global) -> Result<TypeTable, Fail> {
-    let text = full_text(alloc, 64)?;
-    let file = read_type(alloc, text.as_bytes())?;
-    Ok(file.table)
+pub fn largest_table(rt: &(impl Abort + AllocGlobal)) -> TypeTable {
+    let text = full_text(rt, 64);
+    file_of(rt, text.as_bytes()).table
 }
 
 /// Whether each operation of a table of 1,024 states and 64 operations leads as many states on as its
@@ -292,16 +323,14 @@ fn is_circle(table: &TypeTable) -> bool
 }
 
 #[test]
-fn reads_the_largest_table(rt: HostRuntime) -> Result<(), Fail> {
-    let table = largest_table(rt.alloc())?;
-    assert!(rt; table.initial() == 1023);
-    assert!(rt; table.states() == 1024 && table.op_count() == 64 && is_circle(&table));
-    Ok(())
+fn reads_the_largest_table(rt: HostRuntime) {
+    let table = largest_table(&rt);
+    assert!(rt; table.initial() == 1023 && table.states() == 1024);
+    assert!(rt; table.op_count() == 64 && is_circle(&table));
 }
 
 #[test]
-fn takes_64_operations_at_most(rt: HostRuntime) -> Result<(), Fail> {
-    let text = full_text(rt.alloc(), 65)?;
+fn takes_64_operations_at_most(rt: HostRuntime) {
+    let text = full_text(&rt, 65);
     has_fault(&rt, text.as_bytes(), 68, FaultKind::OutOfRange);
-    Ok(())
 }

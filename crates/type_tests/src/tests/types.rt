@@ -1,6 +1,5 @@
 //! Names, operations, tables, and sets of states and of conflicts.
 
-use std::alloc::Global;
 use std::collections::HashSet;
 use std::process::Abort;
 use std::test::Fail;
@@ -32,40 +31,45 @@ static QUEUE: Parts = (
     &[Some(0), Some(0), None],
 );
 
-pub fn op_of(call: &str, reply: &str) -> Result<Op, Fail> {
-    let call = Name::new(call).ok_or("no name")?;
-    let reply = Name::new(reply).ok_or("no name")?;
-    Ok(Op { call, reply })
+fn name_of(rt: &impl Abort, text: &str) -> Name {
+    Name::new(text).expect(rt, "no name")
 }
 
-fn ops_of(alloc: Global, rows: &[(&str, &str)]) -> Result<Vec<Op>, Fail> {
-    let mut ops = Vec::new(alloc);
-    for (call, reply) in rows {
-        ops.push(op_of(call, reply)?)?;
+fn op_of(rt: &impl Abort, call: &str, reply: &str) -> Op {
+    Op {
+        call: name_of(rt, call),
+        reply: name_of(rt, reply),
     }
-    Ok(ops)
+}
+
+fn ops_of(rt: &(impl Abort + AllocGlobal), rows: &[(&str, &str)]) -> Vec<Op> {
+    let mut ops = Vec::new(rt.alloc());
+    for (call, reply) in rows {
+        ops.push(op_of(rt, call, reply)).expect(rt, "no memory");
+    }
+    ops
 }
 
 /// The table of these parts, or what is wrong with them.
-pub fn table_of(
-    alloc: Global,
+fn table_of(
+    rt: &(impl Abort + AllocGlobal),
     name: &str,
     parts: &Parts,
-) -> Result<Result<TypeTable, TableError>, Fail> {
+) -> Result<TypeTable, TableError> {
     let (states, initial, ops, steps) = *parts;
-    let name = Name::new(name).ok_or("no name")?;
-    let ops = ops_of(alloc, ops)?;
-    let steps = Vec::from_slice(alloc, steps)?;
-    Ok(TypeTable::new(name, states, initial, ops, steps))
+    let ops = ops_of(rt, ops);
+    let steps = Vec::from_slice(rt.alloc(), steps).expect(rt, "no memory");
+    TypeTable::new(name_of(rt, name), states, initial, ops, steps)
 }
 
-/// That a table has this name and these parts.
-pub fn assert_parts(rt: &impl Abort, table: &TypeTable, name: &str, parts: &Parts) {
+/// Whether a table has this name and these parts.
+pub fn has_parts(table: &TypeTable, name: &str, parts: &Parts) -> bool {
     let (states, initial, ops, steps) = *parts;
-    assert!(rt; table.name().as_bytes() == name.as_bytes());
-    assert!(rt; (table.states() == states) & (table.initial() == initial));
-    assert!(rt; has_ops(table, ops));
-    assert!(rt; has_steps(table, steps));
+    (table.name().as_bytes() == name.as_bytes())
+        & (table.states() == states)
+        & (table.initial() == initial)
+        & has_ops(table, ops)
+        & has_steps(table, steps)
 }
 
 /// Whether these are the operations of a table.
@@ -73,10 +77,13 @@ fn has_ops(table: &TypeTable, ops: &[(&str, &str)]) -> bool {
     let mut is_same = usize::from(table.op_count()) == ops.len();
     is_same &= table.ops().len() == ops.len();
     for (op, (call, reply)) in table.ops().iter().zip(ops) {
-        is_same &= op.call.as_bytes() == call.as_bytes();
-        is_same &= op.reply.as_bytes() == reply.as_bytes();
+        is_same &= is_named(&op.call, call) & is_named(&op.reply, reply);
     }
     is_same
+}
+
+fn is_named(name: &Name, text: &str) -> bool {
+    name.as_bytes() == text.as_bytes()
 }
 
 /// Whether these are its steps, state by state.
@@ -138,32 +145,31 @@ static IN_SET: [(&str, &str, bool); 3] = [
 ];
 
 /// That each of these operations is in a set, or not.
-fn are_in(rt: &impl Abort, ops: &HashSet<Op>, rows: &[(&str, &str, bool)]) -> Result<(), Fail> {
+fn are_in(rt: &impl Abort, ops: &HashSet<Op>, rows: &[(&str, &str, bool)]) {
     for (call, reply, is_there) in rows {
-        let op = op_of(call, reply)?;
+        let op = op_of(rt, call, reply);
         assert!(rt; ops.contains(&op) == *is_there);
     }
-    Ok(())
 }
 
 #[test]
-fn operations_are_found_by_their_bytes(rt: HostRuntime) -> Result<(), Fail> {
+fn operations_are_found_by_their_bytes(rt: HostRuntime) {
     let mut ops = HashSet::new(rt.alloc());
-    ops.insert(op_of("deq", "a")?)?;
-    are_in(&rt, &ops, &IN_SET)
+    ops.insert(op_of(&rt, "deq", "a")).expect(&rt, "no memory");
+    are_in(&rt, &ops, &IN_SET);
 }
 
 /// The table of these parts.
-pub fn good_table(alloc: Global, name: &str, parts: &Parts) -> Result<TypeTable, Fail> {
-    Ok(table_of(alloc, name, parts)??)
+pub fn good_table(rt: &(impl Abort + AllocGlobal), name: &str, parts: &Parts) -> TypeTable {
+    table_of(rt, name, parts).expect(rt, "no table")
 }
 
 #[test]
-fn counter_and_its_copy_have_their_parts(rt: HostRuntime) -> Result<(), Fail> {
-    let table = good_table(rt.alloc(), "counter", &COUNTER)?;
-    assert_parts(&rt, &table, "counter", &COUNTER);
-    assert_parts(&rt, &table.copy(rt.alloc())?, "counter", &COUNTER);
-    Ok(())
+fn counter_and_its_copy_have_their_parts(rt: HostRuntime) {
+    let table = good_table(&rt, "counter", &COUNTER);
+    assert!(rt; has_parts(&table, "counter", &COUNTER));
+    let copy = table.copy(rt.alloc()).expect(&rt, "no memory");
+    assert!(rt; has_parts(&copy, "counter", &COUNTER));
 }
 
 /// A state, operations that are run from it in turn, and where they lead.
@@ -178,16 +184,15 @@ static RUNS: [(u16, &[u8], Option<u16>); 5] = [
 /// That each of these runs leads there.
 fn runs_lead(rt: &impl Abort, table: &TypeTable, rows: &[(u16, &[u8], Option<u16>)]) {
     for (s, ops, wanted) in rows {
-        assert!(rt; *s < table.states() && ops.iter().all(|k| *k < table.op_count()));
-        assert!(rt; table.run(*s, ops) == *wanted);
+        let are_there = *s < table.states() && ops.iter().all(|k| *k < table.op_count());
+        assert!(rt; are_there && table.run(*s, ops) == *wanted);
     }
 }
 
 #[test]
-fn counter_runs(rt: HostRuntime) -> Result<(), Fail> {
-    let table = good_table(rt.alloc(), "counter", &COUNTER)?;
+fn counter_runs(rt: HostRuntime) {
+    let table = good_table(&rt, "counter", &COUNTER);
     runs_lead(&rt, &table, &RUNS);
-    Ok(())
 }
 
 /// Names of calls, and their first operations in the queue.
@@ -206,17 +211,16 @@ static CALLS: [(u8, u8, bool); 4] = [(1, 2, true), (2, 1, true), (0, 0, true), (
 /// That each two of these operations are of one call, or not.
 fn are_of_one_call(rt: &impl Abort, table: &TypeTable, rows: &[(u8, u8, bool)]) {
     for (k, c, is_same) in rows {
-        assert!(rt; *k < table.op_count() && *c < table.op_count());
-        assert!(rt; table.same_call(*k, *c) == *is_same);
+        let are_there = *k < table.op_count() && *c < table.op_count();
+        assert!(rt; are_there && table.same_call(*k, *c) == *is_same);
     }
 }
 
 #[test]
-fn calls_have_a_first_operation(rt: HostRuntime) -> Result<(), Fail> {
-    let queue = good_table(rt.alloc(), "queue", &QUEUE)?;
+fn calls_have_a_first_operation(rt: HostRuntime) {
+    let queue = good_table(&rt, "queue", &QUEUE);
     have_first(&rt, &queue, &FIRSTS);
     are_of_one_call(&rt, &queue, &CALLS);
-    Ok(())
 }
 
 /// Parts of a table, and what is wrong with them. Of two faults the earlier one is named.
@@ -254,20 +258,15 @@ static FAULTS: [(Parts, Option<TableError>); 12] = [
 ];
 
 /// That each of these parts have their fault.
-fn have_faults(
-    rt: &(impl Abort + AllocGlobal),
-    rows: &[(Parts, Option<TableError>)],
-) -> Result<(), Fail> {
+fn have_faults(rt: &(impl Abort + AllocGlobal), rows: &[(Parts, Option<TableError>)]) {
     for (parts, fault) in rows {
-        let made = table_of(rt.alloc(), "made", parts)?;
-        assert!(rt; made.err() == *fault);
+        assert!(rt; table_of(rt, "made", parts).err() == *fault);
     }
-    Ok(())
 }
 
 #[test]
-fn faults_come_in_order(rt: HostRuntime) -> Result<(), Fail> {
-    have_faults(&rt, &FAULTS)
+fn faults_come_in_order(rt: HostRuntime) {
+    have_faults(&rt, &FAULTS);
 }
 
 #[test]
@@ -309,8 +308,9 @@ fn is_in_row(table: &ConflictTable, p: u8, q: u8) -> bool {
 fn conflict_as_told(rt: &impl Abort, table: &ConflictTable, rows: &[(u8, u8, bool)]) {
     assert!(rt; table.ops() == 64);
     for (p, q, is_there) in rows {
-        assert!(rt; conflicts_at(table, *p, *q) == *is_there);
-        assert!(rt; is_in_row(table, *p, *q) == *is_there);
+        assert!(rt;
+            (conflicts_at(table, *p, *q) == *is_there) & (is_in_row(table, *p, *q) == *is_there)
+        );
     }
 }
 

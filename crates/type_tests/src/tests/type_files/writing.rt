@@ -1,11 +1,9 @@
 //! What is written of a type file, and what is read of it again.
 
-use super::{counter_text, counter_with};
-use std::alloc::Global;
+use super::{counter_text, counter_with, file_of, is_written};
 use std::process::Abort;
-use std::test::Fail;
 use test_support::sinks::{AtEnd, narrow_sink};
-use type_text::{OutFault, Sink, TypeFile, read_type, write_type};
+use type_text::{OutFault, TypeFile, write_type};
 
 /// A type of three states. No run comes to state 1 or 2.
 static IDLE: &[u8] = b"type idle
@@ -94,51 +92,33 @@ static LINES: [(usize, &[u8], &[u8]); 6] = [
     ),
 ];
 
-/// The canonical text of a file.
-fn written(alloc: Global, file: &TypeFile) -> Result<Vec<u8>, OutFault> {
-    let mut out = Sink::new(Vec::new(alloc));
-    write_type(file, &mut out)?;
-    Ok(out.into_inner())
-}
-
-/// That a file is written so.
-fn is_written(rt: &(impl Abort + AllocGlobal), file: &TypeFile, wanted: &[u8]) -> Result<(), Fail> {
-    assert!(rt; written(rt.alloc(), file)?.as_slice() == wanted);
-    Ok(())
-}
-
 /// That the file of a text, and a copy of it, are written so.
-fn is_written_as(rt: &(impl Abort + AllocGlobal), text: &[u8], wanted: &[u8]) -> Result<(), Fail> {
-    let file = read_type(rt.alloc(), text)?;
-    is_written(rt, &file, wanted)?;
-    is_written(rt, &file.copy(rt.alloc())?, wanted)
+fn is_written_as(rt: &(impl Abort + AllocGlobal), text: &[u8], wanted: &[u8]) {
+    let file = file_of(rt, text);
+    is_written(rt, &file, wanted);
+    let copy = file.copy(rt.alloc()).expect(rt, "no memory");
+    is_written(rt, &copy, wanted);
 }
 
 /// That the counter with each of these lines is written so.
-fn are_written(
-    rt: &(impl Abort + AllocGlobal),
-    rows: &[(usize, &[u8], &[u8])],
-) -> Result<(), Fail> {
+fn are_written(rt: &(impl Abort + AllocGlobal), rows: &[(usize, &[u8], &[u8])]) {
     for (line, bytes, wanted) in rows {
-        let text = counter_with(rt.alloc(), *line, bytes)?;
-        let wanted = counter_with(rt.alloc(), *line, wanted)?;
-        is_written_as(rt, &text, &wanted)?;
+        let text = counter_with(rt, *line, bytes);
+        let wanted = counter_with(rt, *line, wanted);
+        is_written_as(rt, &text, &wanted);
     }
-    Ok(())
 }
 
 #[test]
-fn lines_are_written_canonically(rt: HostRuntime) -> Result<(), Fail> {
-    are_written(&rt, &LINES)
+fn lines_are_written_canonically(rt: HostRuntime) {
+    are_written(&rt, &LINES);
 }
 
 #[test]
-fn texts_are_written_canonically(rt: HostRuntime) -> Result<(), Fail> {
-    is_written_as(&rt, LOOSE, &counter_text(rt.alloc())?)?;
-    for text in [IDLE, ONE_WAY] {
-        is_written_as(&rt, text, text)?;
-    }
-    Ok(())
+fn texts_are_written_canonically(rt: HostRuntime) {
+    is_written_as(&rt, LOOSE, &counter_text(&rt));
+    is_written_as(&rt, IDLE, IDLE);
+    is_written_as(&rt, ONE_WAY, ONE_WAY);
 }
 
 /// That a writer with room for one line, which ends so, has it and stops the text by this fault.
@@ -149,9 +129,8 @@ fn stops(rt: &(impl Abort + AllocGlobal), file: &TypeFile, at_end: AtEnd, fault:
 }
 
 #[test]
-fn a_fault_stops_the_text(rt: HostRuntime) -> Result<(), Fail> {
-    let file = read_type(rt.alloc(), &counter_text(rt.alloc())?)?;
+fn a_fault_stops_the_text(rt: HostRuntime) {
+    let file = file_of(&rt, &counter_text(&rt));
     stops(&rt, &file, AtEnd::Fails, OutFault::Device);
     stops(&rt, &file, AtEnd::TakesNothing, OutFault::WroteNothing);
-    Ok(())
 }
