@@ -3,7 +3,6 @@
 ghost use Rattle.std.specs.Prelude.{None};
 
 use outputs::{Failed, Gathered, Out, OutFault, put};
-use std::test::Fail;
 
 /// An output that notes how large the pieces are that it is offered, and takes them whole.
 #[derive(Drop)]
@@ -43,8 +42,10 @@ const LINE: &[u8] = b"op 0 0 0 0\n";
 
 /// Of 220,000 bytes that are put line by line, each piece but the last has at least 65,536.
 #[test]
-fn lines_are_handed_on_in_large_pieces(rt: HostRuntime) -> Result<(), Fail> {
-    let mut out = Gathered::new(rt.alloc(), NONE_YET)?;
+fn lines_are_handed_on_in_large_pieces(rt: HostRuntime) {
+    let mut out = Gathered::new(rt.alloc(), NONE_YET)
+        .ok()
+        .expect(&rt, "no memory");
     for _ in 0..20_000 {
         assert!(rt; put(&mut out, LINE) == Ok(()));
     }
@@ -52,5 +53,4 @@ fn lines_are_handed_on_in_large_pieces(rt: HostRuntime) -> Result<(), Fail> {
     let sizes = out.into_inner();
     assert!(rt; 65_536 <= sizes.least && sizes.least < usize::MAX);
     assert!(rt; sizes.bytes == 220_000);
-    Ok(())
 }

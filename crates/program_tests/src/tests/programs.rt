@@ -1,6 +1,6 @@
 //! The whole program, from its words to what it writes.
 
-ghost use Rattle.std.specs.Prelude.{◌≡◌, None, IfOk};
+ghost use Rattle.std.specs.Prelude.{◌≡◌, None};
 ghost use Rattle.outputs.specs.Out.{sink_fault};
 
 mod audits;
@@ -108,11 +108,19 @@ impl Source for CaseFiles<'_> {
 /// An output over memory, which may take only so many bytes.
 type Held = Sink<Narrow>;
 
+/// What a part of a test made: where it failed, the test ends.
+fn made_of<R: Abort, T>(rt: &R, tried: Result<T, Fail>) -> T {
+    match tried {
+        Ok(value) => value,
+        Err(_) => panic!(rt; "a part of the test failed"),
+    }
+}
+
 /// An output with memory for all that it takes, and room for so many bytes.
-fn held_output(alloc: Global, room: usize, at_end: AtEnd) -> Result<Held, Fail>
-    ensures { IfOk result (λ out. sink_fault out ≡ None) }
+fn held_output(rt: &(impl Abort + AllocGlobal), room: usize, at_end: AtEnd) -> Held
+    ensures { sink_fault result ≡ None }
 {
-    Ok(sink_over(memory(alloc)?, 4096, room, at_end))
+    sink_over(made_of(rt, memory(rt.alloc())), 4096, room, at_end)
 }
 
 /// The words as the system gives them.
@@ -167,18 +175,18 @@ fn play_on<R: AllocGlobal + Threads + Wait + Sync>(
 }
 
 /// What it does with words over files, with outputs that take all.
-pub fn outcome_of<R: AllocGlobal + Threads + Wait + Sync, S: Source>(
+pub fn outcome_of<R: Abort + AllocGlobal + Threads + Wait + Sync, S: Source>(
     rt: &R,
     words: &[&str],
     source: &mut S,
-) -> Result<Played, Fail> {
-    let out = held_output(rt.alloc(), usize::MAX, AtEnd::Fails)?;
-    let err = held_output(rt.alloc(), usize::MAX, AtEnd::Fails)?;
-    Ok(play_over(rt, words, source, out, err))
+) -> Played {
+    let out = held_output(rt, usize::MAX, AtEnd::Fails);
+    let err = held_output(rt, usize::MAX, AtEnd::Fails);
+    play_over(rt, words, source, out, err)
 }
 
 /// The same of a case.
-fn play<R: AllocGlobal + Threads + Wait + Sync>(rt: &R, case: &Case<'_>) -> Result<Played, Fail> {
+fn play<R: Abort + AllocGlobal + Threads + Wait + Sync>(rt: &R, case: &Case<'_>) -> Played {
     let mut source = CaseFiles {
         alloc: rt.alloc(),
         files: case.files,
@@ -188,27 +196,15 @@ fn play<R: AllocGlobal + Threads + Wait + Sync>(rt: &R, case: &Case<'_>) -> Resu
 
 /// That the program does what a case says. Where one allocation is refused, that is said, and the next
 /// try has it.
-fn plays<R: Abort + AllocGlobal + Threads + Wait + Sync>(
-    rt: &R,
-    case: &Case<'_>,
-) -> Result<(), Fail> {
-    let first = play(rt, case)?;
-    if first.is_of(case) {
-        return Ok(());
-    }
-    assert!(rt; first.wants_memory());
-    assert!(rt; play(rt, case)?.is_of(case));
-    Ok(())
+fn plays<R: Abort + AllocGlobal + Threads + Wait + Sync>(rt: &R, case: &Case<'_>) {
+    let first = play(rt, case);
+    assert!(rt; first.is_of(case) || first.wants_memory() && play(rt, case).is_of(case));
 }
 
-fn all_play<R: Abort + AllocGlobal + Threads + Wait + Sync>(
-    rt: &R,
-    cases: &[Case<'_>],
-) -> Result<(), Fail> {
+fn all_play<R: Abort + AllocGlobal + Threads + Wait + Sync>(rt: &R, cases: &[Case<'_>]) {
     for case in cases {
-        plays(rt, case)?;
+        plays(rt, case);
     }
-    Ok(())
 }
 
 /// The cases of runs and audits.
@@ -224,14 +220,13 @@ fn all_cases() -> [&'static [Case<'static>]; 6] {
 }
 
 #[test]
-fn runs_and_audits(rt: HostRuntime) -> Result<(), Fail> {
+fn runs_and_audits(rt: HostRuntime) {
     for cases in all_cases() {
-        all_play(&rt, cases)?;
+        all_play(&rt, cases);
     }
-    Ok(())
 }
 
 #[test]
-fn processes_over_memory(rt: HostRuntime) -> Result<(), Fail> {
-    all_play(&rt, &processes::CASES)
+fn processes_over_memory(rt: HostRuntime) {
+    all_play(&rt, &processes::CASES);
 }

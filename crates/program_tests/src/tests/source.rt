@@ -1,30 +1,29 @@
 use crate::tests::memory_source::MemorySource;
 use command_files::{FileSource, Source, SourceFault};
 use std::io::ErrorKind;
-use std::test::Fail;
 use std::{fs, io};
 
 #[test]
-fn reads_memory(rt: HostRuntime) -> Result<(), Fail> {
+fn reads_memory(rt: HostRuntime) {
     let content: &[u8] = b"states 3\n";
     let files = [("a.type", content)];
     let mut source = MemorySource {
         alloc: rt.alloc(),
         files: files.as_slice(),
     };
-    assert!(rt; source.bytes("a.type")?.as_slice() == content);
+    let bytes = source.bytes("a.type").expect(&rt, "no file");
+    assert!(rt; bytes.as_slice() == content);
     assert!(rt; source.bytes("b.type").err() == Some(SourceFault::CannotRead));
-    Ok(())
 }
 
 #[test]
-fn reads_files(rt: HostRuntime) -> Result<(), Fail> {
+fn reads_files(rt: HostRuntime) {
     let path = "source-test.type";
-    fs::write(&rt, path, "states 3\n")?;
+    fs::write(&rt, path, "states 3\n").expect(&rt, "not written");
     let mut source = FileSource { runtime: &rt };
-    assert!(rt; source.bytes(path)?.as_slice() == b"states 3\n".as_slice());
-    fs::remove_file(&rt, path)?;
-    Ok(())
+    let bytes = source.bytes(path).expect(&rt, "no file");
+    assert!(rt; bytes.as_slice() == b"states 3\n".as_slice());
+    fs::remove_file(&rt, path).expect(&rt, "not removed");
 }
 
 #[test]

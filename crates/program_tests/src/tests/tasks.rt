@@ -12,17 +12,16 @@ use command_files::Status;
 use command_words::Topic;
 use std::process::Abort;
 use std::sync::Wait;
-use std::test::Fail;
 use std::thread::Threads;
 use test_support::texts::changed;
 use test_support::type_texts::{COMMENTED, COUNTER, CUT, IDLE};
 
 /// What comes of these words where this text is at the path `ctr2.type`.
-fn run<R: AllocGlobal + Threads + Wait + Sync>(
+fn run<R: Abort + AllocGlobal + Threads + Wait + Sync>(
     rt: &R,
     words: &[&str],
     text: &[u8],
-) -> Result<Played, Fail> {
+) -> Played {
     let files = [("ctr2.type", text)];
     let mut source = MemorySource {
         alloc: rt.alloc(),
@@ -38,9 +37,8 @@ fn writes<R: Abort + AllocGlobal + Threads + Wait + Sync>(
     text: &[u8],
     out: &[u8],
     status: Status,
-) -> Result<(), Fail> {
-    assert!(rt; run(rt, words, text)?.is(status, out, ""));
-    Ok(())
+) {
+    assert!(rt; run(rt, words, text).is(status, out, ""));
 }
 
 /// That they say this of a fault, and write nothing else.
@@ -50,9 +48,13 @@ fn says<R: Abort + AllocGlobal + Threads + Wait + Sync>(
     text: &[u8],
     err: &str,
     status: Status,
-) -> Result<(), Fail> {
-    assert!(rt; run(rt, words, text)?.is(status, b"", err));
-    Ok(())
+) {
+    assert!(rt; run(rt, words, text).is(status, b"", err));
+}
+
+/// A text with one part in place of another.
+fn with_part(rt: &(impl Abort + AllocGlobal), whole: &str, old: &str, new: &[u8]) -> Vec<u8> {
+    changed(rt.alloc(), whole, old, new).expect(rt, "no memory")
 }
 
 /// A text, a part of it, what stands in place of that, and what a check says of the fault.
@@ -160,21 +162,17 @@ static FAULTS: [Fault; 18] = [
 ];
 
 /// That a check says each of these faults.
-fn answers_all<R: Abort + AllocGlobal + Threads + Wait + Sync>(
-    rt: &R,
-    faults: &[Fault],
-) -> Result<(), Fail> {
+fn answers_all<R: Abort + AllocGlobal + Threads + Wait + Sync>(rt: &R, faults: &[Fault]) {
     let words = ["check", "intentions", "ctr2.type"];
     for (whole, old, new, err) in faults {
-        let text = changed(rt.alloc(), whole, old, new)?;
-        says(rt, &words, &text, err, Status::BadInput)?;
+        let text = with_part(rt, whole, old, new);
+        says(rt, &words, &text, err, Status::BadInput);
     }
-    Ok(())
 }
 
 #[test]
-fn answers_faults(rt: HostRuntime) -> Result<(), Fail> {
-    answers_all(&rt, &FAULTS)
+fn answers_faults(rt: HostRuntime) {
+    answers_all(&rt, &FAULTS);
 }
 
 /// The words that ask for the text on a topic.
@@ -189,13 +187,16 @@ static HELP: [(&[&str], Topic); 8] = [
     (&["help", "stress"], Topic::Stress),
 ];
 
+/// That each of these words are answered with the text on their topic.
+fn writes_help<R: Abort + AllocGlobal + Threads + Wait + Sync>(rt: &R, rows: &[(&[&str], Topic)]) {
+    for (words, topic) in rows {
+        writes(rt, words, b"", topic.text().as_bytes(), Status::Yes);
+    }
+}
+
 #[test]
-fn writes_its_own_texts(rt: HostRuntime) -> Result<(), Fail> {
-    for (words, topic) in &HELP {
-        writes(&rt, words, b"", topic.text().as_bytes(), Status::Yes)?;
-    }
-    for word in ["--version", "-V"] {
-        writes(&rt, &[word], b"", b"colock 0.1.0\n", Status::Yes)?;
-    }
-    Ok(())
+fn writes_its_own_texts(rt: HostRuntime) {
+    writes_help(&rt, &HELP);
+    writes(&rt, &["--version"], b"", b"colock 0.1.0\n", Status::Yes);
+    writes(&rt, &["-V"], b"", b"colock 0.1.0\n", Status::Yes);
 }

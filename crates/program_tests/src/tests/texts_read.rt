@@ -7,7 +7,6 @@ use serial_order::Command;
 use std::alloc::{AllocError, Global};
 use std::fmt::Write;
 use std::process::Abort;
-use std::test::Fail;
 use type_table::Name;
 
 /// Which reader reads a text; that of jobs is told the number of workers.
@@ -414,36 +413,29 @@ fn texts_have_their_faults(rt: HostRuntime) {
     all_beginnings_have_faults(&rt, &TEXTS);
 }
 
-/// A text of so many objects, and its number of lines without `end`.
-fn objects_text(alloc: Global, limit: &str, count: u32) -> Result<String, AllocError> {
-    let mut text = String::new(alloc);
-    text.push_str(limit)?;
+/// A text of so many objects.
+fn objects_text(rt: &(impl Abort + AllocGlobal), limit: &str, count: u32) -> String {
+    let mut text = String::from_str(rt.alloc(), limit).expect(rt, "no memory");
     for file in 0..count {
-        write!(text, "object undo {}\n", file % 256)?;
+        write!(text, "object undo {}\n", file % 256).expect(rt, "no memory");
     }
-    text.push_str("end\n")?;
-    Ok(text)
+    text.push_str("end\n").expect(rt, "no memory");
+    text
 }
 
 /// That the reader takes 256 objects, and names the line of the next one.
-fn takes_256_objects(
-    rt: &(impl Abort + AllocGlobal),
-    reader: Reader,
-    limit: &str,
-    line: usize,
-) -> Result<(), Fail> {
-    let most = objects_text(rt.alloc(), limit, 256)?;
+fn takes_256_objects(rt: &(impl Abort + AllocGlobal), reader: Reader, limit: &str, line: usize) {
+    let most = objects_text(rt, limit, 256);
     assert!(rt; fault_of(rt.alloc(), reader, most.as_bytes()) == None);
-    let more = objects_text(rt.alloc(), limit, 257)?;
+    let more = objects_text(rt, limit, 257);
     has_fault(rt, reader, more.as_bytes(), line, FaultKind::OutOfRange);
-    Ok(())
 }
 
 #[test]
-fn texts_have_256_objects_at_most(rt: HostRuntime) -> Result<(), Fail> {
-    takes_256_objects(&rt, Reader::Script, "max 2\n", 258)?;
-    takes_256_objects(&rt, Reader::History, "", 257)?;
-    takes_256_objects(&rt, Reader::Jobs(1), "max 2\n", 258)
+fn texts_have_256_objects_at_most(rt: HostRuntime) {
+    takes_256_objects(&rt, Reader::Script, "max 2\n", 258);
+    takes_256_objects(&rt, Reader::History, "", 257);
+    takes_256_objects(&rt, Reader::Jobs(1), "max 2\n", 258);
 }
 
 /// The lines of the limit and of the objects.
@@ -476,17 +468,14 @@ fn put_command(text: &mut String, command: Command) -> Result<(), AllocError> {
     }
 }
 
-/// A script as its text.
-fn script_again(alloc: Global, script: &Script) -> Result<String, AllocError> {
-    let mut text = String::new(alloc);
-    put_objects(&mut text, script.max, &script.objects)?;
+fn put_script(text: &mut String, script: &Script) -> Result<(), AllocError> {
+    put_objects(text, script.max, &script.objects)?;
     for place in 0..script.commands.len() {
         if let Some(command) = script.commands.get(place) {
-            put_command(&mut text, command)?;
+            put_command(text, command)?;
         }
     }
-    text.push_str("end\n")?;
-    Ok(text)
+    text.push_str("end\n")
 }
 
 fn put_job(text: &mut String, worker: usize, job: &Job) -> Result<(), AllocError> {
@@ -498,34 +487,37 @@ fn put_job(text: &mut String, worker: usize, job: &Job) -> Result<(), AllocError
     Ok(())
 }
 
-/// Jobs as their text, with those of the first worker in front.
-fn jobs_again(alloc: Global, file: &JobsFile) -> Result<String, AllocError> {
-    let mut text = String::new(alloc);
-    put_objects(&mut text, file.max, &file.objects)?;
+/// Those of the first worker are in front.
+fn put_jobs(text: &mut String, file: &JobsFile) -> Result<(), AllocError> {
+    put_objects(text, file.max, &file.objects)?;
     for (worker, jobs) in file.jobs.iter().enumerate() {
         for job in jobs {
-            put_job(&mut text, worker, job)?;
+            put_job(text, worker, job)?;
         }
     }
-    text.push_str("end\n")?;
-    Ok(text)
+    text.push_str("end\n")
 }
 
 /// That a script is read of the text of which it is the value.
-fn says_its_script(rt: &(impl Abort + AllocGlobal), text: &[u8]) -> Result<(), Fail> {
-    let script = read_script(rt.alloc(), text)?;
-    assert!(rt; script_again(rt.alloc(), &script)?.as_bytes() == text);
-    Ok(())
+fn says_its_script(rt: &(impl Abort + AllocGlobal), text: &[u8]) {
+    let script = read_script(rt.alloc(), text).expect(rt, "a fault");
+    let mut again = String::new(rt.alloc());
+    put_script(&mut again, &script).expect(rt, "no memory");
+    assert!(rt; again.as_bytes() == text);
+}
+
+/// That the jobs of three workers are read of a text.
+fn says_the_jobs(rt: &(impl Abort + AllocGlobal), text: &[u8]) {
+    let file = read_jobs(rt.alloc(), text, 3).expect(rt, "a fault");
+    let mut again = String::new(rt.alloc());
+    put_jobs(&mut again, &file).expect(rt, "no memory");
+    assert!(rt; file.jobs.len() == 3 && again.as_bytes() == JOBS);
 }
 
 #[test]
-fn texts_say_their_values(rt: HostRuntime) -> Result<(), Fail> {
-    says_its_script(&rt, SCRIPT)?;
-    says_its_script(&rt, SHORT_SCRIPT)?;
-    for text in [JOBS, MIXED_JOBS] {
-        let file = read_jobs(rt.alloc(), text, 3)?;
-        assert!(rt; file.jobs.len() == 3);
-        assert!(rt; jobs_again(rt.alloc(), &file)?.as_bytes() == JOBS);
-    }
-    Ok(())
+fn texts_say_their_values(rt: HostRuntime) {
+    says_its_script(&rt, SCRIPT);
+    says_its_script(&rt, SHORT_SCRIPT);
+    says_the_jobs(&rt, JOBS);
+    says_the_jobs(&rt, MIXED_JOBS);
 }

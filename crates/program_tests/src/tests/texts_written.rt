@@ -8,9 +8,7 @@ use history_text::{
 };
 use object_trait::{Event, EventKind};
 use outputs::{Failed, Sink};
-use std::alloc::Global;
 use std::process::Abort;
-use std::test::Fail;
 use test_support::sinks::{AtEnd, narrow_sink};
 
 /// The history with comments and spaces, as a run of the program writes it and as one may write it by
@@ -37,27 +35,34 @@ end
 ";
 
 /// The canonical text of a file.
-fn written(alloc: Global, file: &HistoryFile) -> Result<Vec<u8>, OutFault> {
-    let mut out = Sink::new(Vec::new(alloc));
-    write_history(&file.objects, &file.events, &mut out)?;
-    Ok(out.into_inner())
+fn written(rt: &(impl Abort + AllocGlobal), file: &HistoryFile) -> Vec<u8> {
+    let mut out = Sink::new(Vec::new(rt.alloc()));
+    write_history(&file.objects, &file.events, &mut out).expect(rt, "not written");
+    out.into_inner()
+}
+
+/// The history of a text that has no fault.
+fn history_of(rt: &(impl Abort + AllocGlobal), text: &[u8]) -> HistoryFile {
+    read_history(rt.alloc(), text).expect(rt, "a fault")
+}
+
+fn are_same(file: &HistoryFile, other: &HistoryFile) -> bool {
+    file.objects.as_slice() == other.objects.as_slice()
+        && file.events.as_slice() == other.events.as_slice()
 }
 
 /// That the history of a text is written so, and that what is read of this is the history.
-fn is_written_as(rt: &(impl Abort + AllocGlobal), text: &[u8], wanted: &[u8]) -> Result<(), Fail> {
-    let file = read_history(rt.alloc(), text)?;
-    assert!(rt; written(rt.alloc(), &file)?.as_slice() == wanted);
-    let again = read_history(rt.alloc(), wanted)?;
-    assert!(rt; again.objects.as_slice() == file.objects.as_slice());
-    assert!(rt; again.events.as_slice() == file.events.as_slice());
-    Ok(())
+fn is_written_as(rt: &(impl Abort + AllocGlobal), text: &[u8], wanted: &[u8]) {
+    let file = history_of(rt, text);
+    assert!(rt; written(rt, &file).as_slice() == wanted);
+    assert!(rt; are_same(&history_of(rt, wanted), &file));
 }
 
 #[test]
-fn histories_are_written_and_read_again(rt: HostRuntime) -> Result<(), Fail> {
-    is_written_as(&rt, HISTORY, HISTORY)?;
-    is_written_as(&rt, HIGH_HISTORY, HIGH_HISTORY)?;
-    is_written_as(&rt, COMMENTED, HISTORY)
+fn histories_are_written_and_read_again(rt: HostRuntime) {
+    is_written_as(&rt, HISTORY, HISTORY);
+    is_written_as(&rt, HIGH_HISTORY, HIGH_HISTORY);
+    is_written_as(&rt, COMMENTED, HISTORY);
 }
 
 /// An output that counts the pieces that it is offered, and takes them whole.
@@ -97,11 +102,14 @@ const GREATEST: Event = Event {
 const GREATEST_LINE: &[u8] = b"busy 255 4294967295 4294967295 255 4294967295\n";
 
 #[test]
-fn an_event_is_one_piece(rt: HostRuntime) -> Result<(), Fail> {
+fn the_greatest_event_has_its_line(rt: HostRuntime) {
     let mut out = Sink::new(Vec::new(rt.alloc()));
     assert!(rt; write_event(&mut out, &GREATEST) == Ok(()));
     assert!(rt; out.into_inner().as_slice() == GREATEST_LINE);
-    let file = read_history(rt.alloc(), HISTORY)?;
+}
+
+/// That each event of a history is written in one piece, and its objects and events make its text.
+fn are_pieces(rt: &impl Abort, file: &HistoryFile, text: &[u8]) {
     let mut out = Counting {
         pieces: 0,
         bytes: 0,
@@ -113,8 +121,12 @@ fn an_event_is_one_piece(rt: HostRuntime) -> Result<(), Fail> {
     for object in &file.objects {
         assert!(rt; write_object(&mut out, object) == Ok(()));
     }
-    assert!(rt; out.bytes.wrapping_add(4) == HISTORY.len());
-    Ok(())
+    assert!(rt; out.bytes.wrapping_add(4) == text.len());
+}
+
+#[test]
+fn an_event_is_one_piece(rt: HostRuntime) {
+    are_pieces(&rt, &history_of(&rt, HISTORY), HISTORY);
 }
 
 /// That a writer with room for so many bytes holds these of the text, and stops it by this fault.
@@ -131,8 +143,8 @@ fn stops(
 }
 
 #[test]
-fn a_fault_stops_the_history(rt: HostRuntime) -> Result<(), Fail> {
-    let file = read_history(rt.alloc(), HISTORY)?;
+fn a_fault_stops_the_history(rt: HostRuntime) {
+    let file = history_of(&rt, HISTORY);
     for room in 0..HISTORY.len() {
         stops(&rt, &file, room, AtEnd::Fails, OutFault::Device);
         stops(
@@ -143,5 +155,4 @@ fn a_fault_stops_the_history(rt: HostRuntime) -> Result<(), Fail> {
             OutFault::WroteNothing,
         );
     }
-    Ok(())
 }

@@ -7,25 +7,23 @@ use super::deferred::BOTH_COMMIT;
 use super::in_place::{ONE_WAY_ORDER, TWO_DEQUEUES};
 use super::jobs::{ONE_WORKER, ONE_WORKER_DRAWN};
 use super::rollbacks::BOTH_KINDS;
-use super::{Case, NO_MEMORY, Played, checks, play};
+use super::{Case, NO_MEMORY, Played, checks, made_of, play};
 use command_files::Status;
 use reference_store::runs::{RunText, folded};
 use reference_store::work::{OneWorker, ROOMS, WorkText, written};
-use std::alloc::Global;
 use std::process::Abort;
 use std::sync::Wait;
-use std::test::Fail;
 use std::thread::Threads;
 
 /// Runs of canonical scripts, each of objects of one type.
 static RUNS: [Case<'static>; 4] = [ONE_WAY_ORDER, BOTH_COMMIT, TWO_DEQUEUES, BOTH_KINDS];
 
 /// What a slow fold writes of a run whose commands met the refused allocations that its text tells.
-fn fold_of(alloc: Global, case: &Case<'static>, written: &[u8]) -> Result<RunText, Fail> {
+fn fold_of(rt: &(impl Abort + AllocGlobal), case: &Case<'static>, written: &[u8]) -> RunText {
     let [(_, script), (_, text)] = case.files else {
-        return Err("no script of one type")?;
+        panic!(rt; "no script of one type");
     };
-    folded(alloc, script, &[*text], written)
+    made_of(rt, folded(rt.alloc(), script, &[*text], written))
 }
 
 /// Whether this is what the fold writes, or all of it but the audit, or nothing, where memory was refused.
@@ -39,60 +37,52 @@ fn is_folded(played: &Played, fold: &RunText) -> bool {
 
 /// That a run does what its fold does. Where that isn't what its case says, memory was refused, and
 /// the next try has it.
-fn run_folds<R: Abort + AllocGlobal + Threads + Wait + Sync>(
-    rt: &R,
-    case: &Case<'static>,
-) -> Result<(), Fail> {
-    let first = play(rt, case)?;
-    let fold = fold_of(rt.alloc(), case, &first.out)?;
+fn run_folds<R: Abort + AllocGlobal + Threads + Wait + Sync>(rt: &R, case: &Case<'static>) {
+    let first = play(rt, case);
+    let fold = fold_of(rt, case, &first.out);
     assert!(rt; is_folded(&first, &fold));
-    assert!(rt; first.is_of(case) || play(rt, case)?.is_of(case));
-    Ok(())
+    assert!(rt; first.is_of(case) || play(rt, case).is_of(case));
 }
 
 /// That another task does what its case says, or writes nothing and says that memory was refused, and
 /// the next try has it.
-fn says_or_wants<R: Abort + AllocGlobal + Threads + Wait + Sync>(
-    rt: &R,
-    case: &Case<'static>,
-) -> Result<(), Fail> {
-    let first = play(rt, case)?;
-    if first.is(Status::Failed, b"", NO_MEMORY) {
-        assert!(rt; play(rt, case)?.is_of(case));
+fn says_or_wants<R: Abort + AllocGlobal + Threads + Wait + Sync>(rt: &R, case: &Case<'static>) {
+    let first = play(rt, case);
+    let told = if first.is(Status::Failed, b"", NO_MEMORY) {
+        play(rt, case)
     } else {
-        assert!(rt; first.is_of(case));
-    }
-    Ok(())
+        first
+    };
+    assert!(rt; told.is_of(case));
 }
 
 #[test]
-fn checks_and_audits_want_memory(rt: HostRuntime) -> Result<(), Fail> {
+fn checks_and_audits_want_memory(rt: HostRuntime) {
     for case in &checks::CASES {
-        says_or_wants(&rt, case)?;
+        says_or_wants(&rt, case);
     }
-    says_or_wants(&rt, &NEXT_ILLEGAL)?;
-    says_or_wants(&rt, &OWN_OUTPUT)
+    says_or_wants(&rt, &NEXT_ILLEGAL);
+    says_or_wants(&rt, &OWN_OUTPUT);
 }
 
 #[test]
-fn runs_want_memory(rt: HostRuntime) -> Result<(), Fail> {
+fn runs_want_memory(rt: HostRuntime) {
     for case in &RUNS {
-        run_folds(&rt, case)?;
+        run_folds(&rt, case);
     }
-    Ok(())
 }
 
 /// The jobs of a case of one worker, in two tries.
-fn worker_of(case: &Case<'static>) -> Result<OneWorker, Fail> {
+fn worker_of(rt: &impl Abort, case: &Case<'static>) -> OneWorker {
     let [(_, jobs), (_, type_text)] = case.files else {
-        return Err("no jobs at one type")?;
+        panic!(rt; "no jobs at one type");
     };
-    Ok(OneWorker {
+    OneWorker {
         jobs: *jobs,
         type_text: *type_text,
         max: 20,
         tries: 2,
-    })
+    }
 }
 
 /// Whether this is all that is written of the jobs, or all of it but the audit, where memory was refused.
@@ -109,30 +99,26 @@ fn is_written(played: &Played, text: &WorkText) -> bool {
 }
 
 /// Whether this is what the slow fold writes of the jobs, where memory may be refused for one of them.
-fn is_work(alloc: Global, case: &Case<'static>, played: &Played) -> Result<bool, Fail> {
-    let worker = worker_of(case)?;
+fn is_work(rt: &(impl Abort + AllocGlobal), case: &Case<'static>, played: &Played) -> bool {
+    let worker = worker_of(rt, case);
     for room in &ROOMS {
-        if is_written(played, &written(alloc, &worker, *room)?) {
-            return Ok(true);
+        if is_written(played, &made_of(rt, written(rt.alloc(), &worker, *room))) {
+            return true;
         }
     }
-    Ok(false)
+    false
 }
 
 /// That a worker's jobs are written as they are by the slow fold, or that memory was refused is said alone.
 /// Where that isn't what its case says, the next try has its memory.
-fn work_folds<R: Abort + AllocGlobal + Threads + Wait + Sync>(
-    rt: &R,
-    case: &Case<'static>,
-) -> Result<(), Fail> {
-    let first = play(rt, case)?;
-    assert!(rt; first.is(Status::Failed, b"", NO_MEMORY) || is_work(rt.alloc(), case, &first)?);
-    assert!(rt; first.is_of(case) || play(rt, case)?.is_of(case));
-    Ok(())
+fn work_folds<R: Abort + AllocGlobal + Threads + Wait + Sync>(rt: &R, case: &Case<'static>) {
+    let first = play(rt, case);
+    assert!(rt; first.is(Status::Failed, b"", NO_MEMORY) || is_work(rt, case, &first));
+    assert!(rt; first.is_of(case) || play(rt, case).is_of(case));
 }
 
 #[test]
-fn works_want_memory(rt: HostRuntime) -> Result<(), Fail> {
-    work_folds(&rt, &ONE_WORKER)?;
-    work_folds(&rt, &ONE_WORKER_DRAWN)
+fn works_want_memory(rt: HostRuntime) {
+    work_folds(&rt, &ONE_WORKER);
+    work_folds(&rt, &ONE_WORKER_DRAWN);
 }

@@ -4,7 +4,6 @@
 
 use super::{Case, all_play};
 use command_files::Status;
-use std::test::Fail;
 use test_support::type_texts::COUNTER;
 
 /// Two workers with two jobs each, at one counter.
@@ -118,6 +117,6 @@ end
 ];
 
 #[test]
-fn the_whole_seed_draws_the_turns(rt: HostRuntime) -> Result<(), Fail> {
-    all_play(&rt, &CASES)
+fn the_whole_seed_draws_the_turns(rt: HostRuntime) {
+    all_play(&rt, &CASES);
 }

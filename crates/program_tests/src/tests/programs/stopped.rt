@@ -9,7 +9,6 @@ use super::{Case, held_output, play_on};
 use command_files::Status;
 use std::process::Abort;
 use std::sync::Wait;
-use std::test::Fail;
 use std::thread::Threads;
 use test_support::sinks::AtEnd;
 
@@ -29,23 +28,18 @@ fn stops_at<R: Abort + AllocGlobal + Threads + Wait + Sync>(
     case: &Case<'_>,
     room: usize,
     at_end: AtEnd,
-) -> Result<(), Fail> {
-    let out = held_output(rt.alloc(), room, at_end)?;
-    let err = held_output(rt.alloc(), usize::MAX, at_end)?;
-    let taken = case.out.as_bytes().get(..room).ok_or("no beginning")?;
+) {
+    let taken = case.out.as_bytes().get(..room).expect(rt, "no beginning");
+    let out = held_output(rt, room, at_end);
+    let err = held_output(rt, usize::MAX, at_end);
     assert!(rt; play_on(rt, case, out, err).is(Status::Failed, taken, ""));
-    Ok(())
 }
 
-fn stops<R: Abort + AllocGlobal + Threads + Wait + Sync>(
-    rt: &R,
-    case: &Case<'_>,
-) -> Result<(), Fail> {
+fn stops<R: Abort + AllocGlobal + Threads + Wait + Sync>(rt: &R, case: &Case<'_>) {
     for room in 0..case.out.len() {
-        stops_at(rt, case, room, AtEnd::Fails)?;
-        stops_at(rt, case, room, AtEnd::TakesNothing)?;
+        stops_at(rt, case, room, AtEnd::Fails);
+        stops_at(rt, case, room, AtEnd::TakesNothing);
     }
-    Ok(())
 }
 
 /// That a case has its status where standard error has room for so many bytes.
@@ -53,22 +47,20 @@ fn ends_alike<R: Abort + AllocGlobal + Threads + Wait + Sync>(
     rt: &R,
     case: &Case<'_>,
     room: usize,
-) -> Result<(), Fail> {
-    let out = held_output(rt.alloc(), usize::MAX, AtEnd::Fails)?;
-    let err = held_output(rt.alloc(), room, AtEnd::Fails)?;
+) {
+    let taken = case.err.get(..room).expect(rt, "no beginning");
+    let out = held_output(rt, usize::MAX, AtEnd::Fails);
+    let err = held_output(rt, room, AtEnd::Fails);
     let played = play_on(rt, case, out, err);
-    let taken = case.err.get(..room).ok_or("no beginning")?;
     assert!(rt; played.is(case.status, case.out.as_bytes(), taken));
-    Ok(())
 }
 
 #[test]
-fn outputs_that_stop(rt: HostRuntime) -> Result<(), Fail> {
+fn outputs_that_stop(rt: HostRuntime) {
     for case in &CASES {
-        stops(&rt, case)?;
+        stops(&rt, case);
     }
     for room in 0..EIGHT_DIGITS.err.len() {
-        ends_alike(&rt, &EIGHT_DIGITS, room)?;
+        ends_alike(&rt, &EIGHT_DIGITS, room);
     }
-    Ok(())
 }

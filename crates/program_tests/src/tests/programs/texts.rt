@@ -1,12 +1,11 @@
 //! The texts of the cases: what a run or workers write is a history with the same audit, and each proper
 //! beginning of a script, of a history or of jobs has its fault.
 
-use super::{Case, all_cases, jobs, plays, seeds};
+use super::{Case, File, all_cases, jobs, plays, seeds};
 use crate::tests::texts_read::{Reader, beginnings_have_faults};
 use command_files::Status;
 use std::process::Abort;
 use std::sync::Wait;
-use std::test::Fail;
 use std::thread::Threads;
 
 /// Whether a case writes a history.
@@ -33,16 +32,11 @@ fn audit_of<'a>(case: &Case<'a>) -> Option<&'a str> {
 }
 
 /// That the audit of the history that a case writes has the lines that it writes of its own audit.
-fn is_audited<R: Abort + AllocGlobal + Threads + Wait + Sync>(
-    rt: &R,
-    case: &Case<'_>,
-) -> Result<(), Fail> {
-    let mut words = vec![in rt.alloc(); "audit", "the.history"]?;
-    words.extend_from_slice(types_of(case))?;
-    let mut files = vec![in rt.alloc(); ("the.history", case.out)]?;
-    files.extend_from_slice(case.files)?;
-    let lines = audit_of(case).ok_or("no audit")?;
-    let out = format!(in rt.alloc(); "# audit {lines}")?;
+fn is_audited<R: Abort + AllocGlobal + Threads + Wait + Sync>(rt: &R, case: &Case<'_>) {
+    let lines = audit_of(case).expect(rt, "no audit");
+    let out = format!(in rt.alloc(); "# audit {lines}").expect(rt, "no memory");
+    let words = audit_words(rt, types_of(case));
+    let files = audit_files(rt, case);
     let audit = Case {
         words: &words,
         files: &files,
@@ -50,7 +44,26 @@ fn is_audited<R: Abort + AllocGlobal + Threads + Wait + Sync>(
         err: "",
         status: Status::Yes,
     };
-    plays(rt, &audit)
+    plays(rt, &audit);
+}
+
+/// The words that ask for the audit of that history, with these types.
+fn audit_words<'a>(rt: &(impl Abort + AllocGlobal), types: &[&'a str]) -> Vec<&'a str> {
+    let mut words = Vec::new(rt.alloc());
+    words.push("audit").expect(rt, "no memory");
+    words.push("the.history").expect(rt, "no memory");
+    words.extend_from_slice(types).expect(rt, "no memory");
+    words
+}
+
+/// The history that a case writes, and its files.
+fn audit_files<'a>(rt: &(impl Abort + AllocGlobal), case: &Case<'a>) -> Vec<File<'a>> {
+    let mut files = Vec::new(rt.alloc());
+    files
+        .push(("the.history", case.out))
+        .expect(rt, "no memory");
+    files.extend_from_slice(case.files).expect(rt, "no memory");
+    files
 }
 
 /// The text up to its line `end`, behind which there may be comments.
@@ -93,26 +106,22 @@ fn beginnings_of(rt: &(impl Abort + AllocGlobal), case: &Case<'_>) {
 }
 
 /// The same of all cases whose text has no fault, and that what each writes is a history.
-fn have_texts<R: Abort + AllocGlobal + Threads + Wait + Sync>(
-    rt: &R,
-    cases: &[Case<'_>],
-) -> Result<(), Fail> {
+fn have_texts<R: Abort + AllocGlobal + Threads + Wait + Sync>(rt: &R, cases: &[Case<'_>]) {
     for case in cases {
         if !case.err.contains(": line ") {
             beginnings_of(rt, case);
         }
         if writes_history(case) {
-            is_audited(rt, case)?;
+            is_audited(rt, case);
         }
     }
-    Ok(())
 }
 
 #[test]
-fn texts_of_all_cases(rt: HostRuntime) -> Result<(), Fail> {
+fn texts_of_all_cases(rt: HostRuntime) {
     for cases in all_cases() {
-        have_texts(&rt, cases)?;
+        have_texts(&rt, cases);
     }
-    have_texts(&rt, &jobs::CASES)?;
-    have_texts(&rt, &seeds::CASES)
+    have_texts(&rt, &jobs::CASES);
+    have_texts(&rt, &seeds::CASES);
 }

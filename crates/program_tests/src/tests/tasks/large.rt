@@ -1,22 +1,28 @@
 //! Types of 1,024 states.
 
-use std::alloc::{AllocError, Global};
+use std::alloc::AllocError;
 use std::fmt::Write;
+use std::process::Abort;
 use test_support::texts::add_step;
 
 /// The text of the set of ten elements, of 40 operations. State s is the set of the elements whose bit
 /// is one in s.
-pub fn set_of_ten(alloc: Global) -> Result<String, AllocError> {
-    let mut text = String::from_str(alloc, SET_OF_TEN)?;
+pub fn set_of_ten(rt: &(impl Abort + AllocGlobal)) -> String {
+    let mut text = String::from_str(rt.alloc(), SET_OF_TEN).expect(rt, "no memory");
+    add_sets(&mut text).expect(rt, "no memory");
+    text
+}
+
+/// Its lines behind these.
+fn add_sets(text: &mut String) -> Result<(), AllocError> {
     for s in 0..1024 {
         for e in 0..10 {
-            add_steps(&mut text, s, e)?;
+            add_steps(text, s, e)?;
         }
     }
-    add_conflicts(&mut text, "conflict undo", &UNDO_PAIRS)?;
-    add_conflicts(&mut text, "conflict intentions", &INTENTIONS_PAIRS)?;
-    text.push_str("end\n")?;
-    Ok(text)
+    add_conflicts(text, "conflict undo", &UNDO_PAIRS)?;
+    add_conflicts(text, "conflict intentions", &INTENTIONS_PAIRS)?;
+    text.push_str("end\n")
 }
 
 /// Its lines before the steps.
@@ -100,50 +106,50 @@ fn add_conflicts(text: &mut String, word: &str, pairs: &[(u32, u32)]) -> Result<
 }
 
 /// The lines before the steps of a type of 64 operations.
-fn head_of_64(alloc: Global) -> Result<String, AllocError> {
-    let mut text = String::from_str(alloc, "type large\nstates 1024\ninitial 0\n")?;
+fn head_of_64(rt: &(impl Abort + AllocGlobal)) -> String {
+    let head = "type large\nstates 1024\ninitial 0\n";
+    let mut text = String::from_str(rt.alloc(), head).expect(rt, "no memory");
     for k in 0..64 {
-        write!(text, "op call:{k} ok\n")?;
+        write!(text, "op call:{k} ok\n").expect(rt, "no memory");
     }
-    Ok(text)
+    text
 }
 
 /// The text of a type of the most states and operations. Operation 63 is legal at the last state alone
 /// and leads to state 0. Each other operation is legal everywhere and leads back.
-pub fn largest(alloc: Global) -> Result<String, AllocError> {
-    let mut text = head_of_64(alloc)?;
+pub fn largest(rt: &(impl Abort + AllocGlobal)) -> String {
+    let mut text = head_of_64(rt);
     for s in 0..1024 {
         for k in 0..63 {
-            add_step(&mut text, s, k, s)?;
+            add_step(&mut text, s, k, s).expect(rt, "no memory");
         }
     }
-    text.push_str("step 1023 63 0\nend\n")?;
-    Ok(text)
+    text.push_str("step 1023 63 0\nend\n")
+        .expect(rt, "no memory");
+    text
 }
 
 /// The lines up to the steps of a type of the most states and operations, of which operation k leads k
 /// states on, in a circle.
-pub fn circle(alloc: Global) -> Result<String, AllocError> {
-    let mut text = head_of_64(alloc)?;
+pub fn circle(rt: &(impl Abort + AllocGlobal)) -> String {
+    let mut text = head_of_64(rt);
     for s in 0..1024 {
         for k in 0..64 {
             let t = (s % 1024 + k % 64) % 1024;
-            add_step(&mut text, s, k, t)?;
+            add_step(&mut text, s, k, t).expect(rt, "no memory");
         }
     }
-    Ok(text)
+    text
 }
 
 /// The lines up to the steps of the type whose one operation takes one away where there is one.
-pub fn countdown(alloc: Global) -> Result<String, AllocError> {
-    let mut text = String::from_str(
-        alloc,
-        "type down\nstates 1024\ninitial 1023\nop down down\n",
-    )?;
+pub fn countdown(rt: &(impl Abort + AllocGlobal)) -> String {
+    let head = "type down\nstates 1024\ninitial 1023\nop down down\n";
+    let mut text = String::from_str(rt.alloc(), head).expect(rt, "no memory");
     for t in 0..1023 {
-        add_step(&mut text, t + 1, 0, t)?;
+        add_step(&mut text, t + 1, 0, t).expect(rt, "no memory");
     }
-    Ok(text)
+    text
 }
 
 /// Adds the `equi` lines of all different states, or of those where the first is the smaller.

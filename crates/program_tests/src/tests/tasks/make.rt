@@ -6,7 +6,6 @@ use crate::tests::programs::Played;
 use command_files::Status;
 use std::process::Abort;
 use std::sync::Wait;
-use std::test::Fail;
 use std::thread::Threads;
 use test_support::type_texts::{ACCOUNT, SEMIQUEUE};
 
@@ -237,43 +236,44 @@ static BAD: [&str; 49] = [
 ];
 
 /// What comes of these words.
-fn made<R: AllocGlobal + Threads + Wait + Sync>(rt: &R, words: &str) -> Result<Played, Fail> {
-    let words: Vec<&str> = words.split(' ').collect(rt.alloc())?;
+fn made<R: Abort + AllocGlobal + Threads + Wait + Sync>(rt: &R, words: &str) -> Played {
+    let words: Vec<&str> = words.split(' ').collect(rt.alloc()).expect(rt, "no memory");
     run(rt, &words, b"")
 }
 
 /// That a text is good for both kinds of recovery.
-fn is_good<R: Abort + AllocGlobal + Threads + Wait + Sync>(rt: &R, text: &str) -> Result<(), Fail> {
-    for kind in ["undo", "intentions"] {
-        let words = ["check", kind, "ctr2.type"];
-        writes(rt, &words, text.as_bytes(), b"yes strong\n", Status::Yes)?;
+fn is_good<R: Abort + AllocGlobal + Threads + Wait + Sync>(rt: &R, text: &str) {
+    for words in [UNDO, INTENTIONS] {
+        writes(rt, &words, text.as_bytes(), b"yes strong\n", Status::Yes);
     }
-    Ok(())
 }
+
+/// The words of a check for each kind.
+const UNDO: [&str; 3] = ["check", "undo", "ctr2.type"];
+
+const INTENTIONS: [&str; 3] = ["check", "intentions", "ctr2.type"];
 
 /// That each of these words make their text, which is good.
-fn makes_texts<R: Abort + AllocGlobal + Threads + Wait + Sync>(
-    rt: &R,
-    rows: &[(&str, &str)],
-) -> Result<(), Fail> {
+fn makes_texts<R: Abort + AllocGlobal + Threads + Wait + Sync>(rt: &R, rows: &[(&str, &str)]) {
     for (words, text) in rows {
-        assert!(rt; made(rt, words)?.is(Status::Yes, text.as_bytes(), ""));
-        is_good(rt, text)?;
+        makes(rt, words, text);
+        is_good(rt, text);
     }
-    Ok(())
+}
+
+/// That these words make this text.
+fn makes<R: Abort + AllocGlobal + Threads + Wait + Sync>(rt: &R, words: &str, text: &str) {
+    assert!(rt; made(rt, words).is(Status::Yes, text.as_bytes(), ""));
 }
 
 #[test]
-fn makes_the_families(rt: HostRuntime) -> Result<(), Fail> {
-    makes_texts(&rt, &TEXTS)
+fn makes_the_families(rt: HostRuntime) {
+    makes_texts(&rt, &TEXTS);
 }
 
 #[test]
-fn makes_the_set_of_ten(rt: HostRuntime) -> Result<(), Fail> {
-    let set = set_of_ten(rt.alloc())?;
-    let made = made(&rt, "make set 0 a b c d e f g h i j")?;
-    assert!(rt; made.is(Status::Yes, set.as_bytes(), ""));
-    Ok(())
+fn makes_the_set_of_ten(rt: HostRuntime) {
+    makes(&rt, "make set 0 a b c d e f g h i j", &set_of_ten(&rt));
 }
 
 /// How many lines of operations a text has.
@@ -286,34 +286,27 @@ fn ops_of(text: &[u8]) -> usize {
 fn makes_heads<R: Abort + AllocGlobal + Threads + Wait + Sync>(
     rt: &R,
     rows: &[(&str, &str, usize)],
-) -> Result<(), Fail> {
+) {
     for (words, head, ops) in rows {
-        let text = made(rt, words)?.answer(Status::Yes).ok_or("no text")?;
-        assert!(rt; text.starts_with(head.as_bytes()));
-        assert!(rt; ops_of(&text) == *ops);
+        let text = made(rt, words).answer(Status::Yes).expect(rt, "no text");
+        assert!(rt; text.starts_with(head.as_bytes()) && ops_of(&text) == *ops);
     }
-    Ok(())
 }
 
 #[test]
-fn makes_up_to_the_limits(rt: HostRuntime) -> Result<(), Fail> {
-    makes_heads(&rt, &HEADS)
+fn makes_up_to_the_limits(rt: HostRuntime) {
+    makes_heads(&rt, &HEADS);
 }
 
 /// That nothing is made of each of these words, and this is said.
-fn refuses<R: Abort + AllocGlobal + Threads + Wait + Sync>(
-    rt: &R,
-    rows: &[&str],
-    err: &str,
-) -> Result<(), Fail> {
+fn refuses<R: Abort + AllocGlobal + Threads + Wait + Sync>(rt: &R, rows: &[&str], err: &str) {
     for words in rows {
-        assert!(rt; made(rt, words)?.is(Status::BadInput, b"", err));
+        assert!(rt; made(rt, words).is(Status::BadInput, b"", err));
     }
-    Ok(())
 }
 
 #[test]
-fn refuses_parameters(rt: HostRuntime) -> Result<(), Fail> {
-    refuses(&rt, &TOO_LARGE, "colock: TooLarge\n")?;
-    refuses(&rt, &BAD, "colock: BadParameter\n")
+fn refuses_parameters(rt: HostRuntime) {
+    refuses(&rt, &TOO_LARGE, "colock: TooLarge\n");
+    refuses(&rt, &BAD, "colock: BadParameter\n");
 }

@@ -1,13 +1,11 @@
 //! The worked examples of `tables`.
 
 use super::large::{add_pairs, circle, countdown};
-use super::{says, writes};
+use super::{says, with_part, writes};
 use command_files::Status;
 use std::process::Abort;
 use std::sync::Wait;
-use std::test::Fail;
 use std::thread::Threads;
-use test_support::texts::changed;
 use test_support::type_texts::{
     COUNTER, IDLE, MADE_EVERYWHERE, MADE_IDLE, MADE_ONE_WAY, ONE_WAY, SEMIQUEUE, SPACED, TWIN,
 };
@@ -79,17 +77,16 @@ conflict intentions 3 3
 fn makes_all<R: Abort + AllocGlobal + Threads + Wait + Sync>(
     rt: &R,
     rows: &[(&str, &str, &str, &str)],
-) -> Result<(), Fail> {
+) {
     for (whole, old, new, made) in rows {
-        let text = changed(rt.alloc(), whole, old, new.as_bytes())?;
-        writes(rt, &TABLES, &text, made.as_bytes(), Status::Yes)?;
+        let text = with_part(rt, whole, old, new.as_bytes());
+        writes(rt, &TABLES, &text, made.as_bytes(), Status::Yes);
     }
-    Ok(())
 }
 
 #[test]
-fn makes_tables_anew(rt: HostRuntime) -> Result<(), Fail> {
-    makes_all(&rt, &MADE)
+fn makes_tables_anew(rt: HostRuntime) {
+    makes_all(&rt, &MADE);
 }
 
 /// That of these lines these pairs of states and these conflicts are made.
@@ -98,25 +95,20 @@ fn makes_pairs<R: Abort + AllocGlobal + Threads + Wait + Sync>(
     mut text: String,
     both_ways: bool,
     conflicts: &str,
-) -> Result<(), Fail> {
-    let mut made = String::from_str(rt.alloc(), &text)?;
-    text.push_str("end\n")?;
-    add_pairs(&mut made, both_ways)?;
-    made.push_str(conflicts)?;
-    made.push_str("end\n")?;
-    writes(rt, &TABLES, text.as_bytes(), made.as_bytes(), Status::Yes)
+) {
+    let mut made = String::from_str(rt.alloc(), &text).expect(rt, "no memory");
+    text.push_str("end\n").expect(rt, "no memory");
+    add_pairs(&mut made, both_ways).expect(rt, "no memory");
+    made.push_str(conflicts).expect(rt, "no memory");
+    made.push_str("end\n").expect(rt, "no memory");
+    writes(rt, &TABLES, text.as_bytes(), made.as_bytes(), Status::Yes);
 }
 
 #[test]
-fn makes_the_largest_tables(rt: HostRuntime) -> Result<(), Fail> {
+fn makes_the_largest_tables(rt: HostRuntime) {
     // The smaller number allows fewer steps down.
-    makes_pairs(
-        &rt,
-        countdown(rt.alloc())?,
-        false,
-        "conflict intentions 0 0\n",
-    )?;
-    makes_pairs(&rt, circle(rt.alloc())?, true, "")
+    makes_pairs(&rt, countdown(&rt), false, "conflict intentions 0 0\n");
+    makes_pairs(&rt, circle(&rt), true, "");
 }
 
 /// Texts with faults, and what is said of them.
@@ -130,9 +122,8 @@ static FAULTS: [(&str, &str); 3] = [
 ];
 
 #[test]
-fn refuses_texts(rt: HostRuntime) -> Result<(), Fail> {
-    for (text, err) in FAULTS {
-        says(&rt, &TABLES, text.as_bytes(), err, Status::BadInput)?;
+fn refuses_texts(rt: HostRuntime) {
+    for (text, err) in &FAULTS {
+        says(&rt, &TABLES, text.as_bytes(), err, Status::BadInput);
     }
-    Ok(())
 }

@@ -2,14 +2,12 @@
 //! and `check_parallel` answer the same.
 
 use super::large::{largest, set_of_ten};
-use super::writes;
+use super::{with_part, writes};
 use command_files::Status;
 use std::process::Abort;
 use std::sync::Wait;
-use std::test::Fail;
 use std::thread::Threads;
 use table_checker::{CheckRefusal, CheckedType, check, check_parallel};
-use test_support::texts::changed;
 use test_support::type_texts::{
     ACCOUNT, COMMENTED, COUNTER, IDLE, MADE_EVERYWHERE, MADE_IDLE, MADE_ONE_WAY, ONE_WAY,
     SEMIQUEUE, SPACED, TWIN,
@@ -263,22 +261,29 @@ fn answers<R: Abort + AllocGlobal + Threads + Wait + Sync>(
     kind: Kind,
     text: &[u8],
     line: &str,
-) -> Result<(), Fail> {
-    let status = if line.starts_with("yes") {
+) {
+    let words = ["check", kind.word(), "ctr2.type"];
+    writes(rt, &words, text, line.as_bytes(), status_of(line));
+    agree(rt, UNDO, text);
+    agree(rt, INTENTIONS, text);
+}
+
+/// The status of a check that writes this line.
+fn status_of(line: &str) -> Status {
+    if line.starts_with("yes") {
         Status::Yes
     } else {
         Status::No
-    };
-    let words = ["check", kind.word(), "ctr2.type"];
-    writes(rt, &words, text, line.as_bytes(), status)?;
-    for kind in [UNDO, INTENTIONS] {
-        let file = read_type(rt.alloc(), text)?;
-        let copy = file.copy(rt.alloc())?;
-        let one = verdict_of(check(file, kind));
-        let all = verdict_of(check_parallel(rt, copy, kind));
-        assert_eq!(rt; one, all);
     }
-    Ok(())
+}
+
+/// That one thread and all processors come to the same verdict.
+fn agree<R: Abort + AllocGlobal + Threads + Wait + Sync>(rt: &R, kind: Kind, text: &[u8]) {
+    let file = read_type(rt.alloc(), text).expect(rt, "a fault");
+    let copy = file.copy(rt.alloc()).expect(rt, "no memory");
+    let one = verdict_of(check(file, kind));
+    let all = verdict_of(check_parallel(rt, copy, kind));
+    assert!(rt; one == all);
 }
 
 /// A verdict without the file.
@@ -292,39 +297,39 @@ fn verdict_of(
 }
 
 /// That each of these verdicts is answered.
-fn answers_all<R: Abort + AllocGlobal + Threads + Wait + Sync>(
-    rt: &R,
-    verdicts: &[Verdict],
-) -> Result<(), Fail> {
+fn answers_all<R: Abort + AllocGlobal + Threads + Wait + Sync>(rt: &R, verdicts: &[Verdict]) {
     for (kind, whole, old, new, line) in verdicts {
-        let text = changed(rt.alloc(), whole, old, new.as_bytes())?;
-        answers(rt, *kind, &text, line)?;
+        let text = with_part(rt, whole, old, new.as_bytes());
+        answers(rt, *kind, &text, line);
     }
-    Ok(())
 }
 
 #[test]
-fn answers_each_verdict(rt: HostRuntime) -> Result<(), Fail> {
-    answers_all(&rt, &COUNTERS)?;
-    answers_all(&rt, &FAMILIES)?;
-    answers_all(&rt, &ONE_WAYS)?;
-    answers_all(&rt, &TWINS)?;
-    answers_all(&rt, &IDLES)
+fn answers_each_verdict(rt: HostRuntime) {
+    answers_all(&rt, &COUNTERS);
+    answers_all(&rt, &FAMILIES);
+    answers_all(&rt, &ONE_WAYS);
+    answers_all(&rt, &TWINS);
+    answers_all(&rt, &IDLES);
+}
+
+/// That a check of this text writes these lines, for each kind.
+fn answers_both<R: Abort + AllocGlobal + Threads + Wait + Sync>(
+    rt: &R,
+    text: &[u8],
+    in_place: &str,
+    deferred: &str,
+) {
+    answers(rt, UNDO, text, in_place);
+    answers(rt, INTENTIONS, text, deferred);
 }
 
 #[test]
-fn answers_the_largest_types(rt: HostRuntime) -> Result<(), Fail> {
-    let set = set_of_ten(rt.alloc())?;
-    answers(&rt, UNDO, set.as_bytes(), STRONG)?;
-    answers(&rt, INTENTIONS, set.as_bytes(), STRONG)?;
-    let fewer = changed(rt.alloc(), &set, "conflict undo 0 1\n", b"")?;
-    answers(&rt, UNDO, &fewer, "no NotCommuting 0 1 0\n")?;
-    answers(&rt, INTENTIONS, &fewer, STRONG)?;
-    let largest = largest(rt.alloc())?;
-    answers(
-        &rt,
-        INTENTIONS,
-        largest.as_bytes(),
-        "no NotCommuting 63 63 1023\n",
-    )
+fn answers_the_largest_types(rt: HostRuntime) {
+    let set = set_of_ten(&rt);
+    answers_both(&rt, set.as_bytes(), STRONG, STRONG);
+    let fewer = with_part(&rt, &set, "conflict undo 0 1\n", b"");
+    answers_both(&rt, &fewer, "no NotCommuting 0 1 0\n", STRONG);
+    let line = "no NotCommuting 63 63 1023\n";
+    answers(&rt, INTENTIONS, largest(&rt).as_bytes(), line);
 }
