@@ -77,25 +77,29 @@ fn counter_refused_in_parallel_comes_back(rt: HostRuntime) {
     comes_back(&rt, &text, checked, wanted);
 }
 
+/// The type of a text, accepted for update in place.
+fn accepted_in_place(rt: &(impl Abort + AllocGlobal), text: &str) -> CheckedType {
+    let checked = check(file_of(rt, text.as_bytes()), Kind::Undo);
+    checked.ok().expect(rt, "refused")
+}
+
+/// The state at which a type begins anew, where it may begin there.
+fn begun_at(rt: &(impl Abort + AllocGlobal), checked: &CheckedType, state: u16) -> Option<u16> {
+    let begun = checked.at(rt.alloc(), state).expect(rt, "no memory")?;
+    Some(begun.table().initial())
+}
+
 /// A type begins anew at the states of its set, and at no other.
 #[test]
-fn types_begin_at_states_of_their_set(rt: HostRuntime) -> Result<(), Fail> {
-    let file = read_type(rt.alloc(), IDLE.as_bytes())?;
-    let Ok(idle) = check(file, Kind::Undo) else {
-        return Err("refused")?;
-    };
+fn types_begin_at_states_of_their_set(rt: HostRuntime) {
+    let idle = accepted_in_place(&rt, IDLE);
+    assert!(rt; begun_at(&rt, &idle, 0) == Some(0));
     for state in [1, 2, 3, u16::MAX] {
-        assert!(rt; idle.at(rt.alloc(), state)?.is_none());
+        assert!(rt; begun_at(&rt, &idle, state) == None);
     }
-    assert!(rt; idle.at(rt.alloc(), 0)?.is_some());
-    let file = read_type(rt.alloc(), COUNTER.as_bytes())?;
-    let Ok(counter) = check(file, Kind::Undo) else {
-        return Err("refused")?;
-    };
-    let at_two = counter.at(rt.alloc(), 2)?.ok_or("no type")?;
-    assert!(rt; at_two.table().initial() == 2);
-    assert!(rt; counter.at(rt.alloc(), 3)?.is_none());
-    Ok(())
+    let counter = accepted_in_place(&rt, COUNTER);
+    assert!(rt; begun_at(&rt, &counter, 2) == Some(2));
+    assert!(rt; begun_at(&rt, &counter, 3) == None);
 }
 
 /// Refusals, and how they are printed.
