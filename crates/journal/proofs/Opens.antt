@@ -1,0 +1,86 @@
+-- What was read of a file is what it says.
+use Rattle.std.proofs.Common.{◌≡◌, refl, sym, ap, subst, ℕ, List, [], ◌∷◌, length, map, ◌∙◌, IsTrue, false}
+use Rattle.std.proofs.lemmas.Bool.{true_from_ne_false}
+use Rattle.sqlite_value.specs.Order.{Row}
+use Rattle.sqlite_trees.specs.Objects.{catalog_tree}
+use Rattle.sqlite_trees.specs.Tree.{Trees}
+use Rattle.sqlite_trees.specs.View.{IsRolledBack, View, IsClean}
+use Rattle.journal.specs.declared.contents.FileContents.{FileContents}
+use Rattle.journal.specs.Rows.{rows}
+use Rattle.journal.specs.EventRow.{event_row, event_told}
+use Rattle.journal.specs.EventLaws.{event_read_back}
+use Rattle.journal.specs.HeaderRow.{header_row, header_told, header_read_back}
+use Rattle.journal.specs.TypeRow.{type_row, type_told, type_read_back}
+use Rattle.journal.specs.ObjectRows.{object_row, object_told, object_read_back}
+use Rattle.journal.specs.StateRow.{state_row, state_told, state_read_back}
+use Rattle.journal.specs.Contents.{Contents, IsFile, contents_of}
+use Rattle.journal.specs.Said.{IsTold, contents}
+use Rattle.journal.specs.Tables.{IsUnused, OnlyReads}
+use Rattle.journal.specs.Journal.{HasTables, IsKeptFile, IsNamedOnce}
+use Rattle.journal.proofs.RowLemmas.{rows-told}
+
+-- rows of values tell these values, and are the rows of what they tell
+told-of : {E : Type 0} (row_at : ℕ → E → Row) (told : Row → E) → ((n : ℕ) (e : E) → told (row_at n e) ≡ e) → (all : List Row) (es : List E) → all ≡ rows row_at 0 es → map told all ≡ es
+told-of row_at told back all es is = ap (map told) is ∙ rows-told row_at told back 0 es
+
+rows-of : {E : Type 0} (row_at : ℕ → E → Row) (told : Row → E) → ((n : ℕ) (e : E) → told (row_at n e) ≡ e) → (all : List Row) (es : List E) → all ≡ rows row_at 0 es → all ≡ rows row_at 0 (map told all)
+rows-of row_at told back all es is = is ∙ ap (rows row_at 0) (sym (told-of row_at told back all es is))
+
+module _ (db : Trees) (said : FileContents) (told : IsTold db said) where
+  -- it is a file of a store
+  pub is-file : IsFile db
+  is-file = record {
+    events = rows-of event_row event_told event_read_back (db 0) said.events.items told.events;
+    headers = rows-of header_row header_told header_read_back (db 1) (said.header ∷ []) told.header;
+    types = rows-of type_row type_told type_read_back (db 2) said.types.items told.types;
+    objects = rows-of object_row object_told object_read_back (db 3) said.objects.items told.objects;
+    states = rows-of state_row state_told state_read_back (db 4) said.states.items told.states;
+  }
+
+  events-are : map event_told (db 0) ≡ said.events.items
+  events-are = told-of event_row event_told event_read_back (db 0) said.events.items told.events
+
+  headers-are : map header_told (db 1) ≡ said.header ∷ []
+  headers-are = told-of header_row header_told header_read_back (db 1) (said.header ∷ []) told.header
+
+  -- that says what was read
+  pub says : contents_of db ≡ contents said
+  says = rw (
+    events-are,
+    headers-are,
+    told-of type_row type_told type_read_back (db 2) said.types.items told.types,
+    told-of object_row object_told object_read_back (db 3) said.objects.items told.objects,
+    told-of state_row state_told state_read_back (db 4) said.states.items told.states,
+  ) refl
+
+-- ---- the last commit is shown
+
+module _ (old new : View) (back : IsRolledBack old new) (clean : IsClean new) (broken : new.is_open ≡ false → IsTrue new.is_broken) (sound : new.is_broken ≡ false) where
+  stays_open : IsTrue new.is_open
+  stays_open = true_from_ne_false new.is_open (λ shut. let x = sym (broken shut) ∙ sound in cc)
+
+  pub unused : IsUnused new
+  unused = record {
+    is_open = stays_open;
+    sound = sound;
+    clean = (back.undone stays_open).0 ∙ sym ((back.kept clean).committed stays_open);
+  }
+
+  pub same_commit : new.committed ≡ old.committed
+  same_commit = (back.kept clean).committed stays_open
+
+-- what was read without a write is a file of a store
+pub starts : (old new : View) (n : ℕ) (said : FileContents) → IsUnused old → HasTables old → IsTrue old.is_numbered → IsNamedOnce (old.trees catalog_tree) → OnlyReads old new
+    → IsTold old.trees said → n ≡ length said.events.items → IsKeptFile new n said.header
+starts old new n said unused tables numbered named only told many =
+    let file = is-file old.trees said told in
+    let says' = says old.trees said told in
+    subst (λ (v : View). IsKeptFile v n said.header) (sym only) (record {
+      tables = record { each = tables.each };
+      file = λ _. file;
+      count_is = λ _. many ∙ ap (λ (c : Contents). length c.events) (sym says');
+      header_is = λ _. ap (λ (c : Contents). c.headers) says';
+      kept = λ _. subst IsFile unused.clean file;
+      numbered = numbered;
+      named = λ _. named;
+    })

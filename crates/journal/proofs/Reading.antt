@@ -1,0 +1,30 @@
+-- A cursor reads the rows of a table.
+use Rattle.std.proofs.Common.{◌≡◌, refl, sym, ap, ℕ, List, [], ◌∷◌, ◌++◌, length, ◌∙◌, Bool, false, true, Some}
+use Rattle.sqlite_value.specs.Order.{Row}
+use Rattle.sqlite_trees.specs.View.{Advances, View}
+use Rattle.journal.specs.Rows.{rows}
+use Rattle.journal.specs.Tables.{OnlyReads}
+use Rattle.journal.proofs.RowLemmas.{reads-more}
+
+pub on : (old new : View) (row : Row) (found : Bool) → found ≡ true → Advances old new 0 row found → Advances old new 0 row true
+on old new row true e h = h
+on old new row false e h = absurd (cc)
+
+pub off : (old new : View) (row : Row) (found : Bool) → found ≡ false → Advances old new 0 row found → Advances old new 0 row false
+off old new row false e h = h
+off old new row true e h = absurd (cc)
+
+-- another row was read
+pub reads_row : {E : Type 0} (row_at : ℕ → E → Row) (old new : View) (row : Row) (all : List Row) (n : ℕ) (es : List E) (e : E)
+    → Advances old new 0 row true → (left : List Row) → old.cursors 0 ≡ Some left → all ≡ rows row_at 0 es ++ left
+    → length es ≡ n → row ≡ row_at n e
+    → (more : List Row) × (new.cursors 0 ≡ Some more) × (all ≡ rows row_at 0 (es ++ e ∷ []) ++ more)
+reads_row row_at old new row all n es e adv left at is many same =
+    let first : left ≡ row ∷ adv.0 = (let e = sym at ∙ adv.1 in cc) in (
+      adv.0,
+      ap (λ (v : View). v.cursors 0) adv.2,
+      reads-more row_at all adv.0 n es e many (is ∙ ap (λ x. rows row_at 0 es ++ x) (first ∙ ap (λ (r : Row). r ∷ adv.0) same)),
+    )
+
+pub reads_only : (first old new : View) (row : Row) → OnlyReads first old → Advances old new 0 row true → OnlyReads first new
+reads_only first old new row was adv = rw (adv.2, was) refl

@@ -1,0 +1,75 @@
+-- Rows of values at their positions.
+use Rattle.std.proofs.Common.{◌≡◌, refl, ap, ℕ, zero, suc, ◌+◌, ◌<◌, List, [], ◌∷◌, ◌++◌, length, map, set, arith, ◌∙◌, sym, append_assoc}
+use Rattle.std.specs.Prelude.{pos}
+use Rattle.std.specs.declared.cmp.Ordering.TheVariants.{Less, Equal}
+use Rattle.sqlite_value.specs.declared.value.Value.TheVariants.{Int}
+use Rattle.sqlite_value.specs.declared.keys.Order.{Order}
+use Rattle.sqlite_value.specs.Order.{Row, value_cmp}
+use Rattle.sqlite_value.proofs.OrderLemmas.{value_cmp-Int}
+use Rattle.std.proofs.lemmas.Int.{ints}
+use Rattle.std.proofs.lemmas.Bool.Decides.{nat_tests}
+use Rattle.sqlite_trees.specs.Tree.{from_key, put_row, rowid}
+use Rattle.journal.specs.Rows.{rows}
+
+-- a lower position comes first
+pub lower : (m n : ℕ) → m < n → value_cmp (Int (pos m)) (Int (pos n)) ≡ Less
+lower m n h = value_cmp-Int (pos m) (pos n) ∙ grind (arith, ints, nat_tests)
+
+module _ {E : Type 0} (row_at : ℕ → E → Row) where
+  -- one more row
+  pub rows-more : (m n : ℕ) (es : List E) (e : E) → m + length es ≡ n → rows row_at m (es ++ e ∷ []) ≡ rows row_at m es ++ row_at n e ∷ []
+  rows-more m n [] e h = let same : n ≡ m = omega arith in rw same refl
+  rows-more m n (first ∷ es) e h = ap (λ more. row_at m first ∷ more) (rows-more (suc m) n es e (omega arith))
+
+  -- one more row is read
+  pub reads-more : (all left : List Row) (n : ℕ) (es : List E) (e : E) → length es ≡ n → all ≡ rows row_at 0 es ++ row_at n e ∷ left → all ≡ rows row_at 0 (es ++ e ∷ []) ++ left
+  reads-more all left n es e h is =
+      is ∙ sym (append_assoc (rows row_at 0 es) (row_at n e ∷ []) left) ∙ ap (λ front. front ++ left) (sym (rows-more 0 n es e (omega arith)))
+
+  -- the rows tell their values
+  pub rows-told : (told : Row → E) → ((n : ℕ) (e : E) → told (row_at n e) ≡ e) → (m : ℕ) (es : List E) → map told (rows row_at m es) ≡ es
+  rows-told told back m [] = refl
+  rows-told told back m (e ∷ es) = ap (λ x. x ∷ map told (rows row_at (suc m) es)) (back m e) ∙ ap (λ more. e ∷ more) (rows-told told back (suc m) es)
+
+-- a seek with no key begins at the first row
+pub from_nothing : (o : Order) (all : List Row) → from_key o [] all ≡ all
+from_nothing o [] = refl
+from_nothing o ([] ∷ all) = refl
+from_nothing o ((v ∷ r) ∷ all) = refl
+
+-- ---- a row is written
+
+module _ {E : Type 0} (row_at : ℕ → E → Row) (key : (n : ℕ) (e : E) → rowid (row_at n e) ≡ Int (pos n)) where
+  -- behind the others
+  pub put-more : (m n : ℕ) (es : List E) (e : E) → m + length es ≡ n → put_row (row_at n e) (rows row_at m es) ≡ rows row_at m (es ++ e ∷ [])
+  put-more m n [] e h = let same : n ≡ m = omega arith in rw same refl
+  put-more m n (x ∷ es) e h =
+      let less : value_cmp (rowid (row_at m x)) (rowid (row_at n e)) ≡ Less = rw (key m x, key n e) (lower m n (omega arith)) in
+      rw less (ap (λ more. row_at m x ∷ more) (put-more (suc m) n es e (omega arith)))
+
+  -- the values that are told then
+  pub told-more : (told : Row → E) → ((n : ℕ) (e : E) → told (row_at n e) ≡ e) → (n : ℕ) (all : List Row) (e : E) → all ≡ rows row_at 0 (map told all) → n ≡ length (map told all)
+      → map told (put_row (row_at n e) all) ≡ map told all ++ e ∷ []
+  told-more told back n all e is many =
+      ap (λ rs. map told (put_row (row_at n e) rs)) is
+      ∙ ap (map told) (put-more 0 n (map told all) e (omega arith))
+      ∙ rows-told row_at told back 0 (map told all ++ e ∷ [])
+
+  -- and the rows are those of these values
+  pub rows-of-more : (told : Row → E) → ((n : ℕ) (e : E) → told (row_at n e) ≡ e) → (n : ℕ) (all : List Row) (e : E) → all ≡ rows row_at 0 (map told all) → n ≡ length (map told all)
+      → put_row (row_at n e) all ≡ rows row_at 0 (map told (put_row (row_at n e) all))
+  rows-of-more told back n all e is many =
+      ap (put_row (row_at n e)) is
+      ∙ put-more 0 n (map told all) e (omega arith)
+      ∙ ap (rows row_at 0) (sym (told-more told back n all e is many))
+
+  -- in the place of one
+  pub put-set : (m n i : ℕ) (es : List E) (e : E) → m + i ≡ n → i < length es → put_row (row_at n e) (rows row_at m es) ≡ rows row_at m (set es i e)
+  put-set m n i [] e at h = absurd (omega (arith, h))
+  put-set m n zero (x ∷ es) e at h =
+      let same : n ≡ m = omega (arith, at) in
+      let equal : value_cmp (rowid (row_at m x)) (rowid (row_at m e)) ≡ Equal = rw (key m x, key m e) (value_cmp-Int (pos m) (pos m) ∙ grind (arith, ints, nat_tests)) in
+      rw same (rw equal refl)
+  put-set m n (suc i) (x ∷ es) e at h =
+      let less : value_cmp (rowid (row_at m x)) (rowid (row_at n e)) ≡ Less = rw (key m x, key n e) (lower m n (omega (arith, at))) in
+      rw less (ap (λ more. row_at m x ∷ more) (put-set (suc m) n i es e (omega (arith, at)) (omega (arith, h))))

@@ -1,0 +1,23 @@
+use Rattle.std.proofs.Common.{inl, inr, ap}
+use Rattle.sqlite_trees.specs.View.{IsClean}
+use Rattle.journal.specs.Contents.{contents_of}
+use Rattle.journal.proofs.Writes.{clean_if_sound, file_of}
+use Rattle.journal.proofs.journal.Journal.commit.Goals as goal
+
+pub returns-clause-crash : goal.returns-clause-crash
+returns-clause-crash g c db left = elim (c.commit.ensures.crash db left) [
+  | inl done ↦ (
+      let old = g.S.Store.view c.args.self.now.store in
+      let clean : IsClean old = clean_if_sound old (g.met.S.Store.shut_if_dirty _) (g.met.S.Store.broken_if_shut _) done.0 in
+      inl (clean, file_of _ _ done.1 ((c.requires clean).file done.0), ap contents_of done.1))
+  | inr before ↦ inr before
+]
+
+pub returns-in_err-commit-clause-crash : goal.returns-in_err-commit-clause-crash
+returns-in_err-commit-clause-crash g c db left = elim (c.commit.ensures.crash db left) [
+  | inl done ↦ (
+      let old = g.S.Store.view c.args.self.now.store in
+      let clean : IsClean old = clean_if_sound old (g.met.S.Store.shut_if_dirty _) (g.met.S.Store.broken_if_shut _) done.0 in
+      inl (clean, file_of _ _ done.1 ((c.requires clean).file done.0), ap contents_of done.1))
+  | inr before ↦ inr before
+]

@@ -1,0 +1,51 @@
+-- What the tables of a file say.
+use Rattle.std.specs.Prelude.{◌≡◌, ℕ, List, [], ◌∷◌, ◌++◌, map}
+use Rattle.object_trait.specs.declared.event.EventKind.{EventKind}
+use Rattle.store_text.specs.declared.line.ObjectLine.{ObjectLine}
+use Rattle.sqlite_trees.specs.Tree.{Trees}
+use Rattle.journal.specs.declared.header.Header.{Header}
+use Rattle.journal.specs.declared.state_row.FirstState.{FirstState}
+use Rattle.journal.specs.Rows.{rows}
+use Rattle.journal.specs.EventRow.{event_row, event_told}
+use Rattle.journal.specs.HeaderRow.{header_row, header_told}
+use Rattle.journal.specs.TypeRow.{type_row, type_told}
+use Rattle.journal.specs.ObjectRows.{object_row, object_told}
+use Rattle.journal.specs.StateRow.{state_row, state_told}
+
+-- the events of the history since the file's states, what the file says of itself, the texts of types, the objects with their types, and
+-- the states at which they began
+pub record Contents : Type 0 where
+  pub events : List EventKind
+  pub headers : List Header
+  pub types : List (List ℕ)
+  pub objects : List ObjectLine
+  pub states : List FirstState
+
+abbrev pub contents_of : Trees → Contents
+contents_of db = record {
+  events = map event_told (db 0);
+  headers = map header_told (db 1);
+  types = map type_told (db 2);
+  objects = map object_told (db 3);
+  states = map state_told (db 4);
+}
+
+-- each table has the rows of what it says, at the positions 0, 1, 2 and so on, and no other
+pub record IsFile (db : Trees) : Type 0 where
+  pub events : db 0 ≡ rows event_row 0 (contents_of db).events
+  pub headers : db 1 ≡ rows header_row 0 (contents_of db).headers
+  pub types : db 2 ≡ rows type_row 0 (contents_of db).types
+  pub objects : db 3 ≡ rows object_row 0 (contents_of db).objects
+  pub states : db 4 ≡ rows state_row 0 (contents_of db).states
+
+-- with an event more
+abbrev pub with_event : Contents → EventKind → Contents
+with_event c e = record c { events = c.events ++ e ∷ [] }
+
+-- with this number of a life in the header
+abbrev pub in_life : Contents → ℕ → Contents
+in_life c life = record c { headers = map (λ (h : Header). let raised : Header = record h { life = life } in raised) c.headers }
+
+-- where a history begins at these states
+abbrev pub from_states : Contents → List FirstState → Contents
+from_states c states = record c { events = []; states = states }

@@ -1,0 +1,22 @@
+-- The table of events is emptied, and nothing else changes.
+use Rattle.std.specs.Prelude.{◌≡◌, ◌≢◌, ◌<◌, ℕ, false, [], IsTrue}
+use Rattle.sqlite_trees.specs.Objects.{catalog_tree}
+use Rattle.sqlite_trees.specs.View.{View}
+use Rattle.journal.specs.Journal.{HasTables, IsNamedOnce}
+
+-- what is asked of the trees
+pub record MayEmpty (v : View) : Type 0 where
+  pub tables : HasTables v
+  pub numbered : IsTrue v.is_numbered
+  pub named : v.is_broken ≡ false → IsNamedOnce (v.trees catalog_tree)
+
+pub record Empties (old new : View) : Type 0 where
+  pub sound : old.is_broken ≡ false
+  pub events : new.trees 0 ≡ []
+  pub others : (t : ℕ) → t ≢ 0 → t < 5 → new.trees t ≡ old.trees t
+  pub tables : HasTables new
+  pub numbered : IsTrue new.is_numbered
+  pub named : IsNamedOnce (new.trees catalog_tree)
+  pub committed : new.committed ≡ old.committed
+  pub is_open : new.is_open ≡ old.is_open
+  pub is_broken : new.is_broken ≡ old.is_broken

@@ -1,0 +1,18 @@
+-- The columns of an event's row behind its position.
+use Rattle.std.specs.Prelude.{◌≡◌, [], ◌∷◌}
+use Rattle.sqlite_value.specs.declared.value.Value.TheVariants.{Text}
+use Rattle.sqlite_value.specs.Order.{Row, column}
+use Rattle.journal.specs.declared.event_row.EventColumns.{EventColumns}
+use Rattle.journal.specs.Cells.{cell_value}
+use Rattle.journal.specs.EventRow.{event_word}
+
+abbrev pub columns_of : EventColumns → Row
+columns_of c = Text (event_word c.kind) ∷ cell_value c.t ∷ cell_value c.x ∷ cell_value c.k ∷ cell_value c.n ∷ []
+
+-- a row of which each column behind the position says so
+pub record ToldColumns (row : Row) (c : EventColumns) : Type 0 where
+  pub kind : column row 2 ≡ Text (event_word c.kind)
+  pub t : column row 3 ≡ cell_value c.t
+  pub x : column row 4 ≡ cell_value c.x
+  pub k : column row 5 ≡ cell_value c.k
+  pub n : column row 6 ≡ cell_value c.n

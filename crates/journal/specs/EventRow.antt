@@ -1,0 +1,65 @@
+-- An event as a row: its position, its kind's word, and its transaction, object, operation and number, of which some are NULL.
+use Rattle.std.specs.Prelude.{ℕ, List, [], ◌∷◌, Option, Some, None, codes, pos, if◌then◌else◌}
+use Rattle.std.specs.Str.{bytes_eq}
+use Rattle.sqlite_value.specs.declared.value.Value.{Value}
+use Rattle.sqlite_value.specs.declared.value.Value.TheVariants.{Null, Int, Text}
+use Rattle.sqlite_value.specs.Order.{Row, column, bytes}
+use Rattle.sqlite_trees.specs.Objects.{number_in}
+use Rattle.object_trait.specs.declared.event.EventKind.{EventKind}
+use Rattle.object_trait.specs.declared.event.EventKind.TheVariants as kind
+use Rattle.journal.specs.declared.event_word.EventWord.{EventWord}
+use Rattle.journal.specs.declared.event_word.EventWord.TheVariants as word
+
+-- the word of a kind of event
+abbrev pub event_word : EventWord → List ℕ
+event_word word.Begin = codes "begin"
+event_word word.Op = codes "op"
+event_word word.Busy = codes "busy"
+event_word word.None = codes "none"
+event_word word.Commit = codes "commit"
+event_word word.Abort = codes "abort"
+event_word word.Rollback = codes "rollback"
+
+-- the kind of a word, where it is one's
+abbrev pub word_of : List ℕ → Option EventWord
+word_of text =
+    if bytes_eq text (event_word word.Begin) then Some word.Begin
+    else (if bytes_eq text (event_word word.Op) then Some word.Op
+    else (if bytes_eq text (event_word word.Busy) then Some word.Busy
+    else (if bytes_eq text (event_word word.None) then Some word.None
+    else (if bytes_eq text (event_word word.Commit) then Some word.Commit
+    else (if bytes_eq text (event_word word.Abort) then Some word.Abort
+    else (if bytes_eq text (event_word word.Rollback) then Some word.Rollback
+    else None))))))
+
+-- the columns of an event that has this kind, these numbers, and no others
+abbrev pub columns : EventWord → ℕ → Value → Value → Value → Row
+columns kind t x k n = Text (event_word kind) ∷ Int (pos t) ∷ x ∷ k ∷ n ∷ []
+
+abbrev pub event_columns : EventKind → Row
+event_columns (kind.Begin t) = columns word.Begin t Null Null Null
+event_columns (kind.Op t x k) = columns word.Op t (Int (pos x)) (Int (pos k)) Null
+event_columns (kind.Busy c t x u) = columns word.Busy t (Int (pos x)) (Int (pos c)) (Int (pos u))
+event_columns (kind.None t x c) = columns word.None t (Int (pos x)) (Int (pos c)) Null
+event_columns (kind.Commit t) = columns word.Commit t Null Null Null
+event_columns (kind.Abort t) = columns word.Abort t Null Null Null
+event_columns (kind.Rollback t n) = columns word.Rollback t Null Null (Int (pos n))
+
+-- the row of the event at position n; SQLite keeps the column of the position as NULL, since it is the rowid
+abbrev pub event_row : ℕ → EventKind → Row
+event_row n e = Int (pos n) ∷ Null ∷ event_columns e
+
+-- the event of this kind with these numbers
+abbrev pub event_of : Option EventWord → ℕ → ℕ → ℕ → ℕ → EventKind
+event_of (Some word.Begin) t x k n = kind.Begin t
+event_of (Some word.Op) t x k n = kind.Op t x k
+event_of (Some word.Busy) t x k n = kind.Busy k t x n
+event_of (Some word.None) t x k n = kind.None t x k
+event_of (Some word.Commit) t x k n = kind.Commit t
+event_of (Some word.Abort) t x k n = kind.Abort t
+event_of (Some word.Rollback) t x k n = kind.Rollback t n
+event_of None t x k n = kind.Begin t
+
+-- the event that a row tells
+abbrev pub event_told : Row → EventKind
+event_told row = event_of (word_of (bytes (column row 2))) (number_in (column row 3)) (number_in (column row 4)) (number_in (column row 5)) (number_in (column row 6))

@@ -1,0 +1,62 @@
+-- What a journal holds.
+use Rattle.std.specs.Prelude.{◌≢◌, codes, pos, ◌≡◌, ◌<◌, ℕ, false, List, [], ◌∷◌, length, IsTrue}
+use Rattle.std.specs.List.{AllByRecursion}
+use Rattle.sqlite_value.specs.declared.value.Value.TheVariants.{Text}
+use Rattle.sqlite_value.specs.Order.{Row, column}
+use Rattle.sqlite_trees.specs.declared.store.Store.{Ghosts}
+use Rattle.sqlite_trees.specs.declared.store.Shape.TheVariants.{Table}
+use Rattle.sqlite_trees.specs.Tree.{Trees, has_rowid}
+use Rattle.sqlite_trees.specs.Objects.{catalog_tree}
+use Rattle.sqlite_trees.specs.View.{IsClean, View}
+use Rattle.journal.specs.declared.header.Header.{Header}
+use Rattle.journal.specs.declared.journal.Journal.{Journal}
+use Rattle.journal.specs.Contents.{Contents, IsFile, contents_of}
+
+-- the five tables are there
+pub record HasTables (v : View) : Type 0 where
+  pub each : (t : ℕ) → t < 5 → v.shape t ≡ Table
+
+-- no object of the list but that of table 0 has its name
+abbrev pub IsNamedOnce : List Row → Type 0
+IsNamedOnce = AllByRecursion (λ r. has_rowid (pos 1) r ≡ false → column r 2 ≢ Text (codes "event"))
+
+-- what the store shows: while it is not broken, a file of a store with this header and so many events
+pub record IsKeptFile (v : View) (count : ℕ) (header : Header) : Type 0 where
+  pub tables : HasTables v
+  pub file : v.is_broken ≡ false → IsFile v.trees
+  pub count_is : v.is_broken ≡ false → count ≡ length (contents_of v.trees).events
+  pub header_is : v.is_broken ≡ false → (contents_of v.trees).headers ≡ header ∷ []
+  pub kept : IsTrue v.is_open → IsFile v.committed
+  pub numbered : IsTrue v.is_numbered
+  pub named : v.is_broken ≡ false → IsNamedOnce (v.trees catalog_tree)
+
+module _ {S : Type 0} (g : Ghosts S) where
+  -- what was written
+  abbrev pub written : Journal S → Contents
+  written it = contents_of (g.view it.store).trees
+
+  -- what was there at the last commit
+  abbrev pub durable : Journal S → Contents
+  durable it = contents_of (g.view it.store).committed
+
+  -- no wrong answer of the disk was taken as true
+  abbrev pub Clean : Journal S → Type 0
+  Clean it = IsClean (g.view it.store)
+
+  abbrev pub IsOpen : Journal S → Type 0
+  IsOpen it = IsTrue (g.view it.store).is_open
+
+  -- what an open after a crash at this moment may find
+  abbrev pub may_leave : Journal S → Trees → Type 0
+  may_leave it = g.recovers it.store
+
+  abbrev pub IsJournal : Journal S → Type 0
+  IsJournal it = IsClean (g.view it.store) → IsKeptFile (g.view it.store) it.count it.header
+
+  -- a crash at this moment leaves the file as it was at the last commit
+  abbrev pub IsSettled : Journal S → Type 0
+  IsSettled it = (db : Trees) → may_leave it db → contents_of db ≡ durable it
+
+  -- its trees are listed by their numbers, as an open of the file gives it
+  abbrev pub IsNumbered : Journal S → Type 0
+  IsNumbered it = IsClean (g.view it.store) → IsTrue (g.view it.store).is_numbered

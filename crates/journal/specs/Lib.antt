@@ -1,0 +1,14 @@
+pub mod Cells
+pub mod EventRow
+pub mod EventNumbers
+pub mod EventLaws
+pub mod Rows
+pub mod Tables
+pub mod HeaderRow
+pub mod StateRow
+pub mod ObjectRows
+pub mod TypeRow
+pub mod Contents
+pub mod Journal
+pub mod Said
+pub mod Emptying

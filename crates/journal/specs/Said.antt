@@ -1,0 +1,29 @@
+-- What was read of a file.
+use Rattle.std.specs.Prelude.{◌≡◌, [], ◌∷◌}
+use Rattle.sqlite_trees.specs.Tree.{Trees}
+use Rattle.journal.specs.declared.contents.FileContents.{FileContents}
+use Rattle.journal.specs.Rows.{rows}
+use Rattle.journal.specs.EventRow.{event_row}
+use Rattle.journal.specs.HeaderRow.{header_row}
+use Rattle.journal.specs.TypeRow.{type_row}
+use Rattle.journal.specs.ObjectRows.{object_row}
+use Rattle.journal.specs.StateRow.{state_row}
+use Rattle.journal.specs.Contents.{Contents}
+
+-- the same as the tables say it
+abbrev pub contents : FileContents → Contents
+contents said = record {
+  events = said.events.items;
+  headers = said.header ∷ [];
+  types = said.types.items;
+  objects = said.objects.items;
+  states = said.states.items;
+}
+
+-- the tables have the rows of just this
+pub record IsTold (db : Trees) (said : FileContents) : Type 0 where
+  pub events : db 0 ≡ rows event_row 0 said.events.items
+  pub header : db 1 ≡ header_row 0 said.header ∷ []
+  pub types : db 2 ≡ rows type_row 0 said.types.items
+  pub objects : db 3 ≡ rows object_row 0 said.objects.items
+  pub states : db 4 ≡ rows state_row 0 said.states.items

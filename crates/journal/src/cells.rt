@@ -1,0 +1,109 @@
+//! Numbers and texts in the columns of a row.
+
+ghost use Rattle.std.specs.Prelude.{◌≡◌, ◌<◌, ◌^◌, [], ◌∷◌, pos, true, IfSome, OnOk};
+ghost use Rattle.sqlite_value.specs.Order.{column};
+ghost use Rattle.sqlite_value.specs.Value.{owned};
+ghost use Rattle.sqlite_value.specs.declared.value.Value.TheVariants.{Null, Int, Text, Blob};
+ghost use Rattle.journal.specs.Cells.{cell_value};
+
+use sqlite_value::row::Row;
+use sqlite_value::value::ValueRef;
+use std::alloc::AllocError;
+
+/// A number in a column, or NULL.
+#[derive(Clone, Copy, Debug, PartialEq, Eq)]
+pub enum Cell {
+    Null,
+    Number(u32),
+}
+
+impl Cell {
+    /// As it is written.
+    pub fn value(self) -> ValueRef<'static>
+        ensures { owned result ≡ cell_value self }
+    {
+        match self {
+            Cell::Null => ValueRef::Null,
+            Cell::Number(n) => ValueRef::Int(n as i64),
+        }
+    }
+
+    /// What is in a column, where it is NULL or a number of 32 bits.
+    pub fn in_column(row: &Row, at: usize) -> Option<Cell>
+        ensures { IfSome result (λ cell. column row.now at ≡ cell_value cell) }
+    {
+        match row.get(at) {
+            ValueRef::Null => Some(Cell::Null),
+            ValueRef::Int(n) => match number(n) {
+                Some(n) => Some(Cell::Number(n)),
+                None => None,
+            },
+            _ => None,
+        }
+    }
+}
+
+/// A number of 32 bits.
+fn number(n: i64) -> Option<u32>
+    ensures { IfSome result (λ m. n ≡ pos m) }
+{
+    u32::try_from(n).ok()
+}
+
+/// Whether a column has this number.
+pub fn is_number(row: &Row, at: usize, number: u64) -> bool
+    requires { number < 2 ^ 62 }
+    ensures { result ≡ true → column row.now at ≡ Int (pos number) }
+{
+    match row.get(at) {
+        ValueRef::Int(n) => n == number as i64,
+        _ => false,
+    }
+}
+
+/// Whether the row has this position, and NULL in the position's own column.
+pub fn is_at(row: &Row, position: u64) -> bool
+    requires { position < 2 ^ 62 }
+    ensures at { result ≡ true → column row.now 0 ≡ Int (pos position) }
+    ensures own { result ≡ true → column row.now 1 ≡ Null }
+{
+    is_number(row, 0, position) && matches!(row.get(1), ValueRef::Null)
+}
+
+/// The text in a column, where it is one.
+pub fn text_in(row: &Row, at: usize) -> Option<&[u8]>
+    ensures { IfSome result (λ text. column row.now at ≡ Text text.now) }
+{
+    match row.get(at) {
+        ValueRef::Text(text) => Some(text),
+        _ => None,
+    }
+}
+
+/// A number of 8 bits.
+pub fn byte(n: u32) -> Option<u8>
+    ensures { IfSome result (λ m. n ≡ m) }
+{
+    u8::try_from(n).ok()
+}
+
+/// Begins the row at this position: with NULL in the position's own column, since SQLite keeps it as the
+/// rowid.
+pub fn begin_row(row: &mut Row, position: u64) -> Result<(), AllocError>
+    requires { position < 2 ^ 62 }
+    ensures { OnOk result (row.new ≡ Int (pos position) ∷ Null ∷ []) }
+{
+    row.clear();
+    row.push(ValueRef::Int(position as i64))?;
+    row.push(ValueRef::Null)
+}
+
+/// The bytes in a column, where it has some.
+pub fn blob_in(row: &Row, at: usize) -> Option<&[u8]>
+    ensures { IfSome result (λ bytes. column row.now at ≡ Blob bytes.now) }
+{
+    match row.get(at) {
+        ValueRef::Blob(bytes) => Some(bytes),
+        _ => None,
+    }
+}

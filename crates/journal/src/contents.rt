@@ -1,0 +1,103 @@
+//! What the tables of a file say, and how they are read.
+
+ghost use Rattle.std.specs.Prelude.{◌≡◌, ◌<◌, ◌^◌, ◌∷◌, [], length, IfOk, OnOk};
+ghost use Rattle.sqlite_trees.specs.Tree.{Trees};
+ghost use Rattle.sqlite_trees.specs.View.{IsClean};
+ghost use Rattle.journal.specs.HeaderRow.{header_row};
+ghost use Rattle.journal.specs.Said.{IsTold};
+ghost use Rattle.journal.specs.Journal.{HasTables};
+ghost use Rattle.journal.specs.Tables.{IsUnused, OnlyReads};
+
+use crate::header::Header;
+use crate::journal_error::JournalError;
+use crate::object_row::TypeText;
+use crate::state_row::FirstState;
+use crate::table::read_all;
+use object_trait::EventKind;
+use sqlite_trees::store::Store;
+use sqlite_value::row::Row;
+use std::alloc::Global;
+use store_text::ObjectLine;
+
+/// The table of events.
+pub const EVENTS: u32 = 0;
+
+/// The table of the header.
+pub const HEADER: u32 = 1;
+
+/// The table of the texts of types.
+pub const TYPES: u32 = 2;
+
+/// The table of the objects.
+pub const OBJECTS: u32 = 3;
+
+/// The table of the states at which they began.
+pub const STATES: u32 = 4;
+
+/// What a file of a store says: of itself, the texts of types, the objects with their types, the states at
+/// which they began, and the events since, oldest first.
+#[derive(Drop)]
+pub struct FileContents {
+    pub header: Header,
+    pub types: Vec<TypeText>,
+    pub objects: Vec<ObjectLine>,
+    pub states: Vec<FirstState>,
+    pub events: Vec<EventKind>,
+}
+
+/// Reads all tables.
+///
+/// # Errors
+///
+/// `Foreign` where a row isn't one that a store writes, or there isn't one header; the file failed, or
+/// memory was refused.
+pub fn read_contents<S: Store>(
+    alloc: Global,
+    store: &mut S,
+    row: &mut Row,
+) -> Result<FileContents, JournalError>
+    requires unused { IsClean (S.Store.view store.old) → IsUnused (S.Store.view store.old) }
+    requires tables { IsClean (S.Store.view store.old) → HasTables (S.Store.view store.old) }
+    ensures told { IfOk result (λ said. IsClean (S.Store.view store.new) → IsTold (S.Store.view store.old).trees said) }
+    ensures same { OnOk result (IsClean (S.Store.view store.new) → OnlyReads (S.Store.view store.old) (S.Store.view store.new)) }
+    ensures few { IfOk result (λ said. length said.events.items < 2 ^ 62) }
+    ensures clean { IsClean (S.Store.view store.new) → IsClean (S.Store.view store.old) }
+    ensures crash { (db : Trees) → S.Store.recovers store.new db → S.Store.recovers store.old db }
+{
+    let header = read_header(alloc, store, row)?;
+    let types = read_all(alloc, store, TYPES, row)?;
+    let objects = read_all(alloc, store, OBJECTS, row)?;
+    let states = read_all(alloc, store, STATES, row)?;
+    let events = read_all(alloc, store, EVENTS, row)?;
+    Ok(FileContents {
+        header,
+        types,
+        objects,
+        states,
+        events,
+    })
+}
+
+/// Reads the one header.
+///
+/// # Errors
+///
+/// As `read_contents`.
+fn read_header<S: Store>(
+    alloc: Global,
+    store: &mut S,
+    row: &mut Row,
+) -> Result<Header, JournalError>
+    requires unused { IsClean (S.Store.view store.old) → IsUnused (S.Store.view store.old) }
+    requires tables { IsClean (S.Store.view store.old) → HasTables (S.Store.view store.old) }
+    ensures told { IfOk result (λ header. IsClean (S.Store.view store.new) → (S.Store.view store.old).trees 1 ≡ header_row 0 header ∷ []) }
+    ensures same { OnOk result (IsClean (S.Store.view store.new) → OnlyReads (S.Store.view store.old) (S.Store.view store.new)) }
+    ensures clean { IsClean (S.Store.view store.new) → IsClean (S.Store.view store.old) }
+    ensures crash { (db : Trees) → S.Store.recovers store.new db → S.Store.recovers store.old db }
+{
+    let headers: Vec<Header> = read_all(alloc, store, HEADER, row)?;
+    match headers.as_slice() {
+        [header] => Ok(*header),
+        _ => Err(JournalError::Foreign),
+    }
+}

@@ -1,0 +1,30 @@
+//! What a store keeps in a SQLite file: tables of values, whose rows are read back as they were written.
+#![tactic(auto)]
+
+mod cells;
+mod contents;
+mod creating;
+mod emptying;
+mod entry;
+mod event_row;
+mod event_word;
+mod header;
+mod journal;
+mod journal_error;
+mod lives;
+mod object_row;
+mod opening;
+mod outage;
+mod schema;
+mod state_row;
+mod table;
+
+pub use contents::FileContents;
+pub use entry::Entry;
+pub use header::Header;
+pub use journal::Journal;
+pub use journal_error::JournalError;
+pub use object_row::TypeText;
+pub use outage::{commit_and_restart, restart};
+pub use state_row::FirstState;
+pub use table::{append, read_all};

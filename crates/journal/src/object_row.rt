@@ -1,0 +1,119 @@
+//! The objects of a store, and the texts of their types, as rows.
+
+ghost use Rattle.std.specs.Prelude.{◌≡◌, IfSome};
+ghost use Rattle.journal.specs.ObjectRows.{ToldObject, object_keyed, object_read_back, object_row, object_told};
+ghost use Rattle.journal.specs.TypeRow.{type_keyed, type_read_back, type_row, type_told};
+
+use crate::cells::{Cell, begin_row, byte, is_at, text_in};
+use crate::entry::Entry;
+use sqlite_value::row::Row;
+use sqlite_value::value::ValueRef;
+use std::alloc::{AllocError, Global};
+use std::marker::Model;
+use store_text::ObjectLine;
+use type_table::Kind;
+
+/// The text of a type file. Contracts see its bytes.
+#[derive(Drop)]
+pub struct TypeText {
+    text: Vec<u8>,
+}
+
+impl Model for TypeText {
+    ghost use Rattle.std.specs.Prelude.{ℕ, List};
+
+    ghost Value = { List ℕ };
+
+    ghost view = { λ t. t.text.items };
+}
+
+impl TypeText {
+    /// These bytes.
+    pub fn new(text: Vec<u8>) -> TypeText
+        ensures { result ≡ text.items }
+    {
+        TypeText { text }
+    }
+
+    /// The bytes.
+    pub fn as_bytes(&self) -> &[u8]
+        ensures { result.now ≡ self.now }
+    {
+        &self.text
+    }
+}
+
+/// A row of its kind's word and the number of its type.
+impl Entry for ObjectLine {
+    ghost row_at = { object_row };
+
+    ghost told_by = { object_told };
+
+    ghost keyed = { object_keyed };
+
+    ghost read_back = { object_read_back };
+
+    fn fill(&self, position: u64, row: &mut Row) -> Result<(), AllocError> {
+        begin_row(row, position)?;
+        row.push(ValueRef::Text(self.kind.word().as_bytes()))?;
+        row.push(ValueRef::Int(self.file as i64))
+    }
+
+    fn is_same(&self, other: &Self) -> bool {
+        self == other
+    }
+
+    fn read(_alloc: Global, position: u64, row: &Row) -> Result<Option<ObjectLine>, AllocError> {
+        if row.len() != 4 || !is_at(row, position) {
+            return Ok(None);
+        }
+        Ok(object_in(row))
+    }
+}
+
+/// What the columns of a row say, where they are an object's.
+fn object_in(row: &Row) -> Option<ObjectLine>
+    ensures { IfSome result (λ object. ToldObject row.now object) }
+{
+    let kind = Kind::of_word(text_in(row, 2)?)?;
+    match Cell::in_column(row, 3)? {
+        Cell::Number(file) => Some(ObjectLine {
+            kind,
+            file: byte(file)?,
+        }),
+        Cell::Null => None,
+    }
+}
+
+/// A row of the text.
+impl Entry for TypeText {
+    ghost row_at = { type_row };
+
+    ghost told_by = { type_told };
+
+    ghost keyed = { type_keyed };
+
+    ghost read_back = { type_read_back };
+
+    fn fill(&self, position: u64, row: &mut Row) -> Result<(), AllocError> {
+        begin_row(row, position)?;
+        row.push(ValueRef::Text(&self.text))
+    }
+
+    fn is_same(&self, other: &Self) -> bool {
+        self.as_bytes() == other.as_bytes()
+    }
+
+    fn read(alloc: Global, position: u64, row: &Row) -> Result<Option<TypeText>, AllocError> {
+        if row.len() != 3 || !is_at(row, position) {
+            return Ok(None);
+        }
+        match text_in(row, 2) {
+            Some(text) => {
+                let text = Vec::from_slice(alloc, text)?;
+                Ok(Some(TypeText { text }))
+            }
+            None => Ok(None),
+        }
+    }
+}

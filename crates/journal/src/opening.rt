@@ -1,0 +1,135 @@
+//! Opening a journal: its tables are looked for and read.
+
+ghost use Rattle.std.specs.Prelude.{◌≡◌, ◌≢◌, codes, false, true, pos, IfOk, IsTrue};
+ghost use Rattle.sqlite_value.specs.Order.{column};
+ghost use Rattle.sqlite_value.specs.declared.value.Value.TheVariants.{Text};
+ghost use Rattle.sqlite_trees.specs.Tree.{Trees, has_rowid};
+ghost use Rattle.sqlite_trees.specs.Objects.{catalog_tree};
+ghost use Rattle.sqlite_trees.specs.View.{IsClean};
+ghost use Rattle.journal.specs.Contents.{IsFile, contents_of};
+ghost use Rattle.journal.specs.Journal.{Clean, HasTables, IsJournal, IsNamedOnce, IsOpen, durable, may_leave, written};
+ghost use Rattle.journal.specs.Said.{contents};
+
+use crate::cells::is_number;
+use crate::contents::{EVENTS, FileContents, HEADER, OBJECTS, STATES, TYPES, read_contents};
+use crate::journal::Journal;
+use crate::journal_error::JournalError;
+use sqlite_trees::store::{Alter, Shape, Store};
+use sqlite_value::row::Row;
+use sqlite_value::value::ValueRef;
+use std::alloc::{AllocError, Global};
+
+impl<S: Alter> Journal<S> {
+    /// Opens the journal in these trees, and reads it. What a transaction has written is rolled back.
+    ///
+    /// # Errors
+    ///
+    /// `Foreign` where a table is missing or has a row that no store writes; the file failed, or memory was
+    /// refused. The trees come back.
+    pub fn open(
+        alloc: Global,
+        mut store: S,
+    ) -> Result<(Journal<S>, FileContents), (JournalError, S)>
+        requires { IsClean (S.Store.view store) → IsTrue (S.Store.view store).is_numbered }
+        ensures kept { IfOk result (λ r. IsJournal S.Store r.0) }
+        ensures settled { IfOk result (λ r. Clean S.Store r.0 → written S.Store r.0 ≡ durable S.Store r.0) }
+        ensures is_open { IfOk result (λ r. Clean S.Store r.0 → IsOpen S.Store r.0) }
+        ensures clean { IfOk result (λ r. Clean S.Store r.0 → IsClean (S.Store.view store)) }
+        ensures said { IfOk result (λ r. Clean S.Store r.0 → durable S.Store r.0 ≡ contents r.1) }
+        ensures same { IfOk result (λ r. Clean S.Store r.0 → durable S.Store r.0 ≡ contents_of (S.Store.view store).committed) }
+        ensures file { IfOk result (λ r. Clean S.Store r.0 → IsFile (S.Store.view store).committed) }
+        ensures crash { IfOk result (λ r. (db : Trees) → may_leave S.Store r.0 db → S.Store.recovers store db) }
+    {
+        store.rollback();
+        match is_ready(alloc, &store) {
+            Ok(true) => {}
+            Ok(false) => return Err((JournalError::Foreign, store)),
+            Err(error) => return Err((JournalError::from(error), store)),
+        }
+        let mut row = Row::new(alloc);
+        match read_contents(alloc, &mut store, &mut row) {
+            Ok(said) => {
+                let count = said.events.as_slice().len() as u64;
+                let header = said.header;
+                Ok((
+                    Journal {
+                        store,
+                        row,
+                        count,
+                        header,
+                    },
+                    said,
+                ))
+            }
+            Err(error) => Err((error, store)),
+        }
+    }
+}
+
+/// Whether the trees aren't broken, have the tables of a store, and no other object has the name of its
+/// table of events.
+fn is_ready<S: Alter>(alloc: Global, store: &S) -> Result<bool, AllocError>
+    ensures sound { IfOk result (λ ready. IsTrue ready → IsClean (S.Store.view store.now) → (S.Store.view store.now).is_broken ≡ false) }
+    ensures tables { IfOk result (λ ready. IsTrue ready → HasTables (S.Store.view store.now)) }
+    ensures named { IfOk result (λ ready. IsTrue ready → IsClean (S.Store.view store.now) → IsNamedOnce ((S.Store.view store.now).trees catalog_tree)) }
+{
+    if store.is_broken() || !has_tables(store) {
+        return Ok(false);
+    }
+    let objects = store.objects(alloc)?;
+    Ok(are_named_once(&objects))
+}
+
+/// Whether each table of a store is there.
+fn has_tables<S: Store>(store: &S) -> bool
+    ensures { IsTrue result → HasTables (S.Store.view store.now) }
+{
+    is_table(store, EVENTS)
+        && is_table(store, HEADER)
+        && is_table(store, TYPES)
+        && is_table(store, OBJECTS)
+        && is_table(store, STATES)
+}
+
+/// Whether a tree is a table.
+pub fn is_table<S: Store>(store: &S, tree: u32) -> bool
+    ensures { IsTrue result → (S.Store.view store.now).shape tree ≡ Shape.Table }
+{
+    matches!(store.shape(tree), Shape::Table)
+}
+
+/// Whether no object but that with the rowid of the table of events has its name.
+fn are_named_once(objects: &Vec<Row>) -> bool
+    ensures { IsTrue result → IsNamedOnce objects.now.items }
+{
+    for object in objects {
+        if !is_other_named(object) {
+            return false;
+        }
+    }
+    true
+}
+
+/// Whether an object has the rowid of the table of events, or another name.
+fn is_other_named(object: &Row) -> bool
+    ensures { IsTrue result → has_rowid (pos 1) object.now ≡ false → column object.now 2 ≢ Text (codes "event") }
+{
+    is_first(object) || !is_named(object)
+}
+
+/// Whether an object has the rowid of the table of events.
+fn is_first(object: &Row) -> bool
+    ensures { IsTrue result → has_rowid (pos 1) object.now ≡ true }
+{
+    is_number(object, 0, EVENTS as u64 + 1)
+}
+
+/// Whether an object has the name of the table of events.
+fn is_named(object: &Row) -> bool
+    ensures { column object.now 2 ≡ Text (codes "event") → IsTrue result }
+{
+    match object.get(2) {
+        ValueRef::Text(name) => name == b"event".as_slice(),
+        _ => false,
+    }
+}

@@ -1,0 +1,56 @@
+//! The state at which an object began, as a row.
+
+ghost use Rattle.std.specs.Prelude.{◌≡◌, IfSome};
+ghost use Rattle.journal.specs.StateRow.{state_keyed, state_read_back, state_row, state_told};
+
+use crate::cells::{Cell, begin_row, is_at};
+use crate::entry::Entry;
+use sqlite_value::row::Row;
+use sqlite_value::value::ValueRef;
+use std::alloc::{AllocError, Global};
+
+/// The state of an object where the history of the file begins.
+#[derive(Clone, Copy, Debug, PartialEq, Eq)]
+pub struct FirstState {
+    pub state: u16,
+}
+
+/// A row of the state.
+impl Entry for FirstState {
+    ghost row_at = { state_row };
+
+    ghost told_by = { state_told };
+
+    ghost keyed = { state_keyed };
+
+    ghost read_back = { state_read_back };
+
+    fn fill(&self, position: u64, row: &mut Row) -> Result<(), AllocError> {
+        begin_row(row, position)?;
+        row.push(ValueRef::Int(self.state as i64))
+    }
+
+    fn is_same(&self, other: &Self) -> bool {
+        self == other
+    }
+
+    fn read(_alloc: Global, position: u64, row: &Row) -> Result<Option<FirstState>, AllocError> {
+        if row.len() != 3 || !is_at(row, position) {
+            return Ok(None);
+        }
+        match Cell::in_column(row, 2) {
+            Some(Cell::Number(n)) => Ok(short(n)),
+            _ => Ok(None),
+        }
+    }
+}
+
+/// A state of 16 bits.
+fn short(n: u32) -> Option<FirstState>
+    ensures { IfSome result (λ first. n ≡ first.state) }
+{
+    match u16::try_from(n) {
+        Ok(state) => Some(FirstState { state }),
+        Err(_) => None,
+    }
+}
