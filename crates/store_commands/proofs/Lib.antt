@@ -3,7 +3,6 @@ pub mod SeveralAudits
 pub mod Exits
 pub mod Files
 pub mod Kept
-pub mod NewObjects
 pub mod Passed
 pub mod Runs
 pub mod Works

@@ -10,7 +10,7 @@ use Rattle.history_audit.specs.Laws.{Passes}
 use Rattle.history_audit.specs.declared.outcome.Audit.{Audit}
 use Rattle.history_audit.specs.declared.outcome.AuditFault.{AuditFault}
 use Rattle.history_audit.specs.declared.outcome.AuditFault.TheVariants.{BadEvent, IllegalOp, NoMemory}
-use Rattle.store_files.specs.Types.{value_of}
+use Rattle.object_types.specs.Types.{value_of}
 use Rattle.store_commands.specs.Passing.{HasSerialRun, IsPassed, table_of, tables}
 
 -- the tables of objects are those of their types

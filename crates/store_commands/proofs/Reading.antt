@@ -21,7 +21,7 @@ use Rattle.store_laws.specs.Stored.{Stored, objects}
 use Rattle.store_text.specs.declared.line.ObjectLine.{ObjectLine}
 use Rattle.history_audit.specs.Audit.{Audits, IsAudit}
 use Rattle.history_audit.specs.declared.outcome.Audit.{Audit}
-use Rattle.store_files.specs.Types.{AreTypesOf}
+use Rattle.object_types.specs.Types.{AreTypesOf}
 use Rattle.work_text.specs.Reading.{IsShortYes}
 use Rattle.store_commands.specs.Passing.{HasSerialRun, tables}
 

@@ -17,7 +17,8 @@ use Rattle.history_audit.specs.declared.outcome.EpochFault.{EpochFault}
 use Rattle.command_files.specs.Answers.{Answers}
 use Rattle.command_files.specs.declared.status.Verdict.TheVariants.{Yes, No}
 use Rattle.store_files.specs.Histories.{AreHistoriesAt, DescribesHistory, IsFaultyHistory, IsFirstFaultyHistory}
-use Rattle.store_files.specs.Types.{Held, AreFilesAt, AreTablesOf, IsFirstFaulty, IsUnplaced}
+use Rattle.object_types.specs.Types.{IsUnplaced}
+use Rattle.store_files.specs.Types.{Held, AreFilesAt, AreTablesOf, IsFirstFaulty}
 
 -- the audit of a history with the tables of its objects has this outcome, and the text is its lines
 pub record IsAuditOf (history : HistoryFile) (files : List TypeFile) (outcome : Result Audit AuditFault) (text : List ℕ) : Type 0 where

@@ -16,7 +16,7 @@ use Rattle.command_files.specs.declared.fault.Fault.{Fault}
 use Rattle.command_files.specs.declared.fault.Fault.TheVariants as fault
 use Rattle.command_files.specs.declared.status.Verdict.{Verdict}
 use Rattle.command_files.specs.declared.status.Verdict.TheVariants.{Yes, No}
-use Rattle.store_files.specs.Types.{value_of}
+use Rattle.object_types.specs.Types.{value_of}
 
 -- the table of a checked type
 abbrev pub table_of : {A : Type 0} → Arc Checked A → Table

@@ -6,7 +6,7 @@ ghost use Rattle.command_files.specs.declared.fault.Fault.TheVariants.{NoMemory}
 ghost use Rattle.command_files.specs.Answers.{Comes};
 ghost use Rattle.history_audit.specs.Text.{audit_text};
 ghost use Rattle.store_commands.specs.Audited.{AuditsFiles, AuditsRead, HasAuditFault};
-ghost use Rattle.store_files.specs.Types.{IsUnplaced};
+ghost use Rattle.object_types.specs.Types.{IsUnplaced};
 
 use crate::several::{audit_each, same_objects};
 use command_files::{Fault, Source, Verdict, put_answer, read_file};

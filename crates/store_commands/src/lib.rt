@@ -2,7 +2,6 @@
 #![tactic(auto)]
 
 mod audit;
-mod fresh;
 mod laws;
 mod passing;
 mod run;

@@ -2,7 +2,7 @@
 
 ghost use Rattle.std.specs.Prelude.{◌≡◌, None, map, IfOk};
 ghost use Rattle.history_audit.specs.Audit.{Audits};
-ghost use Rattle.store_files.specs.Types.{value_of};
+ghost use Rattle.object_types.specs.Types.{value_of};
 ghost use Rattle.store_commands.specs.Passing.{IsPassed, TellsAudit, table_of};
 
 use command_files::{Fault, Verdict};

@@ -5,7 +5,7 @@ ghost use Rattle.command_files.specs.declared.fault.Fault.TheVariants.{NoMemory}
 ghost use Rattle.command_files.specs.Answers.{Comes, Refuses};
 ghost use Rattle.history_audit.specs.EpochText.{epochs_text};
 ghost use Rattle.store_commands.specs.Audited.{AuditsEach, HaveObjects, events_of};
-ghost use Rattle.store_files.specs.Types.{IsUnplaced};
+ghost use Rattle.object_types.specs.Types.{IsUnplaced};
 ghost use Rattle.std.specs.Bool.{Decides};
 
 use command_files::{Fault, Verdict, put_answer};

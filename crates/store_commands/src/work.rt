@@ -3,16 +3,16 @@
 ghost use Rattle.std.specs.Prelude.{◌≡◌, None, map};
 ghost use Rattle.command_files.specs.Answers.{ComesOr};
 ghost use Rattle.jobs_text.specs.Jobs.{calls_in};
-ghost use Rattle.store_files.specs.Types.{value_of};
+ghost use Rattle.object_types.specs.Types.{value_of};
 ghost use Rattle.store_commands.specs.Works.{BeginsWork, BeginsWorkFile, HasWorkFault, IsWholeWork, TellsWork, WorksFile, WorksOf, WritesWorkFile, did_nothing};
 ghost use Rattle.workers.specs.Worked.{Works};
 
-use crate::fresh::new_objects;
 use crate::passing::audit_of;
 use crate::schedule::Schedule;
 use command_files::{Fault, Source, Verdict, put_answer, read_file};
 use jobs_text::{Job, JobsFile};
 use object_trait::Recovery;
+use objects::new_objects;
 use outputs::Out;
 use std::alloc::Global;
 use std::sync::{Arc, Wait};

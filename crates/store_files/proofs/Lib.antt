@@ -1,4 +1,3 @@
-pub mod Pairs
 pub mod Objects
 pub mod TwoFiles
 pub mod JobLists

@@ -1,22 +1,12 @@
--- Objects at the files of two types, and texts of scripts, worked by hand.
+-- Texts of scripts, worked by hand.
 use Rattle.std.specs.Prelude.{◌≡◌, ℕ, List, [], ◌∷◌, take, Some, codes}
 use Rattle.type_table.specs.declared.kind.Kind.TheVariants.{Undo, Intentions}
-use Rattle.type_text.specs.declared.type_file.TypeFile.{TypeFile}
-use Rattle.table_checker.specs.Examples.{counter_file, one_way_file}
 use Rattle.serial_order.specs.declared.command.Command.{Command}
 use Rattle.serial_order.specs.declared.command.Command.TheVariants.{Begin, Call, Commit, Abort, Rollback}
 use Rattle.script_text.specs.declared.script.Script.{Script}
 use Rattle.store_text.specs.declared.line.ObjectLine.{ObjectLine}
 use Rattle.script_text.specs.Examples.{ended, script_text}
 use Rattle.store_files.specs.Types.{Held}
-
--- the counter of two and the one-way type, in this order
-abbrev pub two_files : List TypeFile
-two_files = counter_file ∷ one_way_file ∷ []
-
--- an object with update in place, of the type at a place
-abbrev pub at_place : ℕ → ObjectLine
-at_place place = record { kind = Undo; file = place }
 
 -- the script has this limit, these objects and these commands
 pub record Has (max : ℕ) (objects : List ObjectLine) (commands : List Command) (script : Script) : Type 0 where

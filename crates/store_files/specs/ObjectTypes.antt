@@ -6,11 +6,12 @@ use Rattle.table_checker.specs.declared.refusal.CheckRefusal.{CheckRefusal}
 use Rattle.store_text.specs.declared.line.ObjectLine.{ObjectLine}
 use Rattle.command_files.specs.Answers.{Refuses}
 use Rattle.command_files.specs.declared.fault.Fault.{Fault}
-use Rattle.store_files.specs.Types.{Held, AreFilesAt, AreTypesOf, IsAccepted, IsFirstFaulty, IsFirstWith, value_of}
+use Rattle.object_types.specs.Types.{AreTypesOf, IsAccepted, IsFirstWith, value_of}
+use Rattle.object_types.specs.declared.object_fault.ObjectFault.TheVariants.{NoType, Refused as RefusedType}
+use Rattle.store_files.specs.Types.{Held, AreFilesAt, IsFirstFaulty}
 use Rattle.store_files.specs.Lines.{object_line}
-use Rattle.store_files.specs.declared.object_fault.ObjectFault.TheVariants.{NoType, Refused as RefusedType}
-use Rattle.store_files.specs.declared.object_types.ObjectTypes.{ObjectTypes}
-use Rattle.store_files.specs.declared.object_types.ObjectTypes.TheVariants.{Accepted, Refused}
+use Rattle.store_files.specs.declared.found_types.ObjectTypes.{ObjectTypes}
+use Rattle.store_files.specs.declared.found_types.ObjectTypes.TheVariants.{Accepted, Refused}
 
 -- each TYPE word has its file, and each object has for its type the file at the place that it names
 pub record AreTypesAt (holds : Held) (words : List (List ℕ)) (objects : List ObjectLine) (types : List Checked) : Type 0 where

@@ -2,17 +2,14 @@
 //! and the types or the tables of the objects.
 #![tactic(auto)]
 
-mod accept;
 mod formats;
-mod object_fault;
-mod object_types;
+mod found_types;
 mod reading;
 mod refused_line;
 mod tables;
 
 pub use formats::{HistoryFormat, JobsFormat, ScriptFormat};
-pub use object_fault::ObjectFault;
-pub use object_types::{ObjectTypes, types_for};
+pub use found_types::{ObjectTypes, types_for};
 pub use reading::{read_histories, read_types};
 pub use refused_line::object_line;
 pub use tables::tables_of;

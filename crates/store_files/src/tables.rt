@@ -2,7 +2,8 @@
 
 ghost use Rattle.std.specs.Prelude.{◌≡◌, map, IfOk, IfErr};
 ghost use Rattle.command_files.specs.Answers.{Refuses};
-ghost use Rattle.store_files.specs.Types.{AreTablesOf, IsUnplaced};
+ghost use Rattle.object_types.specs.Types.{IsUnplaced};
+ghost use Rattle.store_files.specs.Types.{AreTablesOf};
 
 use command_files::Fault;
 use std::alloc::Global;

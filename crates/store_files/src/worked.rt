@@ -6,12 +6,12 @@ ghost use Rattle.type_table.specs.Examples.{counter, one_way};
 ghost use Rattle.script_text.specs.declared.script.Script.{Script as ScriptValue};
 ghost use Rattle.script_text.specs.Examples.{ended, script_text};
 ghost use Rattle.command_files.specs.Examples.{endless_bytes};
+ghost use Rattle.object_types.specs.Examples.{two_files, at_place};
 ghost use Rattle.store_files.specs.Lines.{object_line};
-ghost use Rattle.store_files.specs.Types.{AreTablesOf, HasPlace, IsFaultAt, IsFirstFaulty, IsUnplacedAt};
+ghost use Rattle.store_files.specs.Types.{AreTablesOf, IsFirstFaulty};
 ghost use Rattle.store_files.specs.Scripts.{DescribesScript, IsFaultyScript};
-ghost use Rattle.store_files.specs.Examples.{Has, two_files, at_place, endless_script, everywhere, script_objects, script_commands};
+ghost use Rattle.store_files.specs.Examples.{Has, endless_script, everywhere, script_objects, script_commands};
 
-use crate::object_fault::ObjectFault;
 use command_files::worked::a_text_with_a_fault;
 use script_text::worked::{faults_of_the_script, lines_say_their_script, texts_say_their_lines};
 use table_checker::CheckRefusal;
@@ -26,16 +26,6 @@ pub fn objects_have_their_tables()
     ensures tables { AreTablesOf two_files (at_place 1 ∷ at_place 0 ∷ []) (one_way ∷ counter ∷ []) }
     ensures exchanged { AreTablesOf two_files (at_place 1 ∷ at_place 0 ∷ []) (counter ∷ one_way ∷ []) → ⊥ }
     ensures fewer { AreTablesOf two_files (at_place 1 ∷ at_place 0 ∷ []) (one_way ∷ []) → ⊥ }
-    ensures place { HasPlace two_files (at_place 1) }
-    ensures no_place { HasPlace two_files (at_place 2) → ⊥ }
-{}
-
-/// The second object and the third name no type. The fault is that of the second.
-pub fn the_first_object_has_the_fault()
-    ensures first { IsUnplacedAt two_files (at_place 1 ∷ at_place 2 ∷ at_place 3 ∷ []) 1 2 }
-    ensures later { IsUnplacedAt two_files (at_place 1 ∷ at_place 2 ∷ at_place 3 ∷ []) 2 3 → ⊥ }
-    ensures elsewhere { IsFaultAt two_files 1 (at_place 2) (ObjectFault.NoType 0 2) → ⊥ }
-    ensures there { IsFaultAt two_files 1 (at_place 1) (ObjectFault.NoType 1 1) → ⊥ }
 {}
 
 /// The first of two types has a fault. None of no types has one.

@@ -3,7 +3,7 @@ use Rattle.std.proofs.lemmas.Bool.{eqb-true, eqb-false}
 use Rattle.type_text.specs.declared.type_file.TypeFile.{TypeFile}
 use Rattle.history_text.specs.declared.history_file.HistoryFile.{HistoryFile}
 use Rattle.command_files.proofs.Comes.{comes}
-use Rattle.store_files.specs.Types.{IsUnplaced}
+use Rattle.object_types.specs.Types.{IsUnplaced}
 use Rattle.store_commands.specs.Audited.{AuditsEach, AuditsRead, HaveObjects}
 use Rattle.store_commands.proofs.Exits.{exits_early}
 use Rattle.store_commands.proofs.Kept.{faulty_kept}

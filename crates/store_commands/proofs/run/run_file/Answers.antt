@@ -6,8 +6,8 @@ use Rattle.command_files.specs.declared.status.Verdict.{Verdict}
 use Rattle.command_files.proofs.Comes.{comes_among}
 use Rattle.store_files.specs.ObjectTypes.{AreTypesAt, FindsTypes, IsRefusedAt}
 use Rattle.store_files.specs.Scripts.{DescribesScript, IsFaultyScript}
-use Rattle.store_files.specs.Types.{value_of}
-use Rattle.store_files.specs.declared.object_types.ObjectTypes.{ObjectTypes}
+use Rattle.object_types.specs.Types.{value_of}
+use Rattle.store_files.specs.declared.found_types.ObjectTypes.{ObjectTypes}
 use Rattle.store_commands.specs.Runs.{BeginsRunFile, RunsFile, WritesRunFile}
 use Rattle.store_commands.proofs.Files.{says_refused, without_types}
 use Rattle.store_commands.proofs.Runs.{runs_file, says_no}

@@ -1,5 +1,5 @@
 use Rattle.std.proofs.Common.{map}
-use Rattle.store_files.specs.Types.{value_of}
+use Rattle.object_types.specs.Types.{value_of}
 use Rattle.store_commands.proofs.Works.{begins, told}
 use Rattle.store_commands.proofs.work.work_at.Goals as goal
 

@@ -6,8 +6,8 @@ use Rattle.command_files.specs.declared.status.Verdict.{Verdict}
 use Rattle.command_files.proofs.Comes.{comes_among}
 use Rattle.store_files.specs.Jobs.{DescribesJobs, IsFaultyJobs}
 use Rattle.store_files.specs.ObjectTypes.{AreTypesAt, FindsTypes, IsRefusedAt}
-use Rattle.store_files.specs.Types.{value_of}
-use Rattle.store_files.specs.declared.object_types.ObjectTypes.{ObjectTypes}
+use Rattle.object_types.specs.Types.{value_of}
+use Rattle.store_files.specs.declared.found_types.ObjectTypes.{ObjectTypes}
 use Rattle.store_commands.specs.Works.{BeginsWorkFile, WorksFile, WritesWorkFile}
 use Rattle.store_commands.proofs.Files.{says_refused, without_types}
 use Rattle.store_commands.proofs.Works.{says_no, works_file}

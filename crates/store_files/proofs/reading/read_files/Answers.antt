@@ -2,8 +2,9 @@ use Rattle.std.proofs.Common.{ℕ, List, map, IfSome, Option, subst, arith, ◌�
 use Rattle.std.proofs.lemmas.Grind.{common_steps}
 use Rattle.command_files.specs.Answers.{Refuses}
 use Rattle.command_files.proofs.Comes.{refused_more}
+use Rattle.object_types.proofs.LookUps.{err_exit}
 use Rattle.store_files.specs.Types.{IsFirstFaultyOf}
-use Rattle.store_files.proofs.Objects.{at_map, err_exit, files_push, first_faulty}
+use Rattle.store_files.proofs.Objects.{at_map, files_push, first_faulty}
 use Rattle.store_files.proofs.reading.read_files.Goals as goal
 
 pub returns-in_err-file-clause-refused : goal.returns-in_err-file-clause-refused

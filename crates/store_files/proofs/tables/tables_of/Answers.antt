@@ -1,7 +1,8 @@
 use Rattle.std.proofs.Common.{ap, map, refl, ◌∙◌}
 use Rattle.std.proofs.lemmas.List.{map_push}
 use Rattle.std.proofs.lemmas.Option.{slice_get-get_or}
-use Rattle.store_files.proofs.Objects.{first_without, found, not_found, tables_push}
+use Rattle.object_types.proofs.LookUps.{found, not_found}
+use Rattle.store_files.proofs.Objects.{first_without, tables_push}
 use Rattle.store_files.proofs.tables.tables_of.Goals as goal
 
 pub returns-in-None-clause-refused : goal.returns-in-None-clause-refused

@@ -1,7 +1,6 @@
 use Rattle.std.proofs.Common.{refl}
 use Rattle.type_table.specs.Examples.{counter}
-use Rattle.table_checker.specs.Examples.{one_way_file}
-use Rattle.store_files.specs.Examples.{at_place}
+use Rattle.object_types.specs.Examples.{at_place}
 use Rattle.store_files.proofs.TwoFiles.{two-tables, counter-elsewhere}
 use Rattle.store_files.proofs.worked.objects_have_their_tables.Goals as goal
 
@@ -10,6 +9,3 @@ returns-clause-tables c = two-tables
 
 pub returns-clause-exchanged : goal.returns-clause-exchanged
 returns-clause-exchanged c = λ are. counter-elsewhere (are.each 0 (at_place 1) counter refl refl)
-
-pub returns-clause-place : goal.returns-clause-place
-returns-clause-place c = (one_way_file, refl)

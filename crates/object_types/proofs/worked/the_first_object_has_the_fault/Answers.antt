@@ -1,5 +1,5 @@
-use Rattle.store_files.proofs.TwoFiles.{second-unplaced, third-not_first}
-use Rattle.store_files.proofs.worked.the_first_object_has_the_fault.Goals as goal
+use Rattle.object_types.proofs.TwoFiles.{second-unplaced, third-not_first}
+use Rattle.object_types.proofs.worked.the_first_object_has_the_fault.Goals as goal
 
 pub returns-clause-first : goal.returns-clause-first
 returns-clause-first c = second-unplaced

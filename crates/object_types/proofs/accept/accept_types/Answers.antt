@@ -1,9 +1,10 @@
 use Rattle.std.proofs.Common.{ap, map, ◌∙◌}
 use Rattle.std.proofs.lemmas.List.{map_push}
 use Rattle.std.proofs.lemmas.Option.{slice_get-get_or}
-use Rattle.store_files.specs.Types.{IsAccepted, IsFirstFault, value_of}
-use Rattle.store_files.proofs.Objects.{err_exit, first_fault, types_push}
-use Rattle.store_files.proofs.accept.accept_types.Goals as goal
+use Rattle.object_types.specs.Types.{IsAccepted, IsFirstFault, value_of}
+use Rattle.object_types.proofs.Objects.{first_fault, types_push}
+use Rattle.object_types.proofs.LookUps.{err_exit}
+use Rattle.object_types.proofs.accept.accept_types.Goals as goal
 
 pub returns-in_err-accepted-clause-refused : goal.returns-in_err-accepted-clause-refused
 returns-in_err-accepted-clause-refused c =

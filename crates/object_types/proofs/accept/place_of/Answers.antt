@@ -1,8 +1,8 @@
 use Rattle.std.proofs.Common.{sym, rules}
 use denote.Enum.Bare.{same_true}
 use Rattle.type_table.specs.contracts.kind.Kind.{the_type}
-use Rattle.store_files.proofs.Objects.{same_line}
-use Rattle.store_files.proofs.accept.place_of.Goals as goal
+use Rattle.object_types.proofs.Objects.{same_line}
+use Rattle.object_types.proofs.accept.place_of.Goals as goal
 
 pub returns-then-other-line : goal.returns-then-other-line
 returns-then-other-line c =

@@ -1,8 +1,8 @@
 use Rattle.std.proofs.Common.{◌≡◌, ◌+◌, [], ◌∷◌, ◌++◌, map, take, sym, ap, ◌∙◌, arith}
+use Rattle.std.specs.Arc.{arc_value}
 use Rattle.std.proofs.lemmas.List.{take_more, map_push}
-use Rattle.store_files.specs.Types.{value_of}
-use Rattle.store_commands.proofs.NewObjects.{objects_fresh, objects_types}
-use Rattle.store_commands.proofs.fresh.new_objects.Goals as goal
+use Rattle.objects.proofs.NewObjects.{objects_new, objects_types}
+use Rattle.objects.proofs.fresh.new_objects.Goals as goal
 
 pub loop-checked-preserved : goal.loop-checked-preserved
 loop-checked-preserved c =
@@ -14,9 +14,9 @@ loop-checked-preserved c =
     record {
       room = omega (arith, c.loop-checked.invariant.room, c.push_reserved.ensures.capacity);
       count = omega (arith, c.loop-checked.invariant.count, c.push_reserved.ensures.len);
-      fresh = objects_fresh c.loop-checked.objects.items c.push_reserved.new.self.items c.new.result c.push_reserved.ensures.items c.loop-checked.invariant.fresh c.new.ensures.fresh;
+      fresh = objects_new c.loop-checked.objects.items c.push_reserved.new.self.items c.new.result c.push_reserved.ensures.items c.loop-checked.invariant.fresh c.new.ensures.fresh;
       types =
-          objects_types c.loop-checked.objects.items c.push_reserved.new.self.items c.new.result (map value_of (take i types)) (value_of item) c.push_reserved.ensures.items
+          objects_types c.loop-checked.objects.items c.push_reserved.new.self.items c.new.result (map arc_value (take i types)) (arc_value item) c.push_reserved.ensures.items
           c.loop-checked.invariant.types (c.new.ensures.checked ∙ c.in_ok-clone.ensures.cases)
-          ∙ sym (map_push value_of (take i types) item) ∙ sym (ap (map value_of) more);
+          ∙ sym (map_push arc_value (take i types) item) ∙ sym (ap (map arc_value) more);
     }

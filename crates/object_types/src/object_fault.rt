@@ -1,10 +1,10 @@
 ghost use Rattle.std.specs.Prelude.{◌≡◌};
-ghost use Rattle.store_files.specs.declared.object_fault.ObjectFault.TheVariants.{NoMemory};
+ghost use Rattle.object_types.specs.declared.object_fault.ObjectFault.TheVariants.{NoMemory};
 
 use std::alloc::{AllocError, AllocFailed};
 use table_checker::CheckRefusal;
 
-/// Why the objects of a text don't all have a type: the first object that has none, counted from 0.
+/// Why objects don't all have a type: the first object that has none, counted from 0.
 #[derive(Clone, Copy, Debug, PartialEq, Eq)]
 pub enum ObjectFault {
     /// No TYPE word is at the place that object x names.

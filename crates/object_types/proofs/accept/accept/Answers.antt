@@ -1,7 +1,8 @@
 use Rattle.std.proofs.Common.{refl}
 use Rattle.std.proofs.lemmas.Result.{IfOk-weaker}
-use Rattle.store_files.proofs.Objects.{found, not_found, refused_at, shared_type}
-use Rattle.store_files.proofs.accept.accept.Goals as goal
+use Rattle.object_types.proofs.Objects.{refused_at, shared_type}
+use Rattle.object_types.proofs.LookUps.{found, not_found}
+use Rattle.object_types.proofs.accept.accept.Goals as goal
 
 pub returns-in-Some-clause-accepted : goal.returns-in-Some-clause-accepted
 returns-in-Some-clause-accepted c =

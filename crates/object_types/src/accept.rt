@@ -1,7 +1,7 @@
-//! The checked types of a store's objects.
+//! The checked types of objects, one after another.
 
 ghost use Rattle.std.specs.Prelude.{◌≡◌, Some, map, IfOk, IfErr, IfSome, slice_get};
-ghost use Rattle.store_files.specs.Types.{AreTypesOf, IsTypeOf, IsFirstFault, IsAccepted, IsFaultAt, IsCheckedFor, IsRefusedFor, value_of};
+ghost use Rattle.object_types.specs.Types.{AreTypesOf, IsTypeOf, IsFirstFault, IsAccepted, IsFaultAt, IsCheckedFor, IsRefusedFor, value_of};
 
 use crate::object_fault::ObjectFault;
 use std::alloc::Global;
@@ -17,7 +17,7 @@ use type_text::TypeFile;
 ///
 /// The first object whose place isn't that of a file, or whose type isn't accepted for its kind; or
 /// memory was refused.
-pub(crate) fn accept_types(
+pub fn accept_types(
     alloc: Global,
     files: &[TypeFile],
     objects: &[ObjectLine],

@@ -3,10 +3,9 @@
 ghost use Rattle.std.specs.Prelude.{map};
 ghost use Rattle.store_files.specs.ObjectTypes.{FindsTypes};
 
-use crate::accept::accept_types;
-use crate::object_fault::ObjectFault;
 use crate::reading::read_types;
 use command_files::{Fault, Source};
+use object_types::{ObjectFault, accept_types};
 use std::alloc::Global;
 use std::sync::Arc;
 use store_text::ObjectLine;

@@ -1,14 +1,12 @@
 -- Two lists of which each pair at one place has something to do with each other.
 use Rattle.std.proofs.Common.{◌≡◌, ℕ, suc, zero, List, [], ◌∷◌, ◌++◌, length, Some, subst, arith, refl}
 use Rattle.std.specs.Prelude.{slice_get}
+use Rattle.std.proofs.lemmas.List.{length-append}
 
 module _ {A B : Type 0} (P : A → B → Type 0) where
   -- it holds at each place
   abbrev pub Each : List A → List B → Type 0
   Each xs ys = (k : ℕ) (x : A) (y : B) → slice_get xs k ≡ Some x → slice_get ys k ≡ Some y → P x y
-
-  pub each_none : Each [] []
-  each_none k x y first second = absurd cc
 
   -- of what is the same
   here_too : (a x : A) (b y : B) → P a b → Some a ≡ Some x → Some b ≡ Some y → P x y
@@ -33,3 +31,7 @@ module _ {A B : Type 0} (P : A → B → Type 0) where
   each_has (c ∷ xs) [] same each k a there = absurd (omega (arith, same))
   each_has (c ∷ xs) (d ∷ ys) same each zero a there = (d, refl, each zero a d there refl)
   each_has (c ∷ xs) (d ∷ ys) same each (suc k) a there = each_has xs ys (omega (arith, same)) (λ j. each (suc j)) k a there
+
+-- both grow by one
+pub one_more : {X Y : Type 0} (xs : List X) (x : X) (ys : List Y) (y : Y) → length ys ≡ length xs → length (ys ++ y ∷ []) ≡ length (xs ++ x ∷ [])
+one_more xs x ys y same = omega (arith, length-append ys (y ∷ []), length-append xs (x ∷ []))

@@ -1,0 +1,4 @@
+pub mod LookUps
+pub mod Objects
+pub mod Pairs
+pub mod TwoFiles
