@@ -1,4 +1,4 @@
-ghost use Rattle.std.specs.Prelude.{◌≡◌, ℕ, ◌+◌, ◌*◌, ◌<◌, ◌≤◌, ◌==◌, ◌&&◌, ◌||◌, length, IfOk};
+ghost use Rattle.std.specs.Prelude.{◌≡◌, ℕ, ◌+◌, ◌*◌, ◌<◌, ◌≤◌, ◌==◌, ◌&&◌, ◌||◌, true, length, IfOk};
 ghost use Rattle.type_table.specs.ConflictTable.{IsSquare};
 
 use crate::bits::{has_bit, set_bit};
@@ -78,6 +78,16 @@ impl Relation {
         let words = Vec::from_slice(alloc, &self.words)?;
         let states = self.states;
         Ok(Relation { words, states })
+    }
+
+    /// Whether it is the same relation as another, between as many states.
+    pub fn is_same(&self, other: &Relation) -> bool
+        ensures { result ≡ true → self.now ≡ other.now }
+    {
+        if self.states != other.states {
+            return false;
+        }
+        self.words == other.words
     }
 }
 

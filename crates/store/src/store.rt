@@ -1,6 +1,6 @@
 //! The store, and what is read of it.
 
-ghost use Rattle.std.specs.Prelude.{◌≡◌, ◌≤◌, [], map, length, drop, nat_lt, is_some, IfOk, IfErr, IfSome};
+ghost use Rattle.std.specs.Prelude.{◌≡◌, ◌≤◌, [], map, length, drop, nat_lt, slice_get, is_some, Some, IfOk, IfErr, IfSome};
 ghost use Rattle.serial_order.specs.History.{begins};
 ghost use Rattle.serial_order.specs.Laws.{AreChecked};
 ghost use Rattle.serial_order.specs.Machine.{IsRun};
@@ -20,6 +20,7 @@ use serial_order::checked_headline;
 use std::alloc::Global;
 use std::marker::Model;
 use store_laws::new_is_kept;
+use table_checker::CheckedType;
 use type_table::runs_along;
 
 /// Transactions over shared objects, each of which has a checked type and a way of recovering from
@@ -122,6 +123,15 @@ impl<R: Recovery> Store<R> {
         ensures { result ≡ length (objects self.now) }
     {
         self.objects.len() as u32
+    }
+
+    /// The type of the object at x, at the state where its history begins; None where there is none.
+    pub fn checked(&self, x: u32) -> Option<&CheckedType>
+        ensures there { is_some result ≡ nat_lt x (length self.now.types) }
+        ensures checked { IfSome result (λ c. slice_get self.now.types x ≡ Some c.now) }
+    {
+        let object = self.objects.get(x as usize)?;
+        Some(object.checked())
     }
 
     /// The state of the object at x, None where there is none. It agrees with the serial state.

@@ -10,14 +10,14 @@ use Rattle.type_table.specs.StateSet.{has}
 use Rattle.type_table.specs.ConflictTable.{conflicts}
 use Rattle.type_table.specs.declared.kind.Kind.{Kind}
 use Rattle.type_table.specs.declared.kind.Kind.TheVariants.{Undo, Intentions}
-use Rattle.type_text.specs.TypeFile.{conflicts_of}
+use Rattle.type_text.specs.TypeFile.{file_at, conflicts_of}
 use Rattle.type_text.specs.declared.type_file.TypeFile.{TypeFile}
 use Rattle.table_checker.specs.Checked.{Checked, IsChecked, IsStrong, IsCertified, condition_of, strong_condition_of}
 use Rattle.table_checker.specs.Condition.{passes, passes_forward, passes_backward, passes_both_ways, fails_at, AreInside, PassesEverywhere}
 use Rattle.table_checker.specs.Reach.{leaves_at, NeverLeaves}
 use Rattle.table_checker.specs.declared.condition.Condition.{Condition}
 use Rattle.table_checker.specs.declared.condition.Condition.TheVariants.{Forward, Backward, BackwardBothWays}
-use Rattle.table_checker.specs.At.{file_at, checked_at, AtIsChecked, AtIsStrong}
+use Rattle.table_checker.specs.At.{checked_at, AtIsChecked, AtIsStrong}
 
 -- ---- what the checker tested
 

@@ -1,13 +1,8 @@
 -- A checked type that begins at another state.
 use Rattle.std.specs.Prelude.{◌≡◌, ℕ, true}
-use Rattle.type_table.specs.Table.{table_at}
 use Rattle.type_table.specs.StateSet.{has}
-use Rattle.type_text.specs.declared.type_file.TypeFile.{TypeFile}
+use Rattle.type_text.specs.TypeFile.{file_at}
 use Rattle.table_checker.specs.Checked.{Checked, IsChecked, IsStrong}
-
--- the file of the type that begins at s
-abbrev pub file_at : TypeFile → ℕ → TypeFile
-file_at file s = record file { table = table_at file.table s }
 
 -- the type as it was checked, beginning at s
 abbrev pub checked_at : Checked → ℕ → Checked

@@ -7,7 +7,7 @@ use crate::scan::passes_everywhere;
 use std::alloc::{AllocError, Global};
 use std::marker::Model;
 use type_table::{ConflictTable, Kind, TypeTable};
-use type_text::TypeFile;
+use type_text::{TypeFile, parts_tell_the_file};
 
 /// A type file that the checker accepted for a kind of recovery. Only the checker makes one.
 #[derive(Drop)]
@@ -74,7 +74,25 @@ impl CheckedType {
         ensures { self.new ≡ checked_at self.old state }
     {
         at_is_checked();
+        parts_tell_the_file();
         self.file.table.begin_at(state);
+    }
+
+    /// Whether it is the other type, beginning at this state.
+    pub fn is_at(&self, other: &CheckedType, state: u16) -> bool
+        ensures { result ≡ true → self.now ≡ checked_at other.now state }
+    {
+        if self.kind != other.kind {
+            return false;
+        }
+        self.file.is_at(&other.file, state)
+    }
+
+    /// Whether it is the same type as another.
+    pub fn is_same(&self, other: &CheckedType) -> bool
+        ensures { result ≡ true → self.now ≡ other.now }
+    {
+        self.is_at(other, other.table().initial())
     }
 
     /// The kind of recovery for which the file was accepted.

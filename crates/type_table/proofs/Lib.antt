@@ -9,3 +9,4 @@ pub mod Padding
 pub mod Runs
 pub mod Steps
 pub mod Twins
+pub mod Same

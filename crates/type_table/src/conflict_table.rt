@@ -1,4 +1,4 @@
-ghost use Rattle.std.specs.Prelude.{◌≡◌, ◌≤◌, ◌<◌, ◌==◌, ◌&&◌, ◌||◌, ℕ, false, length};
+ghost use Rattle.std.specs.Prelude.{◌≡◌, ◌≤◌, ◌<◌, ◌==◌, ◌&&◌, ◌||◌, ℕ, true, false, length};
 ghost use Rattle.std.specs.Int.{bit_at};
 ghost use Rattle.type_table.specs.ConflictTable.{conflicts, IsSquare};
 ghost use Rattle.type_table.specs.Limits.{most_ops};
@@ -84,5 +84,15 @@ impl ConflictTable {
     {
         let word = self.words[p as usize];
         word >> q & 1 == 1
+    }
+
+    /// Whether it is the same table as another, of as many operations.
+    pub fn is_same(&self, other: &ConflictTable) -> bool
+        ensures { result ≡ true → self.now ≡ other.now }
+    {
+        if self.ops != other.ops {
+            return false;
+        }
+        self.words == other.words
     }
 }

@@ -73,4 +73,14 @@ impl StateSet {
     {
         self.members[s as usize]
     }
+
+    /// Whether it is the same set as another, of a type of as many states.
+    pub fn is_same(&self, other: &StateSet) -> bool
+        ensures { result ≡ true → self.now ≡ other.now }
+    {
+        if self.states != other.states {
+            return false;
+        }
+        self.members == other.members
+    }
 }

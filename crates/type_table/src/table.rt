@@ -1,4 +1,4 @@
-ghost use Rattle.std.specs.Prelude.{◌≡◌, ◌<◌, ℕ, Some, None, List, length, All, MatchResult, IfOk, IfSome};
+ghost use Rattle.std.specs.Prelude.{◌≡◌, ◌<◌, ℕ, true, Some, None, List, length, All, MatchResult, IfOk, IfSome};
 ghost use Rattle.std.specs.List.{list_all, position};
 ghost use Rattle.std.specs.Str.{bytes_eq};
 ghost use Rattle.type_table.specs.declared.op.Op.{Op as OpValue};
@@ -96,6 +96,26 @@ impl TypeTable {
         ensures { self.new ≡ table_at self.old state }
     {
         self.initial = state;
+    }
+
+    /// Whether it is the other table, beginning at this state. What differs most is looked at first.
+    pub fn is_at(&self, other: &TypeTable, state: u16) -> bool
+        ensures { result ≡ true → self.now ≡ table_at other.now state }
+    {
+        if self.initial != state || self.states != other.states {
+            return false;
+        }
+        if self.name != other.name || self.ops != other.ops {
+            return false;
+        }
+        self.steps == other.steps
+    }
+
+    /// Whether it is the same table as another.
+    pub fn is_same(&self, other: &TypeTable) -> bool
+        ensures { result ≡ true → self.now ≡ other.now }
+    {
+        self.is_at(other, other.initial)
     }
 
     /// The name of the type.

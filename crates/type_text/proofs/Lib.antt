@@ -19,3 +19,4 @@ pub mod CanonicalSpelled
 pub mod CanonicalFile
 pub mod CanonicalRead
 pub mod SameFile
+pub mod SameParts

@@ -131,6 +131,10 @@ CanonicalIsRead = (file : TypeFile) → IsTypeFile file → HasNames file.table 
 abbrev pub LinesTellTheFile : Type 0
 LinesTellTheFile = (lines : List TypeLine) (a b : TypeFile) → IsTypeFile a → IsTypeFile b → IsFileOf lines a → IsFileOf lines b → IsSameFile a b
 
+-- two files with the same parts are one
+abbrev pub PartsTellTheFile : Type 0
+PartsTellTheFile = (a b : TypeFile) → IsSameFile a b → a ≡ b
+
 -- what a reading answers of the canonical text of a file has the parts of that file
 abbrev pub WrittenIsRead : Type 0
 WrittenIsRead = (file back : TypeFile) → IsTypeFile file → HasNames file.table → IsTypeFile back → Reads (Ok back) (canonical_text file) → IsSameFile file back

@@ -1,6 +1,6 @@
 -- The file that the lines of a text describe.
 use Rattle.std.specs.Prelude.{◌≡◌, ◌↔◌, ◌⊎◌, ◌<◌, ℕ, Bool, true, List, slice_get, Some, Contains, Result, Ok, Err}
-use Rattle.type_table.specs.Table.{Table, next}
+use Rattle.type_table.specs.Table.{Table, next, table_at}
 use Rattle.type_table.specs.StateSet.{has}
 use Rattle.equi_cert.specs.Relation.{relates}
 use Rattle.type_table.specs.ConflictTable.{conflicts}
@@ -34,6 +34,10 @@ pub record IsFileOf (lines : List TypeLine) (file : TypeFile) : Type 0 where
   pub relation : (s t : ℕ) → s < file.table.states → t < file.table.states → (relates file.relation s t ≡ true) ↔ ((s ≡ t) ⊎ Contains lines (Equi s t))
   pub undo : (p q : ℕ) → (conflicts file.undo p q ≡ true) ↔ Contains lines (Conflict Undo p q)
   pub intentions : (p q : ℕ) → (conflicts file.intentions p q ≡ true) ↔ Contains lines (Conflict Intentions p q)
+
+-- the file of the type that begins at s
+abbrev pub file_at : TypeFile → ℕ → TypeFile
+file_at file s = record file { table = table_at file.table s }
 
 -- the file's conflict table for a kind
 abbrev pub conflicts_of : Kind → TypeFile → List (List Bool)

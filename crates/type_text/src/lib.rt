@@ -14,7 +14,7 @@ mod type_line;
 mod type_lines;
 mod write;
 
-pub use laws::{canonical_is_read, lines_tell_the_file, written_is_read};
+pub use laws::{canonical_is_read, lines_tell_the_file, parts_tell_the_file, written_is_read};
 pub use line_text::{FaultKind, TextFault};
 pub use outputs::{
     Failed, Out, OutFault, Sink, items_in_turn, put, put_all, put_line, texts_in_turn,

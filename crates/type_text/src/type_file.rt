@@ -1,6 +1,7 @@
 ghost use Rattle.std.specs.Prelude.{◌≡◌, true, length, IfOk};
 ghost use Rattle.std.specs.List.{list_any};
 
+use crate::laws::parts_tell_the_file;
 use equi_cert::Relation;
 use std::alloc::{AllocError, Global};
 use type_table::{ConflictTable, StateSet, TypeTable};
@@ -22,6 +23,8 @@ pub struct TypeFile {
 }
 
 impl TypeFile {
+    ghost use Rattle.type_text.specs.TypeFile.{file_at};
+
     /// An equal file.
     pub fn copy(&self, alloc: Global) -> Result<TypeFile, AllocError>
         ensures { IfOk result (λ file. file ≡ self.now) }
@@ -35,5 +38,26 @@ impl TypeFile {
             undo: self.undo.copy(),
             intentions: self.intentions.copy(),
         })
+    }
+
+    /// Whether it is the other file, with a table that begins at this state.
+    pub fn is_at(&self, other: &TypeFile, state: u16) -> bool
+        ensures { result ≡ true → self.now ≡ file_at other.now state }
+    {
+        parts_tell_the_file();
+        if !self.table.is_at(&other.table, state) || !self.reach.is_same(&other.reach) {
+            return false;
+        }
+        if !self.undo.is_same(&other.undo) || !self.intentions.is_same(&other.intentions) {
+            return false;
+        }
+        self.relation.is_same(&other.relation)
+    }
+
+    /// Whether it is the same file as another.
+    pub fn is_same(&self, other: &TypeFile) -> bool
+        ensures { result ≡ true → self.now ≡ other.now }
+    {
+        self.is_at(other, other.table.initial())
     }
 }

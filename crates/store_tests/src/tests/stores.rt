@@ -16,6 +16,7 @@ mod run_scripts;
 mod run_scripts_memory;
 mod runs;
 pub mod scripts;
+mod shared;
 
 use objects::Object;
 use reference_store::checked_types::{Sort, checked_of};

@@ -77,10 +77,15 @@ fn counter_refused_in_parallel_comes_back(rt: HostRuntime) {
     comes_back(&rt, &text, checked, wanted);
 }
 
+/// The type of a text, accepted for a kind of recovery.
+fn accepted(rt: &(impl Abort + AllocGlobal), text: &[u8], kind: Kind) -> CheckedType {
+    let checked = check(file_of(rt, text), kind);
+    checked.ok().expect(rt, "refused")
+}
+
 /// The type of a text, accepted for update in place.
 fn accepted_in_place(rt: &(impl Abort + AllocGlobal), text: &str) -> CheckedType {
-    let checked = check(file_of(rt, text.as_bytes()), Kind::Undo);
-    checked.ok().expect(rt, "refused")
+    accepted(rt, text.as_bytes(), Kind::Undo)
 }
 
 /// The state at which a type begins anew, where it may begin there.
@@ -100,6 +105,46 @@ fn types_begin_at_states_of_their_set(rt: HostRuntime) {
     let counter = accepted_in_place(&rt, COUNTER);
     assert!(rt; begun_at(&rt, &counter, 2) == Some(2));
     assert!(rt; begun_at(&rt, &counter, 3) == None);
+}
+
+/// The conflicts of the counter and one more, of one kind and of the other.
+static MORE_PAIRS: [&str; 2] = [
+    "conflict undo 0 0\nconflict undo 0 1\nconflict undo 1 0\nconflict intentions 0 0\nconflict intentions 1 1\n",
+    "conflict undo 0 1\nconflict undo 1 0\nconflict intentions 0 0\nconflict intentions 0 1\nconflict intentions 1 1\n",
+];
+
+/// Types are the same where each of their parts is.
+#[test]
+fn types_are_compared(rt: HostRuntime) {
+    let counter = accepted_in_place(&rt, COUNTER);
+    assert!(rt; counter.is_same(&accepted_in_place(&rt, COUNTER)));
+    assert!(rt; !counter.is_same(&accepted_in_place(&rt, IDLE)));
+    for pairs in &MORE_PAIRS {
+        let more = with_conflict(&rt, pairs.as_bytes());
+        let other = accepted(&rt, &more, Kind::Undo);
+        assert!(rt; !counter.is_same(&other) & !other.is_same(&counter));
+    }
+}
+
+/// Types of two kinds have one file.
+#[test]
+fn files_are_compared(rt: HostRuntime) {
+    let counter = accepted_in_place(&rt, COUNTER);
+    let deferred = accepted(&rt, COUNTER.as_bytes(), Kind::Intentions);
+    assert!(rt; !counter.is_same(&deferred));
+    assert!(rt; counter.file().is_same(deferred.file()));
+    assert!(rt; counter.table().is_same(deferred.table()));
+}
+
+/// A type that begins at another state isn't the same, but is it at that state.
+#[test]
+fn types_are_compared_where_they_begin(rt: HostRuntime) {
+    let counter = accepted_in_place(&rt, COUNTER);
+    let other = counter.at(rt.alloc(), 1).expect(&rt, "no memory");
+    let other = other.expect(&rt, "no state");
+    assert!(rt; !counter.is_same(&other) & !other.is_same(&counter));
+    assert!(rt; other.is_at(&counter, 1) & !other.is_at(&counter, 0));
+    assert!(rt; counter.is_at(&other, 0));
 }
 
 /// Refusals, and how they are printed.

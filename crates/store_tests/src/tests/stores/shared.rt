@@ -1,0 +1,169 @@
+//! Objects that begin anew, and share their types.
+
+use super::scripts::outcome;
+use object_trait::{Recovery, Renew};
+use objects::Object;
+use reference_store::asked::{Ask, Told};
+use reference_store::checked_types::checked_of;
+use std::alloc::{AllocError, Global};
+use std::process::Abort;
+use std::sync::Arc;
+use store::Store;
+use table_checker::CheckedType;
+use test_support::type_texts::COUNTER;
+use type_table::Kind;
+
+/// An object, and how many owners its type had when the object was made of it, itself among them.
+#[derive(Drop)]
+struct Counted {
+    object: Object,
+    owners: usize,
+}
+
+/// Its meaning is that of the object.
+impl Recovery for Counted {
+    ghost use Rattle.objects.specs.Object.{meaning_of};
+
+    ghost meaning = { λ c. meaning_of c.object };
+
+    fn checked(&self) -> &CheckedType {
+        self.object.checked()
+    }
+
+    fn state(&self) -> u16 {
+        self.object.state()
+    }
+
+    fn legal(&self, t: u32, k: u8) -> bool {
+        self.object.legal(t, k)
+    }
+
+    fn apply(&mut self, t: u32, k: u8) -> Result<(), AllocError> {
+        self.object.apply(t, k)
+    }
+
+    fn commit(&mut self, t: u32) {
+        self.object.commit(t)
+    }
+
+    fn abort(&mut self, t: u32) {
+        self.object.abort(t)
+    }
+
+    fn strike(&mut self, t: u32, m: u32) {
+        self.object.strike(t, m)
+    }
+
+    fn open_count(&self) -> u32 {
+        self.object.open_count()
+    }
+
+    fn is_fresh(&self) -> bool {
+        self.object.is_fresh()
+    }
+}
+
+impl Renew for Counted {
+    fn renewed(&self, alloc: Global, checked: Arc<CheckedType>) -> Counted {
+        let owners = Arc::strong_count(&checked);
+        let object = self.object.renewed(alloc, checked);
+        Counted { object, owners }
+    }
+}
+
+/// How many objects there are, the most that a store has.
+const COUNT: u32 = 256;
+
+/// So many new counters, each of which has a type of its own.
+fn counters(rt: &(impl Abort + AllocGlobal)) -> Vec<Counted> {
+    let mut counters = Vec::new(rt.alloc());
+    for _ in 0..COUNT {
+        let checked = checked_of(rt.alloc(), COUNTER, Kind::Undo).expect(rt, "no checked type");
+        let object = Object::new(rt.alloc(), checked);
+        counters
+            .push(Counted { object, owners: 1 })
+            .ok()
+            .expect(rt, "no room");
+    }
+    counters
+}
+
+/// A store of these counters.
+fn store_of_counters(rt: &(impl Abort + AllocGlobal)) -> Store<Counted> {
+    match Store::new(rt.alloc(), counters(rt), 200) {
+        Ok(store) => store,
+        Err(_) => panic!(rt; "no store"),
+    }
+}
+
+/// The first transaction makes this call at every second counter, and is told so each time.
+fn at_every_second(rt: &impl Abort, store: &mut Store<Counted>, call: &'static str, told: Told) {
+    assert!(rt; outcome(store, 0, Ask::Begin) == Told::Begun(0));
+    for pair in 0..COUNT / 2 {
+        assert!(rt; outcome(store, 0, Ask::Call(0, 2 * pair + 1, call)) == told);
+    }
+    assert!(rt; outcome(store, 0, Ask::Commit(0)) == Told::Done);
+}
+
+/// The next epoch of the store.
+fn next_epoch(rt: &(impl Abort + AllocGlobal), store: Store<Counted>) -> Store<Counted> {
+    match store.renew(rt.alloc()) {
+        Ok((store, _)) => store,
+        Err((store, _)) => {
+            let _ = store.close();
+            panic!(rt; "no epoch began")
+        }
+    }
+}
+
+/// How many owners the type of the first counter had, and those of the last two, when they were made of
+/// them. One owner of each is the list of the types that were made.
+fn owners_in(rt: &impl Abort, store: Store<Counted>) -> (usize, usize, usize) {
+    let (_, counters) = store.close();
+    assert!(rt; counters.len() == COUNT as usize);
+    (
+        counters[0].owners,
+        counters[COUNT as usize - 2].owners,
+        counters[COUNT as usize - 1].owners,
+    )
+}
+
+/// The states at which the types of the first two counters begin.
+fn begins_in(store: &Store<Counted>) -> (Option<u16>, Option<u16>) {
+    (begin_of(store, 0), begin_of(store, 1))
+}
+
+/// The state at which the type of this object begins.
+fn begin_of(store: &Store<Counted>, x: u32) -> Option<u16> {
+    let checked = store.checked(x)?;
+    Some(checked.table().initial())
+}
+
+#[test]
+fn counters_at_one_state_share_a_type(rt: HostRuntime) {
+    let store = next_epoch(&rt, store_of_counters(&rt));
+    assert!(rt; begins_in(&store) == (Some(0), Some(0)));
+    assert!(rt; begin_of(&store, COUNT).is_none());
+    assert!(rt; owners_in(&rt, store) == (2, 256, 257));
+}
+
+#[test]
+fn counters_at_two_states_share_two_types(rt: HostRuntime) {
+    let mut store = store_of_counters(&rt);
+    at_every_second(&rt, &mut store, "inc:1", Told::Reply(0));
+    let store = next_epoch(&rt, store);
+    assert!(rt; begins_in(&store) == (Some(0), Some(1)));
+    assert!(rt; owners_in(&rt, store) == (2, 129, 129));
+}
+
+/// Types that began at other states are one where the same state is kept.
+#[test]
+fn counters_that_meet_again_share_a_type(rt: HostRuntime) {
+    let mut store = store_of_counters(&rt);
+    at_every_second(&rt, &mut store, "inc:1", Told::Reply(0));
+    let mut store = next_epoch(&rt, store);
+    at_every_second(&rt, &mut store, "dec:1", Told::Reply(1));
+    let store = next_epoch(&rt, store);
+    assert!(rt; begins_in(&store) == (Some(0), Some(0)));
+    assert!(rt; owners_in(&rt, store) == (2, 256, 257));
+}
