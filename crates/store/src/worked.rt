@@ -1,17 +1,22 @@
 //! Worked stores: each function does nothing, and its contract is what comes out of them.
 #![tactic(auto)]
 
-ghost use Rattle.std.specs.Prelude.{◌≡◌, ◌<◌, List, ◌++◌, [], ◌∷◌, length, take, drop, true, false, Ok};
+ghost use Rattle.std.specs.Prelude.{◌≡◌, ◌<◌, List, ◌++◌, [], ◌∷◌, length, take, drop, true, false, Ok, Err, codes};
 ghost use Rattle.object_trait.specs.Meaning.{Meaning};
 ghost use Rattle.object_trait.specs.Examples.{held, counter_at};
-ghost use Rattle.store_laws.specs.Examples.{stored, new_counters, counted, one_up, one_back};
-ghost use Rattle.store.specs.Calls.{Answers, unnumbered};
+ghost use Rattle.store_laws.specs.Examples.{stored, new_counters, counted, one_up, one_back, undo_counter, deferred_counter};
+ghost use Rattle.store.specs.Calls.{Answers, CallsIf, Would, unnumbered};
 ghost use Rattle.store.specs.Ends.{closing, is_limit, Refuses, IsHandedOut};
 ghost use Rattle.store.specs.KeptState.{IsKeptState};
-ghost use Rattle.store.specs.Examples.{by, two_left_open};
+ghost use Rattle.store.specs.Examples.{by, roomy, two_left_open, up_beside_another, up_in_place};
+ghost use Rattle.store.specs.Follows.{Follows, IsMade};
+ghost use Rattle.store.specs.Replays.{Replays};
+ghost use Rattle.store.specs.Renews.{Renews, RefusesRenew};
 
-use crate::refusals::NewRefusal;
+use crate::refusals::{NewRefusal, RenewRefusal};
+use crate::replaying::ReplayFault;
 use crate::store::Store;
+use crate::stray::Stray;
 use object_calls::Answer;
 use object_trait::{EventKind, Recovery};
 use serial_order::Refusal;
@@ -66,6 +71,52 @@ pub fn a_number_of_no_call_is_refused()
     ensures ended { unnumbered (stored two_left_open) 1 9 ≡ Refusal.NotOpen }
     ensures no_object { unnumbered (stored two_left_open) 2 9 ≡ Refusal.NoObject }
     ensures no_call { unnumbered (stored two_left_open) 2 1 ≡ Refusal.NoCall }
+{}
+
+/// An event is made where a command makes it: of a transaction that ended nothing does.
+#[tactic(auto, unfolding(type_table::specs::Table::next))]
+pub fn an_event_is_made_or_not()
+    ensures made { IsMade (stored (take 1 one_up)) (by 7 (EventKind.Op 0 1 0)) }
+    ensures ended { IsMade (stored one_up) (by 7 (EventKind.Commit 0)) → ⊥ }
+    ensures another { IsMade (stored (take 1 one_up)) (by 7 (EventKind.Op 0 1 1)) → ⊥ }
+{}
+
+/// A store that follows an event has it behind the others, or is as it was.
+pub fn a_store_follows_or_stays()
+    ensures follows { Follows (stored (take 1 one_up)) (by 7 (EventKind.Op 0 1 0)) (Ok tt) (stored (take 2 one_up)) }
+    ensures stays { Follows (stored one_up) (by 7 (EventKind.Commit 0)) (Err Stray.NotMade) (stored one_up) }
+    ensures not_without_it { Follows (stored (take 1 one_up)) (by 7 (EventKind.Op 0 1 0)) (Ok tt) (stored (take 1 one_up)) → ⊥ }
+    ensures not_for_nothing { Follows (stored (take 1 one_up)) (by 7 (EventKind.Op 0 1 0)) (Err Stray.NotMade) (stored (take 1 one_up)) → ⊥ }
+{
+    an_event_is_made_or_not();
+}
+
+/// What a call would be answered: the reply of the operation that is legal, who is in the way, or nothing.
+#[tactic(auto, unfolding(type_table::specs::Table::next))]
+pub fn a_call_would_be_answered()
+    ensures reply { Would (stored (take 1 one_up)) 0 1 (codes "inc:1") (Ok (Answer.Reply 0)) }
+    ensures none { Would (stored (take 1 one_up)) 0 1 (codes "dec:1") (Ok Answer.None) }
+    ensures busy { Would (roomy up_beside_another) 1 0 (codes "dec:1") (Ok (Answer.Busy 0)) }
+    ensures not_past_a_blocker { Would (roomy up_beside_another) 1 0 (codes "dec:1") (Ok (Answer.Reply 1)) → ⊥ }
+    ensures refused { Would (stored one_up) 0 1 (codes "inc:1") (Err Refusal.NotOpen) }
+{}
+
+/// A call that is made if it has an answer: its event, or no change.
+#[tactic(auto, unfolding(type_table::specs::Table::next))]
+pub fn a_call_is_made_if_it_has_the_answer()
+    ensures has { CallsIf (stored (take 1 one_up)) 7 0 1 (codes "inc:1") 0 (Answer.Reply 0) (Ok true) (stored (take 2 one_up)) }
+    ensures has_not { CallsIf (stored (take 1 one_up)) 7 0 1 (codes "inc:1") 0 Answer.None (Ok false) (stored (take 1 one_up)) }
+    ensures refused { CallsIf (stored one_up) 7 0 1 (codes "inc:1") 0 (Answer.Reply 0) (Err Refusal.NotOpen) (stored one_up) }
+    ensures not_without_it { CallsIf (stored (take 1 one_up)) 7 0 1 (codes "inc:1") 0 (Answer.Reply 0) (Ok false) (stored (take 1 one_up)) → ⊥ }
+{}
+
+/// No epoch begins where an open transaction has an operation, nor with an event, nor at a state that wasn't kept.
+pub fn an_epoch_begins_at_what_was_kept()
+    ensures open { Renews (stored (take 2 one_up)) (stored []) → ⊥ }
+    ensures with_an_event { Renews (stored one_up) (stored one_up) → ⊥ }
+    ensures at_another_state { Renews (stored up_in_place) (stored []) → ⊥ }
+    ensures refused { RefusesRenew (stored (take 1 one_up)) RenewRefusal.StillOpen }
+    ensures not_for_nothing { RefusesRenew (stored one_up) RenewRefusal.StillOpen → ⊥ }
 {}
 
 /// A store has one end, after which it isn't there: with it, how many events there were. A store that
