@@ -13,7 +13,7 @@ use Rattle.sqlite_trees.specs.declared.schema.Object.{Object}
 use Rattle.sqlite_trees.specs.Objects.{catalog_tree, is_frozen, IsFreeFor, Destroys, SetsObject}
 use Rattle.sqlite_trees.specs.Tree.{has_rowid, put_row, rowid, without_rowid}
 use Rattle.sqlite_trees.specs.View.{View}
-use Rattle.journal.specs.Journal.{IsNamedOnce}
+use Rattle.journal.specs.Journal.{IsNamedOnce, name_column}
 use Rattle.journal.specs.Emptying.{Empties, MayEmpty}
 
 -- a row more
@@ -27,8 +27,8 @@ each-put P new (r ∷ rs) all here =
     ]
 
 -- no object is left with the name
-unnamed : (rs : List Row) → IsNamedOnce rs → AllByRecursion (λ r. column r 2 ≢ Text (codes "event")) (without_rowid (pos 1) rs)
-unnamed rs named = each-passes (λ r. column r 2 ≢ Text (codes "event")) (λ r. not (has_rowid (pos 1) r)) rs
+unnamed : (rs : List Row) → IsNamedOnce rs → AllByRecursion (λ r. column r name_column ≢ Text (codes "event")) (without_rowid (pos 1) rs)
+unnamed rs named = each-passes (λ r. column r name_column ≢ Text (codes "event")) (λ r. not (has_rowid (pos 1) r)) rs
     (each-weaker (λ r his other. his (is-false (has_rowid (pos 1) r) other)) rs named)
   where
     is-false : (b : Bool) → not b ≡ true → b ≡ false
@@ -36,8 +36,8 @@ unnamed rs named = each-passes (λ r. column r 2 ≢ Text (codes "event")) (λ r
     is-false true h = absurd (cc)
 
 module _ (old middle : View) (o : Object) (may : MayEmpty old) (gone : Destroys old middle 0) (table : o.shape ≡ Table) (name : o.name.now ≡ codes "event") where
-  nobody : AllByRecursion (λ r. column r 2 ≢ Text (codes "event")) (middle.trees catalog_tree)
-  nobody = subst (λ (v : View). AllByRecursion (λ r. column r 2 ≢ Text (codes "event")) (v.trees catalog_tree)) (sym gone.is) (unnamed (old.trees catalog_tree) (may.named gone.sound))
+  nobody : AllByRecursion (λ r. column r name_column ≢ Text (codes "event")) (middle.trees catalog_tree)
+  nobody = subst (λ (v : View). AllByRecursion (λ r. column r name_column ≢ Text (codes "event")) (v.trees catalog_tree)) (sym gone.is) (unnamed (old.trees catalog_tree) (may.named gone.sound))
 
   pub free : IsFreeFor middle 0 o
   free = record {
@@ -46,16 +46,16 @@ module _ (old middle : View) (o : Object) (may : MayEmpty old) (gone : Destroys 
     unused = ap (λ (v : View). v.shape 0) gone.is;
     shaped = λ is. let x : Table ≡ Absent = sym table ∙ is in absurd (cc);
     thawed = ap is_frozen table;
-    unnamed = subst (λ n. AllByRecursion (λ r. column r 2 ≢ Text n) (middle.trees catalog_tree)) (sym name) nobody;
+    unnamed = subst (λ n. AllByRecursion (λ r. column r name_column ≢ Text n) (middle.trees catalog_tree)) (sym name) nobody;
   }
 
 -- it is made again: its row in the list has this rowid
 module _ (old middle new : View) (row : Row) (reals : ℕ) (may : MayEmpty old) (gone : Destroys old middle 0) (made : SetsObject middle new 0 Table reals (put_row row)) (first : has_rowid (pos 1) row ≡ true) where
-  own : has_rowid (pos 1) row ≡ false → column row 2 ≢ Text (codes "event")
+  own : has_rowid (pos 1) row ≡ false → column row name_column ≢ Text (codes "event")
   own other = absurd (cc)
 
   left : IsNamedOnce (middle.trees catalog_tree)
-  left = subst (λ (v : View). IsNamedOnce (v.trees catalog_tree)) (sym gone.is) (each-filter (λ r. has_rowid (pos 1) r ≡ false → column r 2 ≢ Text (codes "event")) (λ r. not (has_rowid (pos 1) r)) (old.trees catalog_tree) (may.named gone.sound))
+  left = subst (λ (v : View). IsNamedOnce (v.trees catalog_tree)) (sym gone.is) (each-filter (λ r. has_rowid (pos 1) r ≡ false → column r name_column ≢ Text (codes "event")) (λ r. not (has_rowid (pos 1) r)) (old.trees catalog_tree) (may.named gone.sound))
 
   others : (t : ℕ) → t ≢ 0 → t < 5 → new.trees t ≡ old.trees t
   others t differs low =
@@ -79,7 +79,7 @@ module _ (old middle new : View) (row : Row) (reals : ℕ) (may : MayEmpty old) 
     others = others;
     tables = record { each = shapes };
     numbered = subst (λ (v : View). IsTrue v.is_numbered) (sym made.is) (subst (λ (v : View). IsTrue v.is_numbered) (sym gone.is) may.numbered);
-    named = subst (λ (v : View). IsNamedOnce (v.trees catalog_tree)) (sym made.is) (each-put (λ r. has_rowid (pos 1) r ≡ false → column r 2 ≢ Text (codes "event")) row (middle.trees catalog_tree) left own);
+    named = subst (λ (v : View). IsNamedOnce (v.trees catalog_tree)) (sym made.is) (each-put (λ r. has_rowid (pos 1) r ≡ false → column r name_column ≢ Text (codes "event")) row (middle.trees catalog_tree) left own);
     committed = ap (λ (v : View). v.committed) made.is ∙ ap (λ (v : View). v.committed) gone.is;
     is_open = ap (λ (v : View). v.is_open) made.is ∙ ap (λ (v : View). v.is_open) gone.is;
     is_broken = ap (λ (v : View). v.is_broken) made.is ∙ ap (λ (v : View). v.is_broken) gone.is;

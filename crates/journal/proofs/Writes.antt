@@ -58,6 +58,14 @@ clean_is false h = absurd (h refl)
 pub clean_if_sound : (v : View) → (v.is_clean ≡ false → v.is_open ≡ false) → (v.is_open ≡ false → IsTrue v.is_broken) → v.is_broken ≡ false → IsClean v
 clean_if_sound v shut broken sound = clean_is v.is_clean (λ e. let x = sym (broken (shut e)) ∙ sound in cc)
 
+open_is : (b : Bool) → (b ≡ false → ⊥) → IsTrue b
+open_is true h = refl
+open_is false h = absurd (h refl)
+
+-- and open
+pub open_if_sound : (v : View) → (v.is_open ≡ false → IsTrue v.is_broken) → v.is_broken ≡ false → IsTrue v.is_open
+open_if_sound v broken sound = open_is v.is_open (λ e. let x = sym (broken e) ∙ sound in cc)
+
 -- what is left is what was written
 pub file_of : (db trees : Trees) → db ≡ trees → IsFile trees → IsFile db
 file_of db trees e is = rw e is

@@ -60,6 +60,22 @@ event_of (Some word.Abort) t x k n = kind.Abort t
 event_of (Some word.Rollback) t x k n = kind.Rollback t n
 event_of None t x k n = kind.Begin t
 
+-- the columns behind that of the position
+abbrev pub kind_column : ℕ
+kind_column = 2
+
+abbrev pub transaction_column : ℕ
+transaction_column = 3
+
+abbrev pub object_column : ℕ
+object_column = 4
+
+abbrev pub operation_column : ℕ
+operation_column = 5
+
+abbrev pub number_column : ℕ
+number_column = 6
+
 -- the event that a row tells
 abbrev pub event_told : Row → EventKind
-event_told row = event_of (word_of (bytes (column row 2))) (number_in (column row 3)) (number_in (column row 4)) (number_in (column row 5)) (number_in (column row 6))
+event_told row = event_of (word_of (bytes (column row kind_column))) (number_in (column row transaction_column)) (number_in (column row object_column)) (number_in (column row operation_column)) (number_in (column row number_column))

@@ -16,9 +16,13 @@ use Rattle.journal.specs.Contents.{Contents, IsFile, contents_of}
 pub record HasTables (v : View) : Type 0 where
   pub each : (t : ℕ) → t < 5 → v.shape t ≡ Table
 
+-- where the name stands in a row of the list of a file's objects
+abbrev pub name_column : ℕ
+name_column = 2
+
 -- no object of the list but that of table 0 has its name
 abbrev pub IsNamedOnce : List Row → Type 0
-IsNamedOnce = AllByRecursion (λ r. has_rowid (pos 1) r ≡ false → column r 2 ≢ Text (codes "event"))
+IsNamedOnce = AllByRecursion (λ r. has_rowid (pos 1) r ≡ false → column r name_column ≢ Text (codes "event"))
 
 -- what the store shows: while it is not broken, a file of a store with this header and so many events
 pub record IsKeptFile (v : View) (count : ℕ) (header : Header) : Type 0 where

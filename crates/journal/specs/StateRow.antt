@@ -8,8 +8,12 @@ use Rattle.journal.specs.declared.state_row.FirstState.{FirstState}
 abbrev pub state_row : ℕ → FirstState → Row
 state_row n first = Int (pos n) ∷ Null ∷ Int (pos first.state) ∷ []
 
+-- the column behind that of the position
+abbrev pub state_column : ℕ
+state_column = 2
+
 abbrev pub state_told : Row → FirstState
-state_told row = record { state = number_in (column row 2) }
+state_told row = record { state = number_in (column row state_column) }
 
 pub state_keyed : (n : ℕ) (first : FirstState) → (rest : Row) × (state_row n first ≡ Int (pos n) ∷ rest)
 state_keyed n first = (Null ∷ Int (pos first.state) ∷ [], refl)

@@ -6,8 +6,12 @@ use Rattle.sqlite_value.specs.Order.{Row, column, bytes}
 abbrev pub type_row : ℕ → List ℕ → Row
 type_row n text = Int (pos n) ∷ Null ∷ Text text ∷ []
 
+-- the column behind that of the position
+abbrev pub text_column : ℕ
+text_column = 2
+
 abbrev pub type_told : Row → List ℕ
-type_told row = bytes (column row 2)
+type_told row = bytes (column row text_column)
 
 pub type_keyed : (n : ℕ) (text : List ℕ) → (rest : Row) × (type_row n text ≡ Int (pos n) ∷ rest)
 type_keyed n text = (Null ∷ Text text ∷ [], refl)

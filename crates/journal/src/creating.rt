@@ -7,10 +7,10 @@ ghost use Rattle.sqlite_value.specs.declared.value.Value.TheVariants.{Text};
 ghost use Rattle.sqlite_trees.specs.Tree.{Trees};
 ghost use Rattle.sqlite_trees.specs.Objects.{catalog_tree};
 ghost use Rattle.sqlite_trees.specs.View.{IsClean};
-ghost use Rattle.journal.specs.Journal.{Clean, IsJournal, IsOpen, durable, written};
+ghost use Rattle.journal.specs.Journal.{Clean, IsJournal, IsOpen, durable, name_column, written};
 ghost use Rattle.journal.specs.Said.{contents};
 
-use crate::contents::{FileContents, HEADER, OBJECTS, STATES, TYPES};
+use crate::contents::{FileContents, HEADER, NAME, OBJECTS, STATES, TYPES};
 use crate::entry::Entry;
 use crate::journal::Journal;
 use crate::journal_error::JournalError;
@@ -78,7 +78,7 @@ fn make_table<S: Alter>(
 /// Whether no tree has this number, and no object this name.
 fn is_free<S: Alter>(alloc: Global, store: &S, tree: u32, name: &str) -> Result<bool, AllocError>
     ensures unused { IfOk result (λ free. IsTrue free → (S.Store.view store.now).shape tree ≡ Shape.Absent) }
-    ensures unnamed { IfOk result (λ free. IsTrue free → IsClean (S.Store.view store.now) → AllByRecursion (λ r. column r 2 ≢ Text name.now) ((S.Store.view store.now).trees catalog_tree)) }
+    ensures unnamed { IfOk result (λ free. IsTrue free → IsClean (S.Store.view store.now) → AllByRecursion (λ r. column r name_column ≢ Text name.now) ((S.Store.view store.now).trees catalog_tree)) }
 {
     if !matches!(store.shape(tree), Shape::Absent) {
         return Ok(false);
@@ -89,7 +89,7 @@ fn is_free<S: Alter>(alloc: Global, store: &S, tree: u32, name: &str) -> Result<
 
 /// Whether none of these objects has this name.
 fn has_none_named(objects: &Vec<Row>, name: &str) -> bool
-    ensures { IsTrue result → AllByRecursion (λ r. column r 2 ≢ Text name.now) objects.now.items }
+    ensures { IsTrue result → AllByRecursion (λ r. column r name_column ≢ Text name.now) objects.now.items }
 {
     for object in objects {
         if is_named_so(object, name) {
@@ -101,9 +101,9 @@ fn has_none_named(objects: &Vec<Row>, name: &str) -> bool
 
 /// Whether an object has this name.
 fn is_named_so(object: &Row, name: &str) -> bool
-    ensures { column object.now 2 ≡ Text name.now → IsTrue result }
+    ensures { column object.now name_column ≡ Text name.now → IsTrue result }
 {
-    match object.get(2) {
+    match object.get(NAME) {
         ValueRef::Text(text) => text == name.as_bytes(),
         _ => false,
     }

@@ -14,6 +14,17 @@ use sqlite_value::row::Row;
 use sqlite_value::value::ValueRef;
 use std::alloc::{AllocError, Global};
 
+// the columns behind that of the position
+const KIND: usize = 2;
+
+const TRANSACTION: usize = 3;
+
+const OBJECT: usize = 4;
+
+const OPERATION: usize = 5;
+
+const NUMBER: usize = 6;
+
 /// What the columns of an event's row say, but for its position.
 #[derive(Clone, Copy)]
 struct EventColumns {
@@ -120,13 +131,13 @@ fn push(row: &mut Row, columns: EventColumns) -> Result<(), AllocError>
 fn columns_in(row: &Row) -> Option<EventColumns>
     ensures { IfSome result (λ columns. ToldColumns row.now columns) }
 {
-    let kind = EventWord::of_text(text_in(row, 2)?)?;
+    let kind = EventWord::of_text(text_in(row, KIND)?)?;
     Some(EventColumns {
         kind,
-        t: Cell::in_column(row, 3)?,
-        x: Cell::in_column(row, 4)?,
-        k: Cell::in_column(row, 5)?,
-        n: Cell::in_column(row, 6)?,
+        t: Cell::in_column(row, TRANSACTION)?,
+        x: Cell::in_column(row, OBJECT)?,
+        k: Cell::in_column(row, OPERATION)?,
+        n: Cell::in_column(row, NUMBER)?,
     })
 }
 

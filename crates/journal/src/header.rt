@@ -9,6 +9,13 @@ use sqlite_value::row::Row;
 use sqlite_value::value::ValueRef;
 use std::alloc::{AllocError, Global};
 
+// the columns behind that of the position
+const FORMAT: usize = 2;
+
+const ID: usize = 3;
+
+const LIFE: usize = 4;
+
 /// What a file says of itself: the version of its format, 16 bytes that were drawn when it was made, and
 /// how many lives of stores began over it, which is the number of the present one.
 #[derive(Clone, Copy, Debug, PartialEq, Eq)]
@@ -51,8 +58,8 @@ impl Entry for Header {
 fn header_in(row: &Row) -> Option<Header>
     ensures { IfSome result (λ header. ToldHeader row.now header) }
 {
-    let id = <[u8; 16]>::try_from(blob_in(row, 3)?).ok()?;
-    match (Cell::in_column(row, 2)?, Cell::in_column(row, 4)?) {
+    let id = <[u8; 16]>::try_from(blob_in(row, ID)?).ok()?;
+    match (Cell::in_column(row, FORMAT)?, Cell::in_column(row, LIFE)?) {
         (Cell::Number(format), Cell::Number(life)) => Some(Header { format, id, life }),
         _ => None,
     }

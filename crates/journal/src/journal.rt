@@ -60,11 +60,18 @@ impl<S: Store> Journal<S> {
         ensures clean { Clean S.Store self.new → Clean S.Store self.old }
         ensures crash { (db : Trees) → may_leave S.Store self.new db
             → (Clean S.Store self.old × IsFile db × (contents_of db ≡ written S.Store self.old)) ⊎ may_leave S.Store self.old db }
-        ensures still_open { OnOk result (Clean S.Store self.new → IsOpen S.Store self.old → IsOpen S.Store self.new) }
+        ensures is_open { OnOk result (Clean S.Store self.new → IsOpen S.Store self.new) }
         ensures numbered { IsNumbered S.Store self.old → IsNumbered S.Store self.new }
     {
         self.store.commit()?;
         Ok(())
+    }
+
+    /// The number of the present life.
+    pub fn life(&self) -> u32
+        ensures { result ≡ self.now.header.life }
+    {
+        self.header.life
     }
 
     /// While the journal is open, a crash leaves what was there at the last commit, and nothing else.

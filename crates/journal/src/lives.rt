@@ -1,6 +1,6 @@
 //! The lives and the epochs of the stores that a file kept.
 
-ghost use Rattle.std.specs.Prelude.{◌≡◌, ◌+◌, ◌≤◌, ℕ, List, false, length, IfOk, OnOk};
+ghost use Rattle.std.specs.Prelude.{◌≡◌, ◌+◌, ◌≤◌, ◌∷◌, ℕ, List, [], false, length, IfOk, OnOk};
 ghost use Rattle.sqlite_trees.specs.Tree.{Trees};
 ghost use Rattle.sqlite_trees.specs.declared.store.Shape.TheVariants.{Table};
 ghost use Rattle.sqlite_trees.specs.View.{IsClean};
@@ -32,6 +32,7 @@ impl<S: Store> Journal<S> {
         requires { IsJournal S.Store self.old }
         ensures kept { OnOk result (IsJournal S.Store self.new) }
         ensures raised { IfOk result (λ life. life ≡ self.old.header.life + 1) }
+        ensures last { OnOk result (Clean S.Store self.new → (written S.Store self.old).headers ≡ self.old.header ∷ []) }
         ensures written { IfOk result (λ life. Clean S.Store self.new → written S.Store self.new ≡ in_life (written S.Store self.old) life) }
         ensures durable { OnOk result (Clean S.Store self.new → durable S.Store self.new ≡ durable S.Store self.old) }
         ensures clean { Clean S.Store self.new → Clean S.Store self.old }
@@ -63,6 +64,7 @@ impl<S: Alter> Journal<S> {
         requires few { length states.now ≤ 65536 }
         ensures kept { OnOk result (IsJournal S.Store self.new) }
         ensures raised { IfOk result (λ life. life ≡ self.old.header.life + 1) }
+        ensures last { OnOk result (Clean S.Store self.new → (written S.Store self.old).headers ≡ self.old.header ∷ []) }
         ensures written { IfOk result (λ life. Clean S.Store self.new → written S.Store self.new ≡ in_life (from_states (written S.Store self.old) states.now) life) }
         ensures durable { OnOk result (Clean S.Store self.new → durable S.Store self.new ≡ durable S.Store self.old) }
         ensures clean { Clean S.Store self.new → Clean S.Store self.old }

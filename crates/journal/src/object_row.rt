@@ -13,6 +13,13 @@ use std::marker::Model;
 use store_text::ObjectLine;
 use type_table::Kind;
 
+// the columns behind that of the position: of an object
+const KIND: usize = 2;
+
+const FILE: usize = 3;
+// and of a type
+const TEXT: usize = 2;
+
 /// The text of a type file. Contracts see its bytes.
 #[derive(Drop)]
 pub struct TypeText {
@@ -75,8 +82,8 @@ impl Entry for ObjectLine {
 fn object_in(row: &Row) -> Option<ObjectLine>
     ensures { IfSome result (λ object. ToldObject row.now object) }
 {
-    let kind = Kind::of_word(text_in(row, 2)?)?;
-    match Cell::in_column(row, 3)? {
+    let kind = Kind::of_word(text_in(row, KIND)?)?;
+    match Cell::in_column(row, FILE)? {
         Cell::Number(file) => Some(ObjectLine {
             kind,
             file: byte(file)?,
@@ -108,7 +115,7 @@ impl Entry for TypeText {
         if row.len() != 3 || !is_at(row, position) {
             return Ok(None);
         }
-        match text_in(row, 2) {
+        match text_in(row, TEXT) {
             Some(text) => {
                 let text = Vec::from_slice(alloc, text)?;
                 Ok(Some(TypeText { text }))

@@ -1,17 +1,17 @@
 //! Opening a journal: its tables are looked for and read.
 
-ghost use Rattle.std.specs.Prelude.{◌≡◌, ◌≢◌, codes, false, true, pos, IfOk, IsTrue};
+ghost use Rattle.std.specs.Prelude.{◌≡◌, ◌≢◌, codes, false, true, pos, IfErr, IfOk, IsTrue};
 ghost use Rattle.sqlite_value.specs.Order.{column};
 ghost use Rattle.sqlite_value.specs.declared.value.Value.TheVariants.{Text};
 ghost use Rattle.sqlite_trees.specs.Tree.{Trees, has_rowid};
 ghost use Rattle.sqlite_trees.specs.Objects.{catalog_tree};
 ghost use Rattle.sqlite_trees.specs.View.{IsClean};
 ghost use Rattle.journal.specs.Contents.{IsFile, contents_of};
-ghost use Rattle.journal.specs.Journal.{Clean, HasTables, IsJournal, IsNamedOnce, IsOpen, durable, may_leave, written};
+ghost use Rattle.journal.specs.Journal.{Clean, HasTables, IsJournal, IsNamedOnce, IsOpen, durable, may_leave, name_column, written};
 ghost use Rattle.journal.specs.Said.{contents};
 
 use crate::cells::is_number;
-use crate::contents::{EVENTS, FileContents, HEADER, OBJECTS, STATES, TYPES, read_contents};
+use crate::contents::{EVENTS, FileContents, HEADER, NAME, OBJECTS, STATES, TYPES, read_contents};
 use crate::journal::Journal;
 use crate::journal_error::JournalError;
 use sqlite_trees::store::{Alter, Shape, Store};
@@ -39,6 +39,7 @@ impl<S: Alter> Journal<S> {
         ensures same { IfOk result (λ r. Clean S.Store r.0 → durable S.Store r.0 ≡ contents_of (S.Store.view store).committed) }
         ensures file { IfOk result (λ r. Clean S.Store r.0 → IsFile (S.Store.view store).committed) }
         ensures crash { IfOk result (λ r. (db : Trees) → may_leave S.Store r.0 db → S.Store.recovers store db) }
+        ensures back { IfErr result (λ e. (db : Trees) → S.Store.recovers e.1 db → S.Store.recovers store db) }
     {
         store.rollback();
         match is_ready(alloc, &store) {
@@ -112,7 +113,7 @@ fn are_named_once(objects: &Vec<Row>) -> bool
 
 /// Whether an object has the rowid of the table of events, or another name.
 fn is_other_named(object: &Row) -> bool
-    ensures { IsTrue result → has_rowid (pos 1) object.now ≡ false → column object.now 2 ≢ Text (codes "event") }
+    ensures { IsTrue result → has_rowid (pos 1) object.now ≡ false → column object.now name_column ≢ Text (codes "event") }
 {
     is_first(object) || !is_named(object)
 }
@@ -126,9 +127,9 @@ fn is_first(object: &Row) -> bool
 
 /// Whether an object has the name of the table of events.
 fn is_named(object: &Row) -> bool
-    ensures { column object.now 2 ≡ Text (codes "event") → IsTrue result }
+    ensures { column object.now name_column ≡ Text (codes "event") → IsTrue result }
 {
-    match object.get(2) {
+    match object.get(NAME) {
         ValueRef::Text(name) => name == b"event".as_slice(),
         _ => false,
     }

@@ -20,6 +20,9 @@ pub fn restart<S: Alter + Reopen + Drop>(
     requires { IsNumbered S.Store journal }
     ensures kept { IfSome result (λ r. IsJournal S.Store r.0) }
     ensures clean { IfSome result (λ r. Clean S.Store r.0 → Clean S.Store journal) }
+    ensures settled { IfSome result (λ r. Clean S.Store r.0 → written S.Store r.0 ≡ durable S.Store r.0) }
+    ensures is_open { IfSome result (λ r. Clean S.Store r.0 → IsOpen S.Store r.0) }
+    ensures said { IfSome result (λ r. Clean S.Store r.0 → durable S.Store r.0 ≡ contents r.1) }
     ensures found { IfSome result (λ r. Clean S.Store r.0 → (db : Trees) × may_leave S.Store journal db × (contents r.1 ≡ contents_of db)) }
 {
     let mut store = journal.into_store();

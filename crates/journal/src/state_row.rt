@@ -9,6 +9,9 @@ use sqlite_value::row::Row;
 use sqlite_value::value::ValueRef;
 use std::alloc::{AllocError, Global};
 
+// the column behind that of the position
+const STATE: usize = 2;
+
 /// The state of an object where the history of the file begins.
 #[derive(Clone, Copy, Debug, PartialEq, Eq)]
 pub struct FirstState {
@@ -38,7 +41,7 @@ impl Entry for FirstState {
         if row.len() != 3 || !is_at(row, position) {
             return Ok(None);
         }
-        match Cell::in_column(row, 2) {
+        match Cell::in_column(row, STATE) {
             Some(Cell::Number(n)) => Ok(short(n)),
             _ => Ok(None),
         }

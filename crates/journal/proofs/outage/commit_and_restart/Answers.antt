@@ -8,7 +8,7 @@ pub returns-clause-acknowledged : goal.returns-clause-acknowledged
 returns-clause-acknowledged g c = if-both c.restart.result c.restart.ensures.clean c.restart.ensures.found (λ r kept found clean answered.
     let now : Clean g.S.Store c.commit.new.self = kept clean in
     let ok : IsTrue (is_ok c.commit.result) = subst IsTrue c.is_ok-is_committed.ensures.value answered in
-    let is_open : IsOpen g.S.Store c.commit.new.self = where-ok _ c.commit.result c.commit.ensures.still_open ok now c.requires.is_open in
+    let is_open : IsOpen g.S.Store c.commit.new.self = where-ok _ c.commit.result c.commit.ensures.is_open ok now in
     let settled : durable g.S.Store c.commit.new.self ≡ written g.S.Store c.args.journal = where-ok _ c.commit.result c.commit.ensures.durable ok now in
     let left = found clean in
     left.2 ∙ c.is_settled.ensures is_open left.0 left.1 ∙ settled)

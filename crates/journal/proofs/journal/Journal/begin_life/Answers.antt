@@ -5,5 +5,8 @@ use Rattle.journal.proofs.journal.Journal.begin_life.Goals as goal
 pub returns-clause-kept : goal.returns-clause-kept
 returns-clause-kept g c = λ clean. raises _ _ _ _ _ (c.in_ok-append.ensures.ok clean) (c.requires (c.append.ensures.clean clean))
 
+pub returns-clause-last : goal.returns-clause-last
+returns-clause-last g c = λ clean. (c.requires (c.append.ensures.clean clean)).header_is (c.in_ok-append.ensures.ok clean).sound
+
 pub returns-clause-written : goal.returns-clause-written
 returns-clause-written g c = λ clean. in-life _ _ _ _ _ (c.in_ok-append.ensures.ok clean) (c.requires (c.append.ensures.clean clean)) refl

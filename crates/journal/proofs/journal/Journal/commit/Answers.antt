@@ -1,8 +1,16 @@
-use Rattle.std.proofs.Common.{inl, inr, ap}
-use Rattle.sqlite_trees.specs.View.{IsClean}
+use Rattle.std.proofs.Common.{inl, inr, ap, ◌∙◌, IsTrue}
+use Rattle.sqlite_trees.specs.View.{Commits, IsClean, View}
 use Rattle.journal.specs.Contents.{contents_of}
-use Rattle.journal.proofs.Writes.{clean_if_sound, file_of}
+use Rattle.journal.proofs.Writes.{clean_if_sound, file_of, open_if_sound}
 use Rattle.journal.proofs.journal.Journal.commit.Goals as goal
+
+pub returns-clause-is_open : goal.returns-clause-is_open
+returns-clause-is_open g c = λ clean.
+    let old = g.S.Store.view c.args.self.now.store in
+    let new = g.S.Store.view c.commit.new.self in
+    let done : Commits old new = c.in_ok-commit.ensures.ok clean in
+    let was : IsTrue old.is_open = open_if_sound old (g.met.S.Store.broken_if_shut _) done.sound in
+    ap (λ (v : View). v.is_open) done.is ∙ was
 
 pub returns-clause-crash : goal.returns-clause-crash
 returns-clause-crash g c db left = elim (c.commit.ensures.crash db left) [

@@ -1,0 +1,58 @@
+-- What is open is aborted by worker 0, who began it.
+use Rattle.std.proofs.Common.{◌≡◌, ◌∙◌, ℕ, ◌≤◌, zero, suc, List, [], ◌∷◌, ◌++◌, map, filter, refl, sym, ap, ap₂, subst, length, take, drop, arith}
+use Rattle.std.proofs.lemmas.List.{length-append}
+use Rattle.std.proofs.Math.Seq.{drop-append_seam, take-append_seam}
+use Rattle.sqlite_trees.specs.declared.store.Store.{Ghosts}
+use Rattle.std.specs.Prelude.{slice_index_or}
+use Rattle.std.specs.List.{range_with_len}
+use Rattle.object_trait.specs.declared.event.Event.{Event}
+use Rattle.object_trait.specs.declared.event.EventKind.{EventKind}
+use Rattle.object_trait.specs.declared.event.EventKind.TheVariants.{Begin, Op, Busy, None, Commit, Abort, Rollback}
+use Rattle.serial_order.specs.History.{seen, is_open}
+use Rattle.serial_order.specs.After.{beginners}
+use Rattle.store.specs.Ends.{closing}
+use Rattle.store_laws.specs.Stored.{Stored}
+use Rattle.journal.specs.Journal.{written}
+use Rattle.durable_store.specs.declared.durable.Durable.{Durable}
+use Rattle.durable_store.specs.Types.{HasTypes}
+use Rattle.durable_store.specs.Durable.{IsBehind, IsDurable, events, kinds}
+
+-- each transaction was begun by worker 0
+began-zero : (happened : List EventKind) (t : ℕ) → slice_index_or (beginners (events happened)) t 0 ≡ 0
+began-zero [] t = refl
+began-zero (Begin n ∷ more) zero = refl
+began-zero (Begin n ∷ more) (suc t) = began-zero more t
+began-zero (Op n x k ∷ more) t = began-zero more t
+began-zero (Busy c n x u ∷ more) t = began-zero more t
+began-zero (None n x c ∷ more) t = began-zero more t
+began-zero (Commit n ∷ more) t = began-zero more t
+began-zero (Abort n ∷ more) t = began-zero more t
+began-zero (Rollback n m ∷ more) t = began-zero more t
+
+each-by-zero : (who : ℕ → ℕ) → ((t : ℕ) → who t ≡ 0) → (ts : List ℕ)
+    → map (λ t. let e : Event = record { worker = who t; kind = Abort t } in e) ts ≡ events (kinds (map (λ t. let e : Event = record { worker = who t; kind = Abort t } in e) ts))
+each-by-zero who is [] = refl
+each-by-zero who is (t ∷ ts) = ap₂ (λ w more. (let e : Event = record { worker = w; kind = Abort t } in e) ∷ more) (is t) (each-by-zero who is ts)
+
+pub closing-by-zero : (happened : List EventKind) → closing (events happened) ≡ events (kinds (closing (events happened)))
+closing-by-zero happened =
+    each-by-zero (λ t. slice_index_or (beginners (events happened)) t 0) (began-zero happened)
+    (filter (is_open (seen (events happened))) (range_with_len 0 (seen (events happened)).begun))
+
+-- the aborts of what was open are what the journal hasn't yet
+pub aborts-behind : {S : Type 0} (g : Ghosts S) (d : Durable S) (s : Stored) (count : ℕ) → IsDurable g d → count ≡ length d.store.history → d.store.forgotten ≤ count
+    → s ≡ record d.store { history = d.store.history ++ closing d.store.history } → IsBehind g (record { store = s; journal = d.journal }) count
+aborts-behind g d s count sound is remembered aborted =
+    let more = closing d.store.history in
+    let history : s.history ≡ d.store.history ++ more = ap (λ (s : Stored). s.history) aborted in
+    let rest : drop count s.history ≡ more = ap₂ drop is history ∙ drop-append_seam d.store.history more in
+    let long = ap length history ∙ length-append d.store.history more in
+    record {
+      journal = sound.journal;
+      types = λ clean. subst (HasTypes (written g d.journal)) (sym (ap (λ (s : Stored). s.types) aborted)) (sound.types clean);
+      settled = sound.settled;
+      remembered = subst (λ (s : Stored). s.forgotten ≤ count) (sym aborted) remembered;
+      inside = omega (arith, long, is);
+      history = λ clean. ap₂ take is history ∙ take-append_seam d.store.history more ∙ sound.history clean;
+      by_zero = λ clean. subst (λ es. es ≡ events (kinds es)) (sym rest) (subst (λ H. closing H ≡ events (kinds (closing H))) (sym (sound.history clean)) (closing-by-zero (written g d.journal).events));
+    }

@@ -1,0 +1,3 @@
+pub mod Aborts
+pub mod Begun
+pub mod CatchingUp

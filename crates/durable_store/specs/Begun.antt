@@ -1,0 +1,31 @@
+-- The types of a file's objects, at the states where its history begins.
+use Rattle.std.specs.Prelude.{◌≡◌, ℕ, List, length, slice_get, Some, Ok, true}
+use Rattle.type_table.specs.StateSet.{has}
+use Rattle.type_text.specs.declared.type_file.TypeFile.{TypeFile}
+use Rattle.type_text.specs.TypeFile.{Reads}
+use Rattle.table_checker.specs.Checked.{Checked}
+use Rattle.table_checker.specs.At.{checked_at}
+use Rattle.store_text.specs.declared.line.ObjectLine.{ObjectLine}
+use Rattle.journal.specs.declared.state_row.FirstState.{FirstState}
+
+-- the files of texts, in their order
+pub record AreRead (texts : List (List ℕ)) (files : List TypeFile) : Type 0 where
+  pub as_many : length files ≡ length texts
+  pub each : (k : ℕ) (text : List ℕ) (file : TypeFile) → slice_get texts k ≡ Some text → slice_get files k ≡ Some file → Reads (Ok file) text
+
+-- objects of one line have one type
+abbrev pub AreAlike : List ObjectLine → List Checked → Type 0
+AreAlike lines types =
+    (x y : ℕ) (o : ObjectLine) (c d : Checked) → slice_get lines x ≡ Some o → slice_get lines y ≡ Some o → slice_get types x ≡ Some c → slice_get types y ≡ Some d → c ≡ d
+
+-- a type at a state of its set
+abbrev pub IsAt : Checked → FirstState → Checked → Type 0
+IsAt c first at = (has c.file.reach first.state ≡ true) × (at ≡ checked_at c first.state)
+
+-- the type at this place, at its state
+abbrev pub IsAtPlace : List Checked → List FirstState → ℕ → Checked → Type 0
+IsAtPlace types states x at = (c : Checked) (first : FirstState) → slice_get types x ≡ Some c → slice_get states x ≡ Some first → IsAt c first at
+
+-- each of the first ones at its state
+abbrev pub AreAt : List Checked → List FirstState → List Checked → Type 0
+AreAt types states begun = (x : ℕ) (at : Checked) → slice_get begun x ≡ Some at → IsAtPlace types states x at

@@ -1,0 +1,47 @@
+-- What a durable store keeps: the history of its store is what its journal has written.
+use Rattle.std.specs.Prelude.{◌≡◌, ℕ, ◌≤◌, List, ◌++◌, map, take, drop, length}
+use Rattle.sqlite_trees.specs.declared.store.Store.{Ghosts}
+use Rattle.sqlite_trees.specs.Tree.{Trees}
+use Rattle.object_trait.specs.declared.event.Event.{Event}
+use Rattle.object_trait.specs.declared.event.EventKind.{EventKind}
+use Rattle.journal.specs.Contents.{Contents}
+use Rattle.journal.specs.Journal.{Clean, IsJournal, IsSettled, durable, may_leave, written}
+use Rattle.durable_store.specs.declared.durable.Durable.{Durable}
+use Rattle.durable_store.specs.Types.{HasTypes}
+
+-- what happened, without the worker
+abbrev pub kinds : List Event → List EventKind
+kinds events = map (λ (e : Event). e.kind) events
+
+-- the same as events of worker 0, which makes all events of a durable store
+abbrev pub events : List EventKind → List Event
+events happened = map (λ k. let e : Event = record { worker = 0; kind = k } in e) happened
+
+-- with these events more
+abbrev pub with_all : Contents → List Event → Contents
+with_all c more = record c { events = c.events ++ kinds more }
+
+-- the journal has the whole history, the types are those of its objects, and a crash at this moment leaves what was settled
+pub record IsDurable {S : Type 0} (g : Ghosts S) (d : Durable S) : Type 0 where
+  pub journal : IsJournal g d.journal
+  pub history : Clean g d.journal → d.store.history ≡ events (written g d.journal).events
+  pub types : Clean g d.journal → HasTypes (written g d.journal) d.store.types
+  pub settled : Clean g d.journal → IsSettled g d.journal
+
+-- but for the events behind the first ones, as many as these, which the journal hasn't yet
+pub record IsBehind {S : Type 0} (g : Ghosts S) (d : Durable S) (count : ℕ) : Type 0 where
+  pub journal : IsJournal g d.journal
+  pub types : Clean g d.journal → HasTypes (written g d.journal) d.store.types
+  pub settled : Clean g d.journal → IsSettled g d.journal
+  pub remembered : d.store.forgotten ≤ count
+  pub inside : count ≤ length d.store.history
+  pub history : Clean g d.journal → take count d.store.history ≡ events (written g d.journal).events
+  pub by_zero : Clean g d.journal → drop count d.store.history ≡ events (kinds (drop count d.store.history))
+
+-- a crash leaves nothing that it couldn't have left before
+abbrev pub OutcomesStay : {S : Type 0} (g : Ghosts S) → Durable S → Durable S → Type 0
+OutcomesStay g old new = (db : Trees) → may_leave g new.journal db → may_leave g old.journal db
+
+-- nothing of what was settled changes
+abbrev pub KeepsSettled : {S : Type 0} (g : Ghosts S) → Durable S → Durable S → Type 0
+KeepsSettled g old new = Clean g new.journal → durable g new.journal ≡ durable g old.journal

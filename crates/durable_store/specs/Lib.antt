@@ -1,0 +1,4 @@
+pub mod Types
+pub mod Durable
+pub mod Begun
+pub mod Recovered

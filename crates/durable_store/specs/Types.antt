@@ -1,0 +1,31 @@
+-- The types of a file's objects.
+use Rattle.std.specs.Prelude.{◌≡◌, ℕ, List, length, slice_get, Some, Ok, true}
+use Rattle.type_table.specs.StateSet.{has}
+use Rattle.type_text.specs.declared.type_file.TypeFile.{TypeFile}
+use Rattle.type_text.specs.TypeFile.{Reads}
+use Rattle.table_checker.specs.Checked.{Checked, IsChecked}
+use Rattle.table_checker.specs.At.{checked_at}
+use Rattle.store_text.specs.declared.line.ObjectLine.{ObjectLine}
+use Rattle.journal.specs.declared.state_row.FirstState.{FirstState}
+use Rattle.journal.specs.Contents.{Contents}
+
+-- the type of an object of a file: what the text at its place describes, accepted for its kind, at the state where the history begins
+pub record IsTypeOf (texts : List (List ℕ)) (o : ObjectLine) (first : FirstState) (c : Checked) : Type 0 where
+  pub text : List ℕ
+  pub there : slice_get texts o.file ≡ Some text
+  pub file : TypeFile
+  pub reads : Reads (Ok file) text
+  pub checked : IsChecked (record { kind = o.kind; file = file })
+  pub inside : has file.reach first.state ≡ true
+  pub is : c ≡ checked_at (record { kind = o.kind; file = file }) first.state
+
+-- one for each object
+pub record AreTypes (texts : List (List ℕ)) (objects : List ObjectLine) (states : List FirstState) (types : List Checked) : Type 0 where
+  pub as_many : length types ≡ length objects
+  pub as_many_states : length states ≡ length objects
+  pub each : (x : ℕ) (o : ObjectLine) (first : FirstState) (type : Checked) → slice_get objects x ≡ Some o → slice_get states x ≡ Some first → slice_get types x ≡ Some type
+      → IsTypeOf texts o first type
+
+-- the types of the objects of a file
+abbrev pub HasTypes : Contents → List Checked → Type 0
+HasTypes c types = AreTypes c.types c.objects c.states types

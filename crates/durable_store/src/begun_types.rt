@@ -1,0 +1,152 @@
+//! The objects of a file, of its types at the states where its history begins.
+
+ghost use Rattle.std.specs.Prelude.{◌≡◌, ◌<◌, length, map, Some, Ok, IfOk, OnOk, IfSome, slice_get};
+ghost use Rattle.std.specs.Arc.{arc_value};
+ghost use Rattle.objects.specs.Object.{meaning_of};
+ghost use Rattle.store.specs.Ends.{AreFresh};
+ghost use Rattle.store_laws.specs.Stored.{types_of};
+ghost use Rattle.journal.specs.Said.{contents};
+ghost use Rattle.durable_store.specs.Begun.{AreAlike, AreAt, AreRead, IsAt, IsAtPlace};
+ghost use Rattle.durable_store.specs.Types.{HasTypes};
+ghost use Rattle.type_text.specs.TypeFile.{Reads};
+
+use crate::open_error::OpenError;
+use journal::{FileContents, FirstState, JournalError, TypeText};
+use object_types::accept_types;
+use objects::{Object, new_objects};
+use std::alloc::Global;
+use std::sync::Arc;
+use store_text::ObjectLine;
+use table_checker::CheckedType;
+use type_text::{TypeFile, read_type};
+
+/// The objects of a file, in their order.
+///
+/// # Errors
+///
+/// `Text`, `Untyped` or `NoMemory`.
+pub(crate) fn objects_of(alloc: Global, said: &FileContents) -> Result<Vec<Object>, OpenError>
+    ensures fresh { IfOk result (λ objects. AreFresh (map meaning_of objects.items)) }
+    ensures types { IfOk result (λ objects. HasTypes (contents said.now) (types_of (map meaning_of objects.items))) }
+{
+    let files = files_of(alloc, &said.types)?;
+    let lines: &[ObjectLine] = &said.objects;
+    let types = accept_types(alloc, &files, lines)?;
+    let begun = types_at(alloc, &types, lines, &said.states)?;
+    Ok(new_objects(alloc, &begun)?)
+}
+
+/// The files that the texts describe, in their order.
+///
+/// # Errors
+///
+/// `Text` or `NoMemory`.
+fn files_of(alloc: Global, texts: &[TypeText]) -> Result<Vec<TypeFile>, OpenError>
+    ensures { IfOk result (λ files. AreRead texts.now files.items) }
+{
+    let mut files = Vec::new(alloc);
+    for (place, text) in texts.iter().enumerate() {
+        let file = file_of(alloc, place, text)?;
+        files.push(file)?;
+    }
+    Ok(files)
+}
+
+/// The file that the text at this place describes.
+fn file_of(alloc: Global, place: usize, text: &TypeText) -> Result<TypeFile, OpenError>
+    ensures { IfOk result (λ file. Reads (Ok file) text.now) }
+{
+    match read_type(alloc, text.as_bytes()) {
+        Ok(file) => Ok(file),
+        Err(fault) => Err(OpenError::of_text(place, fault)),
+    }
+}
+
+/// The types of objects at the states where they begin. Objects of one line that begin at one state share theirs.
+///
+/// # Errors
+///
+/// `Journal` where there aren't as many states, `Untyped` or `NoMemory`.
+fn types_at(
+    alloc: Global,
+    types: &[Arc<CheckedType>],
+    lines: &[ObjectLine],
+    states: &[FirstState],
+) -> Result<Vec<Arc<CheckedType>>, OpenError>
+    requires as_many { length types.now ≡ length lines.now }
+    requires alike { AreAlike lines.now (map arc_value types.now) }
+    ensures states { OnOk result (length states.now ≡ length lines.now) }
+    ensures as_many { IfOk result (λ begun. length begun.items ≡ length lines.now) }
+    ensures at { IfOk result (λ begun. AreAt (map arc_value types.now) states.now (map arc_value begun.items)) }
+{
+    if states.len() != lines.len() {
+        return Err(OpenError::Journal(JournalError::Foreign));
+    }
+    let mut begun = Vec::new(alloc);
+    for x in 0..lines.len() {
+        let at = begun_type(alloc, types, lines, states, &begun, x)?;
+        begun.push(at)?;
+    }
+    Ok(begun)
+}
+
+/// The type of object x at the state where it begins: that of an object before it with the same line that begins
+/// at the same state, else one of its own.
+///
+/// # Errors
+///
+/// `Untyped` or `NoMemory`.
+fn begun_type(
+    alloc: Global,
+    types: &[Arc<CheckedType>],
+    lines: &[ObjectLine],
+    states: &[FirstState],
+    begun: &Vec<Arc<CheckedType>>,
+    x: usize,
+) -> Result<Arc<CheckedType>, OpenError>
+    requires types { length types.now ≡ length lines.now }
+    requires states { length states.now ≡ length lines.now }
+    requires inside { x < length lines.now }
+    requires before { length begun.now.items ≡ x }
+    requires alike { AreAlike lines.now (map arc_value types.now) }
+    requires known { AreAt (map arc_value types.now) states.now (map arc_value begun.now.items) }
+    ensures { IfOk result (λ at. IsAtPlace (map arc_value types.now) states.now x (arc_value at)) }
+{
+    match place_of(&lines[..x], &states[..x], lines[x], states[x]) {
+        Some(other) => Ok(Arc::clone(&begun[other])?),
+        None => type_at(alloc, x, &types[x], states[x]),
+    }
+}
+
+/// The place of an object of this line that begins at this state.
+fn place_of(
+    lines: &[ObjectLine],
+    states: &[FirstState],
+    line: ObjectLine,
+    first: FirstState,
+) -> Option<usize>
+    requires { length states.now ≡ length lines.now }
+    ensures { IfSome result (λ place. (slice_get lines.now place ≡ Some line) × (slice_get states.now place ≡ Some first)) }
+{
+    for place in 0..lines.len() {
+        if lines[place] == line && states[place] == first {
+            return Some(place);
+        }
+    }
+    None
+}
+
+/// The type of object x at the state where it begins.
+fn type_at(
+    alloc: Global,
+    x: usize,
+    checked: &CheckedType,
+    first: FirstState,
+) -> Result<Arc<CheckedType>, OpenError>
+    ensures { IfOk result (λ at. IsAt checked.now first (arc_value at)) }
+{
+    match checked.at(alloc, first.state)? {
+        Some(at) => Ok(Arc::new(alloc, at)?),
+        None => Err(OpenError::Untyped(x)),
+    }
+}

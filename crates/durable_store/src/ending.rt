@@ -1,0 +1,73 @@
+//! The ends and the rollbacks of transactions.
+
+ghost use Rattle.std.specs.Prelude.{IfOk, OnOk};
+ghost use Rattle.serial_order.specs.declared.command.Command.TheVariants as command;
+ghost use Rattle.store_laws.specs.Stored.{MayStep, Steps};
+ghost use Rattle.journal.specs.Journal.{Clean};
+ghost use Rattle.durable_store.specs.Durable.{IsDurable, KeepsSettled, OutcomesStay};
+
+use crate::durable::Durable;
+use journal::JournalError;
+use serial_order::Refusal;
+use sqlite_trees::store::Alter;
+
+impl<S: Alter> Durable<S> {
+    /// Commits transaction t, as the store's `commit`. Its event is written, and a crash may still take it away:
+    /// the client isn't told before `settle`.
+    ///
+    /// # Errors
+    ///
+    /// As `begin`.
+    pub fn commit(&mut self, t: u32) -> Result<Result<(), Refusal>, JournalError>
+        requires { IsDurable S.Store self.old }
+        ensures sound { OnOk result (IsDurable S.Store self.new) }
+        ensures step { IfOk result (λ r. Steps self.old.store 0 (command.Commit t) r self.new.store) }
+        ensures settled { OnOk result (KeepsSettled S.Store self.old self.new) }
+        ensures clean { Clean S.Store self.new.journal → Clean S.Store self.old.journal }
+        ensures crash { OutcomesStay S.Store self.old self.new }
+    {
+        let count = self.store.event_count();
+        let ended = self.store.commit(0, t);
+        self.write_since(count)?;
+        Ok(ended)
+    }
+
+    /// Aborts transaction t, as the store's `abort`. Its event is written, and a crash may still take it away.
+    ///
+    /// # Errors
+    ///
+    /// As `begin`.
+    pub fn abort(&mut self, t: u32) -> Result<Result<(), Refusal>, JournalError>
+        requires { IsDurable S.Store self.old }
+        ensures sound { OnOk result (IsDurable S.Store self.new) }
+        ensures step { IfOk result (λ r. Steps self.old.store 0 (command.Abort t) r self.new.store) }
+        ensures settled { OnOk result (KeepsSettled S.Store self.old self.new) }
+        ensures clean { Clean S.Store self.new.journal → Clean S.Store self.old.journal }
+        ensures crash { OutcomesStay S.Store self.old self.new }
+    {
+        let count = self.store.event_count();
+        let ended = self.store.abort(0, t);
+        self.write_since(count)?;
+        Ok(ended)
+    }
+
+    /// Strikes the last n operations of transaction t, as the store's `rollback`. Its event is written, and a
+    /// crash may still take it away.
+    ///
+    /// # Errors
+    ///
+    /// As `begin`.
+    pub fn rollback(&mut self, t: u32, n: u32) -> Result<Result<(), Refusal>, JournalError>
+        requires { IsDurable S.Store self.old }
+        ensures sound { OnOk result (IsDurable S.Store self.new) }
+        ensures step { IfOk result (λ r. MayStep self.old.store 0 (command.Rollback t n) r self.new.store) }
+        ensures settled { OnOk result (KeepsSettled S.Store self.old self.new) }
+        ensures clean { Clean S.Store self.new.journal → Clean S.Store self.old.journal }
+        ensures crash { OutcomesStay S.Store self.old self.new }
+    {
+        let count = self.store.event_count();
+        let rolled_back = self.store.rollback(0, t, n);
+        self.write_since(count)?;
+        Ok(rolled_back)
+    }
+}

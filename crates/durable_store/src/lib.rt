@@ -1,0 +1,17 @@
+//! A store whose settled commits survive a crash.
+#![tactic(auto)]
+
+mod begun_types;
+mod durable;
+mod ending;
+mod making;
+mod open_error;
+mod opening;
+mod outage;
+mod settling;
+mod writing;
+
+pub use durable::Durable;
+pub use open_error::OpenError;
+pub use opening::open;
+pub use outage::{restart, settle_and_restart};

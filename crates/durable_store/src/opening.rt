@@ -1,0 +1,103 @@
+//! Opening a durable store: it is made again of its file.
+
+ghost use Rattle.std.specs.Prelude.{◌≡◌, ◌⊎◌, IfOk, IfErr, OnOk, IsTrue};
+ghost use Rattle.sqlite_trees.specs.Tree.{Trees};
+ghost use Rattle.sqlite_trees.specs.View.{IsClean};
+ghost use Rattle.journal.specs.Contents.{IsFile, contents_of};
+ghost use Rattle.journal.specs.Journal.{Clean, IsJournal, IsOpen, IsSettled, durable, may_leave, written};
+ghost use Rattle.journal.specs.Said.{contents};
+ghost use Rattle.durable_store.specs.Durable.{IsDurable};
+ghost use Rattle.durable_store.specs.Recovered.{IsRecovered, IsStoreOf, Recovers, recovered};
+
+use crate::durable::Durable;
+use crate::making::store_of;
+use crate::open_error::OpenError;
+use journal::{FileContents, Journal, JournalError};
+use sqlite_trees::store::Alter;
+use std::alloc::Global;
+
+/// Opens the store in these trees: makes it again of its events, aborts what was open, begins the next life, and
+/// commits that. What wasn't committed is let go.
+///
+/// # Errors
+///
+/// The file isn't one of a store or failed, or memory was refused. The trees come back.
+pub fn open<S: Alter>(alloc: Global, trees: S) -> Result<Durable<S>, (OpenError, S)>
+    requires { IsClean (S.Store.view trees) → IsTrue (S.Store.view trees).is_numbered }
+    ensures sound { IfOk result (λ d. IsDurable S.Store d) }
+    ensures clean { IfOk result (λ d. Clean S.Store d.journal → IsClean (S.Store.view trees)) }
+    ensures is_open { IfOk result (λ d. Clean S.Store d.journal → IsOpen S.Store d.journal) }
+    ensures found { IfOk result (λ d. Clean S.Store d.journal → IsRecovered S.Store (contents_of (S.Store.view trees).committed) d) }
+    ensures crash { IfErr result (λ e. (db : Trees) → S.Store.recovers e.1 db
+        → (IsFile db × (contents_of db ≡ recovered (contents_of (S.Store.view trees).committed))) ⊎ S.Store.recovers trees db) }
+{
+    let (journal, said) = match Journal::open(alloc, trees) {
+        Ok(opened) => opened,
+        Err((error, trees)) => return Err((OpenError::Journal(error), trees)),
+    };
+    resume(alloc, journal, &said)
+}
+
+/// The same of a journal that was just opened, and what it says.
+///
+/// # Errors
+///
+/// As `open`.
+pub(crate) fn resume<S: Alter>(
+    alloc: Global,
+    journal: Journal<S>,
+    said: &FileContents,
+) -> Result<Durable<S>, (OpenError, S)>
+    requires journal { IsJournal S.Store journal }
+    requires same { Clean S.Store journal → written S.Store journal ≡ durable S.Store journal }
+    requires said { Clean S.Store journal → durable S.Store journal ≡ contents said.now }
+    requires is_open { Clean S.Store journal → IsOpen S.Store journal }
+    ensures sound { IfOk result (λ d. IsDurable S.Store d) }
+    ensures clean { IfOk result (λ d. Clean S.Store d.journal → Clean S.Store journal) }
+    ensures is_open { IfOk result (λ d. Clean S.Store d.journal → IsOpen S.Store d.journal) }
+    ensures found { IfOk result (λ d. Clean S.Store d.journal → IsRecovered S.Store (contents said.now) d) }
+    ensures crash { IfErr result (λ e. (db : Trees) → S.Store.recovers e.1 db
+        → (Clean S.Store journal × IsFile db × (contents_of db ≡ recovered (contents said.now))) ⊎ may_leave S.Store journal db) }
+{
+    journal.is_settled();
+    match store_of(alloc, said) {
+        Ok(store) => recovered_or_back(Durable { store, journal }),
+        Err(error) => Err((error, journal.into_store())),
+    }
+}
+
+/// The store behind its recovery, or its trees.
+fn recovered_or_back<S: Alter>(made: Durable<S>) -> Result<Durable<S>, (OpenError, S)>
+    requires { IsDurable S.Store made }
+    ensures sound { IfOk result (λ d. IsDurable S.Store d) }
+    ensures recovers { IfOk result (λ d. Recovers S.Store made d) }
+    ensures crash { IfErr result (λ e. (db : Trees) → S.Store.recovers e.1 db
+        → (Clean S.Store made.journal × IsFile db × (contents_of db ≡ recovered (written S.Store made.journal))) ⊎ may_leave S.Store made.journal db) }
+{
+    let mut made = made;
+    match made.recover() {
+        Ok(()) => Ok(made),
+        Err(error) => Err((OpenError::Journal(error), made.into_trees())),
+    }
+}
+
+impl<S: Alter> Durable<S> {
+    /// Aborts each open transaction, begins the next life, and commits both at once.
+    ///
+    /// # Errors
+    ///
+    /// The file failed, or memory was refused for it.
+    fn recover(&mut self) -> Result<(), JournalError>
+        requires { IsDurable S.Store self.old }
+        ensures sound { OnOk result (IsDurable S.Store self.new) }
+        ensures recovers { OnOk result (Recovers S.Store self.old self.new) }
+        ensures crash { (db : Trees) → may_leave S.Store self.new.journal db
+            → (Clean S.Store self.old.journal × IsFile db × (contents_of db ≡ recovered (written S.Store self.old.journal))) ⊎ may_leave S.Store self.old.journal db }
+    {
+        let count = self.store.event_count();
+        self.store.abort_all();
+        self.write_since(count)?;
+        self.journal.begin_life()?;
+        self.settle()
+    }
+}

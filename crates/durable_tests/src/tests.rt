@@ -1,0 +1,3 @@
+mod counters;
+mod faults;
+mod outages;

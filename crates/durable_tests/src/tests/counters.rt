@@ -1,0 +1,169 @@
+//! A durable store of two counters over trees in memory: one in place, one deferred.
+
+ghost use Rattle.sqlite_trees.specs.View.{IsClean};
+ghost use Rattle.std.specs.Prelude.{IsTrue};
+ghost use Rattle.durable_store.specs.Durable.{IsDurable};
+
+use durable_store::{Durable, open, restart};
+use journal::{FileContents, FirstState, Header, Journal, TypeText};
+use object_calls::Answer;
+use serial_order::Refusal;
+use sqlite_trees::memory::MemStore;
+use sqlite_trees::store::{Alter, Reopen};
+use std::process::Abort;
+use store_text::ObjectLine;
+use test_support::type_texts::COUNTER;
+use type_table::Kind;
+
+/// A new file of objects of one type that begin at this state.
+pub fn contents(
+    rt: &(impl Abort + AllocGlobal),
+    text: &str,
+    lines: &[ObjectLine],
+    state: u16,
+) -> FileContents {
+    let alloc = rt.alloc();
+    let mut types = Vec::new(alloc);
+    let text = Vec::from_slice(alloc, text.as_bytes()).expect(rt, "no text");
+    types.push(TypeText::new(text)).expect(rt, "no types");
+    let objects = Vec::from_slice(alloc, lines).expect(rt, "no objects");
+    let mut states = Vec::new(alloc);
+    for _ in lines {
+        states.push(FirstState { state }).expect(rt, "no states");
+    }
+    FileContents {
+        header: Header {
+            format: 1,
+            id: [7; 16],
+            life: 0,
+        },
+        types,
+        objects,
+        states,
+        events: Vec::new(alloc),
+    }
+}
+
+/// The lines of the two counters.
+pub const TWO: [ObjectLine; 2] = [
+    ObjectLine {
+        kind: Kind::Undo,
+        file: 0,
+    },
+    ObjectLine {
+        kind: Kind::Intentions,
+        file: 0,
+    },
+];
+
+/// Trees in memory, none yet.
+pub fn no_trees(rt: &(impl Abort + AllocGlobal)) -> MemStore {
+    MemStore::new(rt.alloc(), &[]).expect(rt, "no trees")
+}
+
+/// The trees of a new file.
+pub fn created<S: Alter + Drop>(rt: &(impl Abort + AllocGlobal), trees: S, said: &FileContents) -> S
+    requires { IsClean (S.Store.view trees) → IsTrue (S.Store.view trees).is_numbered }
+    ensures { IsClean (S.Store.view result) → IsTrue (S.Store.view result).is_numbered }
+{
+    match Journal::create(rt.alloc(), trees, said) {
+        Ok(journal) => journal.into_store(),
+        Err(_) => panic!(rt; "no file"),
+    }
+}
+
+/// A new store of the two counters.
+pub fn opened<S: Alter + Drop>(rt: &(impl Abort + AllocGlobal), trees: S) -> Durable<S>
+    requires { IsClean (S.Store.view trees) → IsTrue (S.Store.view trees).is_numbered }
+    ensures { IsDurable S.Store result }
+{
+    let said = contents(rt, COUNTER, &TWO, 0);
+    match open(rt.alloc(), created(rt, trees, &said)) {
+        Ok(store) => store,
+        Err(_) => panic!(rt; "the file isn't opened"),
+    }
+}
+
+/// Begins the next transaction.
+pub fn begun<S: Alter>(rt: &impl Abort, store: &mut Durable<S>) -> u32
+    requires { IsDurable S.Store store.old }
+    ensures { IsDurable S.Store store.new }
+{
+    match store.begin() {
+        Ok(Ok(t)) => t,
+        _ => panic!(rt; "no transaction"),
+    }
+}
+
+/// Counts up at an object.
+pub fn counted<S: Alter>(rt: &impl Abort, store: &mut Durable<S>, t: u32, x: u32)
+    requires { IsDurable S.Store store.old }
+    ensures { IsDurable S.Store store.new }
+{
+    match store.call(t, x, b"inc:1") {
+        Ok(Ok(Answer::Reply(0))) => {}
+        _ => panic!(rt; "another answer"),
+    }
+}
+
+/// One transaction counts up at each object and commits.
+pub fn committed<S: Alter>(rt: &impl Abort, store: &mut Durable<S>)
+    requires { IsDurable S.Store store.old }
+    ensures { IsDurable S.Store store.new }
+{
+    let t = begun(rt, store);
+    counted(rt, store, t, 0);
+    counted(rt, store, t, 1);
+    if store.commit(t) != Ok(Ok(())) {
+        panic!(rt; "no commit");
+    }
+}
+
+/// Takes the last operation of t back and aborts it; to abort it once more is refused.
+pub fn aborted<S: Alter>(rt: &impl Abort, store: &mut Durable<S>, t: u32)
+    requires { IsDurable S.Store store.old }
+    ensures { IsDurable S.Store store.new }
+{
+    if store.rollback(t, 1) != Ok(Ok(())) {
+        panic!(rt; "not rolled back");
+    }
+    if store.abort(t) != Ok(Ok(())) {
+        panic!(rt; "not aborted");
+    }
+    if store.abort(t) != Ok(Err(Refusal::NotOpen)) {
+        panic!(rt; "not refused");
+    }
+}
+
+/// What was written is settled.
+pub fn settled<S: Alter>(rt: &impl Abort, store: &mut Durable<S>)
+    requires { IsDurable S.Store store.old }
+    ensures { IsDurable S.Store store.new }
+{
+    if store.settle().is_err() {
+        panic!(rt; "not settled");
+    }
+}
+
+/// The machine stops, and the file is opened again.
+pub fn restarted<S: Alter + Reopen + Drop>(
+    rt: &(impl Abort + AllocGlobal),
+    store: Durable<S>,
+) -> Durable<S>
+    requires { IsDurable S.Store store }
+    ensures { IsDurable S.Store result }
+{
+    match restart(rt.alloc(), store) {
+        Some(store) => store,
+        None => panic!(rt; "nothing is found"),
+    }
+}
+
+/// That so many events came, and that both objects have this state; the store is let go.
+pub fn has<S: Alter + Drop>(rt: &impl Abort, store: Durable<S>, events: u32, state: u16) {
+    let is_as_told = store.store().event_count() == events
+        && store.store().kept(0) == Some(state)
+        && store.store().kept(1) == Some(state);
+    let _ = store.into_trees();
+    assert!(rt; is_as_told);
+}

@@ -1,0 +1,74 @@
+//! What is found after the machine stopped.
+
+use super::counters::{
+    aborted, begun, committed, counted, has, no_trees, opened, restarted, settled,
+};
+use durable_store::settle_and_restart;
+
+/// What was settled is there, with the states to which it led.
+#[test]
+fn a_settled_commit_survives(rt: HostRuntime) {
+    let mut store = opened(&rt, no_trees(&rt));
+    committed(&rt, &mut store);
+    settled(&rt, &mut store);
+    has(&rt, restarted(&rt, store), 4, 1);
+}
+
+/// What was written and not settled is gone.
+#[test]
+fn a_commit_that_was_not_settled_is_gone(rt: HostRuntime) {
+    let mut store = opened(&rt, no_trees(&rt));
+    committed(&rt, &mut store);
+    has(&rt, restarted(&rt, store), 0, 0);
+}
+
+/// One settling is for all that came before it, and for nothing behind it.
+#[test]
+fn two_commits_are_settled_at_once(rt: HostRuntime) {
+    let mut store = opened(&rt, no_trees(&rt));
+    committed(&rt, &mut store);
+    committed(&rt, &mut store);
+    settled(&rt, &mut store);
+    let _ = begun(&rt, &mut store);
+    has(&rt, restarted(&rt, store), 8, 2);
+}
+
+/// Of what was open an abort is found.
+#[test]
+fn what_was_open_is_aborted(rt: HostRuntime) {
+    let mut store = opened(&rt, no_trees(&rt));
+    let t = begun(&rt, &mut store);
+    counted(&rt, &mut store, t, 0);
+    settled(&rt, &mut store);
+    let mut store = restarted(&rt, store);
+    let next = begun(&rt, &mut store);
+    let life = store.life();
+    has(&rt, store, 4, 0);
+    assert!(rt; (t, next, life) == (0, 1, 2));
+}
+
+/// A crash at the moment of a settling that answers.
+#[test]
+fn an_answered_settling_is_there(rt: HostRuntime) {
+    let mut store = opened(&rt, no_trees(&rt));
+    committed(&rt, &mut store);
+    match settle_and_restart(rt.alloc(), store) {
+        (true, Some(store)) => has(&rt, store, 4, 1),
+        (_, Some(store)) => {
+            let _ = store.into_trees();
+            panic!(&rt; "not settled")
+        }
+        _ => panic!(&rt; "nothing is found"),
+    }
+}
+
+/// A refusal is no event, and a rollback and an abort are.
+#[test]
+fn a_refusal_is_not_written(rt: HostRuntime) {
+    let mut store = opened(&rt, no_trees(&rt));
+    let t = begun(&rt, &mut store);
+    counted(&rt, &mut store, t, 1);
+    aborted(&rt, &mut store, t);
+    settled(&rt, &mut store);
+    has(&rt, restarted(&rt, store), 4, 0);
+}
