@@ -1,3 +1,5 @@
+pub mod Ahead
 pub mod Aborts
 pub mod Begun
 pub mod CatchingUp
+pub mod Firsts

@@ -2,3 +2,4 @@ pub mod Types
 pub mod Durable
 pub mod Begun
 pub mod Recovered
+pub mod Epochs

@@ -4,6 +4,7 @@
 mod begun_types;
 mod durable;
 mod ending;
+mod epochs;
 mod making;
 mod open_error;
 mod opening;

@@ -1,3 +1,5 @@
 mod counters;
+mod epochs;
 mod faults;
 mod outages;
+mod stops;

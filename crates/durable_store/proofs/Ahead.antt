@@ -1,0 +1,91 @@
+-- A store that has begun anew is ahead of its journal: its types are those of the file at the states that were kept.
+use Rattle.std.proofs.Common.{◌≡◌, ◌∙◌, ℕ, ◌<◌, zero, suc, List, [], ◌∷◌, length, get_or, true, Some, refl, sym, ap, subst, arith}
+use Rattle.std.specs.Prelude.{slice_get}
+use Rattle.std.proofs.lemmas.List.{length-map}
+use Rattle.std.proofs.lemmas.Option.{same_Some, slice_get-get_or, slice_get_within}
+use Rattle.sqlite_trees.specs.declared.store.Store.{Ghosts}
+use Rattle.type_table.specs.StateSet.{has}
+use Rattle.table_checker.specs.At.{checked_at}
+use Rattle.table_checker.specs.Checked.{Checked}
+use Rattle.serial_order.specs.Epochs.{types_at}
+use Rattle.store.specs.Renews.{Renews}
+use Rattle.store_laws.specs.Stored.{Stored}
+use Rattle.store_text.specs.declared.line.ObjectLine.{ObjectLine}
+use Rattle.journal.specs.declared.state_row.FirstState.{FirstState}
+use Rattle.journal.specs.Contents.{Contents, from_states}
+use Rattle.journal.specs.Journal.{written}
+use Rattle.durable_store.specs.declared.durable.Durable.{Durable}
+use Rattle.durable_store.specs.Types.{HasTypes, IsTypeOf}
+use Rattle.durable_store.specs.Durable.{IsDurable}
+use Rattle.durable_store.specs.Epochs.{IsAhead, firsts}
+
+-- a type and the state that was kept at each place of types that begin anew
+at-kept : (types : List Checked) (kept : List ℕ) (x : ℕ) (now : Checked) → slice_get (types_at types kept) x ≡ Some now
+    → (c : Checked) × ((s : ℕ) × (slice_get types x ≡ Some c) × (slice_get kept x ≡ Some s) × (now ≡ checked_at c s))
+at-kept [] kept x now there = absurd cc
+at-kept (c ∷ types) [] x now there = absurd cc
+at-kept (c ∷ types) (s ∷ kept) zero now there = (c, (s, refl, refl, sym (same_Some (checked_at c s) now there)))
+at-kept (c ∷ types) (s ∷ kept) (suc x) now there = at-kept types kept x now there
+
+many-kept : (types : List Checked) (kept : List ℕ) → length kept ≡ length types → length (types_at types kept) ≡ length types
+many-kept [] kept long = refl
+many-kept (c ∷ types) [] long = absurd (omega (arith, long))
+many-kept (c ∷ types) (s ∷ kept) long = ap suc (many-kept types kept (omega (arith, long)))
+
+-- a type of a file at another state of its set
+begun-anew : (texts : List (List ℕ)) (o : ObjectLine) (was first : FirstState) (c now : Checked) (s : ℕ) → IsTypeOf texts o was c → has c.file.reach s ≡ true → now ≡ checked_at c s → first.state ≡ s
+    → IsTypeOf texts o first now
+begun-anew texts o was first c now s of inside is state =
+    let base : Checked = record { kind = o.kind; file = of.file } in
+    record {
+      text = of.text;
+      there = of.there;
+      file = of.file;
+      reads = of.reads;
+      checked = of.checked;
+      inside = subst (λ n. has of.file.reach n ≡ true) (sym state) (subst (λ (c : Checked). has c.file.reach s ≡ true) of.is inside);
+      is = is ∙ ap (λ c. checked_at c s) of.is ∙ ap (checked_at base) (sym state);
+    }
+
+-- the state that stands for a type is that at which it begins
+first-of : (types : List Checked) (x : ℕ) (c : Checked) (first : FirstState) → slice_get types x ≡ Some c → slice_get (firsts types) x ≡ Some first → first.state ≡ c.file.table.initial
+first-of [] x c first there state = absurd cc
+first-of (d ∷ types) zero c first there state =
+    ap (λ (f : FirstState). f.state) (sym (same_Some (let it : FirstState = record { state = d.file.table.initial } in it) first state))
+    ∙ ap (λ (c : Checked). c.file.table.initial) (same_Some d c there)
+first-of (d ∷ types) (suc x) c first there state = first-of types x c first there state
+
+-- the types of a file at states of their sets
+has-renewed : (f : Contents) (types : List Checked) (kept : List ℕ) → HasTypes f types → length kept ≡ length types
+    → ((x : ℕ) (c : Checked) (s : ℕ) → slice_get types x ≡ Some c → slice_get kept x ≡ Some s → has c.file.reach s ≡ true)
+    → HasTypes (from_states f (firsts (types_at types kept))) (types_at types kept)
+has-renewed f types kept its long inside =
+    let now = types_at types kept in
+    let many : length now ≡ length f.objects = many-kept types kept long ∙ its.as_many in
+    record {
+      as_many = many;
+      as_many_states = length-map now (λ (c : Checked). let it : FirstState = record { state = c.file.table.initial } in it) ∙ many;
+      each = λ x o first type line state there.
+          let (c, rest) = at-kept types kept x type there in
+          let (s, there-c, there-s, is) = rest in
+          let was = get_or f.states x first in
+          let low : x < length f.states = omega (arith, slice_get_within f.objects x o line, its.as_many_states) in
+          let of : IsTypeOf f.types o was c = its.each x o was c line (slice_get-get_or f.states x first low) there-c in
+          begun-anew f.types o was first c type s of (inside x c s there-c there-s) is
+          (first-of now x type first there state ∙ ap (λ (c : Checked). c.file.table.initial) is);
+    }
+
+-- behind a new epoch of the store alone
+pub ahead : {S : Type 0} (g : Ghosts S) (d : Durable S) (new : Stored) → IsDurable g d → Renews d.store new → IsAhead g (record { store = new; journal = d.journal })
+ahead g d new sound renews =
+    let now = types_at d.store.types renews.kept in
+    let types : new.types ≡ now = ap (λ (s : Stored). s.types) renews.is in
+    record {
+      journal = sound.journal;
+      settled = sound.settled;
+      none = ap (λ (s : Stored). s.history) renews.is;
+      as_many = λ clean. ap length types ∙ many-kept d.store.types renews.kept renews.as_many ∙ (sound.types clean).as_many ∙ sym (sound.types clean).as_many_states;
+      types = λ clean.
+          subst (λ ts. HasTypes (from_states (written g d.journal) (firsts ts)) ts) (sym types)
+          (has-renewed (written g d.journal) d.store.types renews.kept (sound.types clean) renews.as_many (λ x c s there kept. (renews.epoch.kept x c s there kept).inside));
+    }

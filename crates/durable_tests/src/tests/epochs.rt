@@ -1,0 +1,113 @@
+//! New epochs of a durable store.
+
+ghost use Rattle.durable_store.specs.Durable.{IsDurable};
+
+use super::counters::{begun, committed, counted, has, no_trees, opened, restarted, settled};
+use durable_store::Durable;
+use journal::{FirstState, Journal};
+use sqlite_trees::store::Alter;
+use std::process::Abort;
+use store::RenewRefusal;
+
+/// Another epoch begins.
+pub fn renewed<S: Alter + Drop>(rt: &(impl Abort + AllocGlobal), store: Durable<S>) -> Durable<S>
+    requires { IsDurable S.Store store }
+    ensures { IsDurable S.Store result }
+{
+    match store.renew(rt.alloc()) {
+        (store, Ok(Ok(()))) => store,
+        (store, _) => {
+            let _ = store.into_trees();
+            panic!(rt; "no other epoch")
+        }
+    }
+}
+
+/// A store of one settled commit: the second life of its file.
+fn counted_once<S: Alter>(rt: &impl Abort, store: Durable<S>) -> Durable<S>
+    requires { IsDurable S.Store store }
+    ensures { IsDurable S.Store result }
+{
+    let mut store = store;
+    committed(rt, &mut store);
+    settled(rt, &mut store);
+    store
+}
+
+/// That the file of a store has no event, that both objects begin at this state, and which life it is.
+fn has_no_event<S: Alter + Drop>(
+    rt: &(impl Abort + AllocGlobal),
+    store: Durable<S>,
+    state: u16,
+    life: u32,
+)
+    requires { IsDurable S.Store store }
+{
+    match Journal::open(rt.alloc(), store.into_trees()) {
+        Ok((_, said)) => {
+            assert!(rt; said.events.is_empty() && said.header.life == life);
+            assert_eq!(rt;
+                said.states.as_slice(),
+                [FirstState { state }, FirstState { state }].as_slice()
+            );
+        }
+        Err(_) => panic!(rt; "the file isn't opened"),
+    }
+}
+
+/// The file has no event any more, but the states that were kept, in a higher life.
+#[test]
+fn a_new_epoch_begins_at_the_states_that_were_kept(rt: HostRuntime) {
+    let store = counted_once(&rt, opened(&rt, no_trees(&rt)));
+    let life = store.life();
+    let store = renewed(&rt, store);
+    assert!(rt; (life, store.life()) == (1, 2));
+    has_no_event(&rt, store, 1, 2);
+}
+
+/// The history goes on from these states with the events of the new epoch alone.
+#[test]
+fn a_new_epoch_survives(rt: HostRuntime) {
+    let mut store = renewed(&rt, counted_once(&rt, opened(&rt, no_trees(&rt))));
+    let first = begun(&rt, &mut store);
+    counted(&rt, &mut store, first, 0);
+    counted(&rt, &mut store, first, 1);
+    if store.commit(first) != Ok(Ok(())) {
+        panic!(&rt; "no commit");
+    }
+    settled(&rt, &mut store);
+    let store = restarted(&rt, store);
+    let life = store.life();
+    has(&rt, store, 4, 2);
+    assert!(rt; (first, life) == (0, 3));
+}
+
+/// What was written and not settled is gone, and the new epoch stays.
+#[test]
+fn an_event_of_a_new_epoch_that_was_not_settled_is_gone(rt: HostRuntime) {
+    let mut store = renewed(&rt, counted_once(&rt, opened(&rt, no_trees(&rt))));
+    committed(&rt, &mut store);
+    has(&rt, restarted(&rt, store), 0, 1);
+}
+
+/// One epoch after another.
+#[test]
+fn epochs_follow_one_another(rt: HostRuntime) {
+    let store = renewed(&rt, counted_once(&rt, opened(&rt, no_trees(&rt))));
+    let store = renewed(&rt, counted_once(&rt, store));
+    has_no_event(&rt, restarted(&rt, store), 2, 4);
+}
+
+/// While a transaction is open none begins, and nothing changes.
+#[test]
+fn a_new_epoch_waits_for_what_is_open(rt: HostRuntime) {
+    let mut store = counted_once(&rt, opened(&rt, no_trees(&rt)));
+    let t = begun(&rt, &mut store);
+    counted(&rt, &mut store, t, 0);
+    let (mut store, answer) = store.renew(rt.alloc());
+    let is_refused = answer == Ok(Err(RenewRefusal::StillOpen));
+    counted(&rt, &mut store, t, 1);
+    let is_same = store.store().event_count() == 7 && store.life() == 1;
+    has(&rt, restarted(&rt, store), 4, 1);
+    assert!(rt; is_refused && is_same);
+}
