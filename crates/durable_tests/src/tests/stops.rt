@@ -1,6 +1,6 @@
 //! What is found after the disk stopped in the midst of a new epoch.
 
-ghost use Rattle.std.specs.Prelude.{IfOk, OnOk, IsTrue};
+ghost use Rattle.std.specs.Prelude.{IfOk, IfSome, OnOk, IsTrue};
 ghost use Rattle.sqlite_trees.specs.View.{IsClean};
 ghost use Rattle.sqlite_store.specs.FileStore.{view};
 ghost use Rattle.sqlite_store.specs.Unopened.{AreUsable};
@@ -29,19 +29,28 @@ enum Reached {
     Epoch,
 }
 
-/// The trees of files in memory: so many calls on the log are passed on, and each one after fails.
-fn trees_until(alloc: Global, calls: u64) -> Result<FileStore<Fuse<Memory>>, Fail>
-    ensures { IfOk result (λ it. IsTrue (view it).is_numbered) }
+/// A pager of few pages.
+fn few_pages() -> Options {
+    Options {
+        cache_pages: 20,
+        ..Options::new(7)
+    }
+}
+
+/// The trees of new files in memory: so many calls on the log are passed on, and each one after fails. None where
+/// that were too few for new trees.
+fn trees_until(alloc: Global, calls: u64) -> Result<Option<FileStore<Fuse<Memory>>>, Fail>
+    ensures { IfOk result (λ r. IfSome r (λ it. IsTrue (view it).is_numbered)) }
 {
     let size = PageSize::new(512).ok_or("a page size")?;
     let files = Files {
         log: Fuse::new(Memory::new(alloc), calls),
         db: Fuse::new(Memory::new(alloc), u64::MAX),
     };
-    let pager = Pager::new(alloc, files, size, Options::new(7))?;
+    let pager = Pager::new(alloc, files, size, few_pages())?;
     match Unopened::new(alloc, pager, &[])?.create() {
-        Ok(trees) => Ok(trees),
-        Err((error, _)) => Err(Fail::from(error)),
+        Ok(trees) => Ok(Some(trees)),
+        Err(_) => Ok(None),
     }
 }
 
@@ -53,7 +62,7 @@ fn trees_after(alloc: Global, files: Files<Fuse<Memory>>) -> Result<FileStore<Fu
     let Files { mut log, mut db } = files;
     log.crash();
     db.crash();
-    let pager = Pager::new(alloc, Files { log, db }, size, Options::new(7))?;
+    let pager = Pager::new(alloc, Files { log, db }, size, few_pages())?;
     trees_in(alloc, Unopened::new(alloc, pager, &[])?)
 }
 
@@ -150,7 +159,7 @@ fn found_after(
     rt: &(impl Abort + AllocGlobal),
     calls: u64,
 ) -> Result<Option<(Reached, u32)>, Fail> {
-    let Ok(trees) = trees_until(rt.alloc(), calls) else {
+    let Some(trees) = trees_until(rt.alloc(), calls)? else {
         return Ok(None);
     };
     match played(rt, trees) {
@@ -163,23 +172,33 @@ fn found_after(
     }
 }
 
+/// The greatest number of calls, below 1,024, behind which no commit is settled.
+fn calls_too_few(rt: &(impl Abort + AllocGlobal)) -> Result<u64, Fail> {
+    let mut few = 0u64;
+    for step in [512u64, 256, 128, 64, 32, 16, 8, 4, 2, 1] {
+        if found_after(rt, few | step)?.is_none() {
+            few |= step;
+        }
+    }
+    Ok(few)
+}
+
 /// Wherever the disk stops, the old file is found or the new one; and the new one where the call had answered.
 #[test]
 fn a_stop_in_a_new_epoch_leaves_one_of_both(rt: HostRuntime) -> Result<(), Fail> {
-    let (mut stopped, mut begun) = (0u32, 0u32);
-    for calls in 0..300 {
+    let few = calls_too_few(&rt)?;
+    let mut stopped = 0u32;
+    let mut has_begun = false;
+    for calls in few.saturating_add(1)..few.saturating_add(100) {
         match found_after(&rt, calls)? {
-            Some((Reached::Epoch, events)) => {
-                assert_eq!(rt; events, 0);
-                begun = begun.saturating_add(1);
+            Some((Reached::Commit, 4 | 0)) => stopped = stopped.saturating_add(1),
+            Some((Reached::Epoch, 0)) => {
+                has_begun = true;
+                break;
             }
-            Some((_, events)) => {
-                assert!(rt; events == 4 || events == 0);
-                stopped = stopped.saturating_add(1);
-            }
-            None => {}
+            _ => panic!(rt; "neither the old file nor the new one"),
         }
     }
-    assert!(rt; stopped > 3 && begun > 0);
+    assert!(rt; stopped > 3 && has_begun);
     Ok(())
 }
