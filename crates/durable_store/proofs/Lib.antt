@@ -3,3 +3,4 @@ pub mod Aborts
 pub mod Begun
 pub mod CatchingUp
 pub mod Firsts
+pub mod New

@@ -3,3 +3,4 @@ pub mod Durable
 pub mod Begun
 pub mod Recovered
 pub mod Epochs
+pub mod Created

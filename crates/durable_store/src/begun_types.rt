@@ -41,7 +41,7 @@ pub(crate) fn objects_of(alloc: Global, said: &FileContents) -> Result<Vec<Objec
 /// # Errors
 ///
 /// `Text` or `NoMemory`.
-fn files_of(alloc: Global, texts: &[TypeText]) -> Result<Vec<TypeFile>, OpenError>
+pub(crate) fn files_of(alloc: Global, texts: &[TypeText]) -> Result<Vec<TypeFile>, OpenError>
     ensures { IfOk result (λ files. AreRead texts.now files.items) }
 {
     let mut files = Vec::new(alloc);

@@ -1,9 +1,11 @@
 //! A store and the journal of what it does.
 
-ghost use Rattle.std.specs.Prelude.{◌≡◌, IfOk, OnOk};
+ghost use Rattle.std.specs.Prelude.{◌≡◌, ℕ, Some, IfOk, OnOk, slice_get};
 ghost use Rattle.serial_order.specs.History.{begins};
 ghost use Rattle.serial_order.specs.declared.command.Command.TheVariants as command;
-ghost use Rattle.store_laws.specs.Stored.{MayStep};
+ghost use Rattle.serial_order.specs.Replay.{call_at};
+ghost use Rattle.store_laws.specs.Stored.{MayStep, objects};
+ghost use Rattle.store.specs.Calls.{Answers};
 ghost use Rattle.journal.specs.Journal.{Clean};
 ghost use Rattle.durable_store.specs.Durable.{IsDurable, KeepsSettled, OutcomesStay};
 
@@ -48,6 +50,7 @@ impl<S: Alter> Durable<S> {
         ensures sound { OnOk result (IsDurable S.Store self.new) }
         ensures number { IfOk result (λ r. IfOk r (λ t. t ≡ begins self.old.store.history)) }
         ensures step { IfOk result (λ r. MayStep self.old.store 0 command.Begin r self.new.store) }
+        ensures life { self.new.journal.header ≡ self.old.journal.header }
         ensures settled { OnOk result (KeepsSettled S.Store self.old self.new) }
         ensures clean { Clean S.Store self.new.journal → Clean S.Store self.old.journal }
         ensures crash { OutcomesStay S.Store self.old self.new }
@@ -72,6 +75,8 @@ impl<S: Alter> Durable<S> {
         requires { IsDurable S.Store self.old }
         ensures sound { OnOk result (IsDurable S.Store self.new) }
         ensures step { IfOk result (λ r. MayStep self.old.store 0 (command.Call t x name.now) r self.new.store) }
+        ensures answer { IfOk result (λ r. (c : ℕ) → call_at (slice_get (objects self.old.store) x) name.now ≡ Some c → Answers self.old.store 0 t x c r self.new.store) }
+        ensures life { self.new.journal.header ≡ self.old.journal.header }
         ensures settled { OnOk result (KeepsSettled S.Store self.old self.new) }
         ensures clean { Clean S.Store self.new.journal → Clean S.Store self.old.journal }
         ensures crash { OutcomesStay S.Store self.old self.new }

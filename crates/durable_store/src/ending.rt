@@ -1,6 +1,6 @@
 //! The ends and the rollbacks of transactions.
 
-ghost use Rattle.std.specs.Prelude.{IfOk, OnOk};
+ghost use Rattle.std.specs.Prelude.{◌≡◌, IfOk, OnOk};
 ghost use Rattle.serial_order.specs.declared.command.Command.TheVariants as command;
 ghost use Rattle.store_laws.specs.Stored.{MayStep, Steps};
 ghost use Rattle.journal.specs.Journal.{Clean};
@@ -22,6 +22,7 @@ impl<S: Alter> Durable<S> {
         requires { IsDurable S.Store self.old }
         ensures sound { OnOk result (IsDurable S.Store self.new) }
         ensures step { IfOk result (λ r. Steps self.old.store 0 (command.Commit t) r self.new.store) }
+        ensures life { self.new.journal.header ≡ self.old.journal.header }
         ensures settled { OnOk result (KeepsSettled S.Store self.old self.new) }
         ensures clean { Clean S.Store self.new.journal → Clean S.Store self.old.journal }
         ensures crash { OutcomesStay S.Store self.old self.new }
@@ -41,6 +42,7 @@ impl<S: Alter> Durable<S> {
         requires { IsDurable S.Store self.old }
         ensures sound { OnOk result (IsDurable S.Store self.new) }
         ensures step { IfOk result (λ r. Steps self.old.store 0 (command.Abort t) r self.new.store) }
+        ensures life { self.new.journal.header ≡ self.old.journal.header }
         ensures settled { OnOk result (KeepsSettled S.Store self.old self.new) }
         ensures clean { Clean S.Store self.new.journal → Clean S.Store self.old.journal }
         ensures crash { OutcomesStay S.Store self.old self.new }
@@ -61,6 +63,7 @@ impl<S: Alter> Durable<S> {
         requires { IsDurable S.Store self.old }
         ensures sound { OnOk result (IsDurable S.Store self.new) }
         ensures step { IfOk result (λ r. MayStep self.old.store 0 (command.Rollback t n) r self.new.store) }
+        ensures life { self.new.journal.header ≡ self.old.journal.header }
         ensures settled { OnOk result (KeepsSettled S.Store self.old self.new) }
         ensures clean { Clean S.Store self.new.journal → Clean S.Store self.old.journal }
         ensures crash { OutcomesStay S.Store self.old self.new }

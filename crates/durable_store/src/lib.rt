@@ -2,6 +2,7 @@
 #![tactic(auto)]
 
 mod begun_types;
+mod creating;
 mod durable;
 mod ending;
 mod epochs;
@@ -12,6 +13,7 @@ mod outage;
 mod settling;
 mod writing;
 
+pub use creating::create;
 pub use durable::Durable;
 pub use open_error::OpenError;
 pub use opening::open;

@@ -27,6 +27,7 @@ pub fn open<S: Alter>(alloc: Global, trees: S) -> Result<Durable<S>, (OpenError,
     ensures sound { IfOk result (λ d. IsDurable S.Store d) }
     ensures clean { IfOk result (λ d. Clean S.Store d.journal → IsClean (S.Store.view trees)) }
     ensures is_open { IfOk result (λ d. Clean S.Store d.journal → IsOpen S.Store d.journal) }
+    ensures was_open { IfOk result (λ d. Clean S.Store d.journal → IsTrue (S.Store.view trees).is_open) }
     ensures found { IfOk result (λ d. Clean S.Store d.journal → IsRecovered S.Store (contents_of (S.Store.view trees).committed) d) }
     ensures crash { IfErr result (λ e. (db : Trees) → S.Store.recovers e.1 db
         → (IsFile db × (contents_of db ≡ recovered (contents_of (S.Store.view trees).committed))) ⊎ S.Store.recovers trees db) }

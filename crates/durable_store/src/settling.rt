@@ -22,6 +22,7 @@ impl<S: Alter> Durable<S> {
         ensures sound { OnOk result (IsDurable S.Store self.new) }
         ensures store { OnOk result (self.new.store ≡ record self.old.store { forgotten = length self.old.store.history }) }
         ensures types { self.new.store.types ≡ self.old.store.types }
+        ensures life { self.new.journal.header ≡ self.old.journal.header }
         ensures written { OnOk result (Clean S.Store self.new.journal → written S.Store self.new.journal ≡ written S.Store self.old.journal) }
         ensures durable { OnOk result (Clean S.Store self.new.journal → durable S.Store self.new.journal ≡ written S.Store self.old.journal) }
         ensures history { OnOk result (Clean S.Store self.new.journal → self.new.store.history ≡ events (durable S.Store self.new.journal).events) }

@@ -20,6 +20,7 @@ impl<S: Alter> Durable<S> {
         requires { IsBehind S.Store self.old count }
         ensures sound { OnOk result (IsDurable S.Store self.new) }
         ensures store { self.new.store ≡ self.old.store }
+        ensures header { self.new.journal.header ≡ self.old.journal.header }
         ensures written { OnOk result (Clean S.Store self.new.journal → written S.Store self.new.journal ≡ with_all (written S.Store self.old.journal) (drop count self.old.store.history)) }
         ensures settled { OnOk result (KeepsSettled S.Store self.old self.new) }
         ensures clean { Clean S.Store self.new.journal → Clean S.Store self.old.journal }
@@ -41,6 +42,7 @@ fn append_all<S: Alter>(journal: &mut Journal<S>, events: &[Event]) -> Result<()
     ensures kept { OnOk result (IsJournal S.Store journal.new) }
     ensures written { OnOk result (Clean S.Store journal.new → written S.Store journal.new ≡ with_all (written S.Store journal.old) events.now) }
     ensures durable { OnOk result (Clean S.Store journal.new → durable S.Store journal.new ≡ durable S.Store journal.old) }
+    ensures header { journal.new.header ≡ journal.old.header }
     ensures clean { Clean S.Store journal.new → Clean S.Store journal.old }
     ensures crash { (db : Trees) → may_leave S.Store journal.new db → may_leave S.Store journal.old db }
 {

@@ -1,5 +1,6 @@
 mod counters;
 mod epochs;
 mod faults;
+mod new_files;
 mod outages;
 mod stops;

@@ -66,6 +66,9 @@ module _ (old new : View) (back : IsRolledBack old new) (clean : IsClean new) (b
     clean = (back.undone stays_open).0 ∙ sym ((back.kept clean).committed stays_open);
   }
 
+  pub was_open : IsTrue old.is_open
+  was_open = (back.kept clean).was_open stays_open
+
   pub same_commit : new.committed ≡ old.committed
   same_commit = (back.kept clean).committed stays_open
 

@@ -35,6 +35,7 @@ impl<S: Store> Journal<S> {
         ensures kept { OnOk result (IsJournal S.Store self.new) }
         ensures written { OnOk result (Clean S.Store self.new → written S.Store self.new ≡ with_event (written S.Store self.old) event) }
         ensures durable { OnOk result (Clean S.Store self.new → durable S.Store self.new ≡ durable S.Store self.old) }
+        ensures header { self.new.header ≡ self.old.header }
         ensures clean { Clean S.Store self.new → Clean S.Store self.old }
         ensures crash { (db : Trees) → may_leave S.Store self.new db → may_leave S.Store self.old db }
     {
@@ -57,6 +58,7 @@ impl<S: Store> Journal<S> {
         ensures kept { OnOk result (IsJournal S.Store self.new) }
         ensures durable { OnOk result (Clean S.Store self.new → durable S.Store self.new ≡ written S.Store self.old) }
         ensures written { OnOk result (Clean S.Store self.new → written S.Store self.new ≡ written S.Store self.old) }
+        ensures header { self.new.header ≡ self.old.header }
         ensures clean { Clean S.Store self.new → Clean S.Store self.old }
         ensures crash { (db : Trees) → may_leave S.Store self.new db
             → (Clean S.Store self.old × IsFile db × (contents_of db ≡ written S.Store self.old)) ⊎ may_leave S.Store self.old db }

@@ -36,6 +36,7 @@ impl<S: Alter> Journal<S> {
         ensures is_open { IfOk result (λ r. Clean S.Store r.0 → IsOpen S.Store r.0) }
         ensures clean { IfOk result (λ r. Clean S.Store r.0 → IsClean (S.Store.view store)) }
         ensures said { IfOk result (λ r. Clean S.Store r.0 → durable S.Store r.0 ≡ contents r.1) }
+        ensures was_open { IfOk result (λ r. Clean S.Store r.0 → IsTrue (S.Store.view store).is_open) }
         ensures same { IfOk result (λ r. Clean S.Store r.0 → durable S.Store r.0 ≡ contents_of (S.Store.view store).committed) }
         ensures file { IfOk result (λ r. Clean S.Store r.0 → IsFile (S.Store.view store).committed) }
         ensures crash { IfOk result (λ r. (db : Trees) → may_leave S.Store r.0 db → S.Store.recovers store db) }

@@ -3,6 +3,7 @@
 mod checked;
 mod lines;
 mod relations;
+mod requests;
 mod sinks;
 mod type_files;
 mod types;

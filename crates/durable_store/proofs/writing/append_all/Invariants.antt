@@ -10,6 +10,7 @@ invariant-loop-event g l = record {
   kept : IsJournal g.S.Store l.journal;
   written : Clean g.S.Store l.journal → written g.S.Store l.journal ≡ with_all (written g.S.Store l.fn.journal) (take l.event-index l.events);
   durable : Clean g.S.Store l.journal → durable g.S.Store l.journal ≡ durable g.S.Store l.fn.journal;
+  header : l.journal.header ≡ l.fn.journal.header;
   clean : Clean g.S.Store l.journal → Clean g.S.Store l.fn.journal;
   crash : (db : Trees) → may_leave g.S.Store l.journal db → may_leave g.S.Store l.fn.journal db;
 }

@@ -1,7 +1,7 @@
 use Rattle.std.proofs.Common.{◌≡◌, subst, sym, false, IsTrue, arith, length, ap, ◌∙◌}
 use Rattle.sqlite_trees.specs.View.{IsClean, View}
 use Rattle.journal.specs.Contents.{IsFile, contents_of}
-use Rattle.journal.proofs.Opens.{starts, is-file, says, unused, same_commit}
+use Rattle.journal.proofs.Opens.{starts, is-file, says, unused, was_open, same_commit}
 use Rattle.journal.proofs.journal.Journal.open.Goals as goal
 
 pub returns-in-Ok-clause-kept : goal.returns-in-Ok-clause-kept
@@ -35,3 +35,11 @@ returns-in-Ok-clause-file g c = λ clean.
     let broken : old.is_open ≡ false → IsTrue old.is_broken = g.met.S.Store.broken_if_shut _ in
     let u = unused first old c.rollback.ensures.undone was broken sound in
     subst IsFile (same_commit first old c.rollback.ensures.undone was broken sound) (subst IsFile u.clean (is-file old.trees c.in-Ok.said (c.in-Ok.ensures.told clean)))
+
+pub returns-in-Ok-clause-was_open : goal.returns-in-Ok-clause-was_open
+returns-in-Ok-clause-was_open g c = λ clean.
+    let first = g.S.Store.view c.args.store in
+    let old = g.S.Store.view c.rollback.new.self in
+    let was : IsClean old = c.in-Ok.ensures.clean clean in
+    let sound : old.is_broken ≡ false = c.in-Ok-true.ensures.sound c.in-Ok-true.field-0-test was in
+    was_open first old c.rollback.ensures.undone was (g.met.S.Store.broken_if_shut _) sound

@@ -1,0 +1,129 @@
+//! The requests, by their verbs.
+
+ghost use Rattle.std.specs.Prelude.{◌≡◌, map};
+ghost use Rattle.request_text.specs.Requests.{request_of, question_of, alone, call_of, would_of, commit_of, abort_of, rollback_of, kept_of, events_of};
+
+use crate::fault::RequestFault;
+use crate::request::Request;
+use crate::shapes::{exactly, is_verb, name_at, number_at, transaction_at};
+
+/// The request of these words.
+#[tactic(auto, unfolding(crate::specs::Requests::request_of))]
+pub fn request_of(words: &[&[u8]]) -> Result<Request, RequestFault>
+    ensures { result ≡ request_of (map (λ w. w.now) words.now) }
+{
+    if is_verb(words, "begin") {
+        alone(words, Request::Begin)
+    } else if is_verb(words, "call") {
+        call_of(words)
+    } else if is_verb(words, "would") {
+        would_of(words)
+    } else if is_verb(words, "commit") {
+        commit_of(words)
+    } else if is_verb(words, "abort") {
+        abort_of(words)
+    } else if is_verb(words, "rollback") {
+        rollback_of(words)
+    } else {
+        question_of(words)
+    }
+}
+
+/// The request of these words, where it changes nothing.
+#[tactic(auto, unfolding(crate::specs::Requests::question_of))]
+fn question_of(words: &[&[u8]]) -> Result<Request, RequestFault>
+    ensures { result ≡ question_of (map (λ w. w.now) words.now) }
+{
+    if is_verb(words, "kept") {
+        kept_of(words)
+    } else if is_verb(words, "objects") {
+        alone(words, Request::Objects)
+    } else if is_verb(words, "types") {
+        alone(words, Request::Types)
+    } else if is_verb(words, "events") {
+        events_of(words)
+    } else if is_verb(words, "stats") {
+        alone(words, Request::Stats)
+    } else if is_verb(words, "end") {
+        alone(words, Request::End)
+    } else {
+        Err(RequestFault::UnknownVerb)
+    }
+}
+
+#[tactic(auto, unfolding(crate::specs::Requests::alone))]
+fn alone(words: &[&[u8]], request: Request) -> Result<Request, RequestFault>
+    ensures { result ≡ alone (map (λ w. w.now) words.now) request }
+{
+    exactly(words, 1)?;
+    Ok(request)
+}
+
+#[tactic(auto, unfolding(crate::specs::Requests::call_of))]
+fn call_of(words: &[&[u8]]) -> Result<Request, RequestFault>
+    ensures { result ≡ call_of (map (λ w. w.now) words.now) }
+{
+    exactly(words, 4)?;
+    let call = name_at(words, 3)?;
+    let t = transaction_at(words, 1)?;
+    let x = number_at(words, 2)?;
+    Ok(Request::Call { t, x, call })
+}
+
+#[tactic(auto, unfolding(crate::specs::Requests::would_of))]
+fn would_of(words: &[&[u8]]) -> Result<Request, RequestFault>
+    ensures { result ≡ would_of (map (λ w. w.now) words.now) }
+{
+    exactly(words, 4)?;
+    let call = name_at(words, 3)?;
+    let t = transaction_at(words, 1)?;
+    let x = number_at(words, 2)?;
+    Ok(Request::Would { t, x, call })
+}
+
+#[tactic(auto, unfolding(crate::specs::Requests::commit_of))]
+fn commit_of(words: &[&[u8]]) -> Result<Request, RequestFault>
+    ensures { result ≡ commit_of (map (λ w. w.now) words.now) }
+{
+    exactly(words, 2)?;
+    let t = transaction_at(words, 1)?;
+    Ok(Request::Commit { t })
+}
+
+#[tactic(auto, unfolding(crate::specs::Requests::abort_of))]
+fn abort_of(words: &[&[u8]]) -> Result<Request, RequestFault>
+    ensures { result ≡ abort_of (map (λ w. w.now) words.now) }
+{
+    exactly(words, 2)?;
+    let t = transaction_at(words, 1)?;
+    Ok(Request::Abort { t })
+}
+
+#[tactic(auto, unfolding(crate::specs::Requests::rollback_of))]
+fn rollback_of(words: &[&[u8]]) -> Result<Request, RequestFault>
+    ensures { result ≡ rollback_of (map (λ w. w.now) words.now) }
+{
+    exactly(words, 3)?;
+    let t = transaction_at(words, 1)?;
+    let count = number_at(words, 2)?;
+    Ok(Request::Rollback { t, count })
+}
+
+#[tactic(auto, unfolding(crate::specs::Requests::kept_of))]
+fn kept_of(words: &[&[u8]]) -> Result<Request, RequestFault>
+    ensures { result ≡ kept_of (map (λ w. w.now) words.now) }
+{
+    exactly(words, 2)?;
+    let x = number_at(words, 1)?;
+    Ok(Request::Kept { x })
+}
+
+#[tactic(auto, unfolding(crate::specs::Requests::events_of))]
+fn events_of(words: &[&[u8]]) -> Result<Request, RequestFault>
+    ensures { result ≡ events_of (map (λ w. w.now) words.now) }
+{
+    exactly(words, 3)?;
+    let from = number_at(words, 1)?;
+    let count = number_at(words, 2)?;
+    Ok(Request::Events { from, count })
+}

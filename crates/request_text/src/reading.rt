@@ -1,0 +1,82 @@
+//! A line is read.
+
+ghost use Rattle.std.specs.Prelude.{◌≡◌, map, IfOk, OnOk};
+ghost use Rattle.std.specs.List.{list_all};
+ghost use Rattle.request_text.specs.Requests.{asked_of, is_ascii, tagged_of, untagged, words_between};
+
+use crate::fault::RequestFault;
+use crate::line::request_of;
+use crate::request::Asked;
+use std::alloc::{AllocError, Global};
+use type_table::Name;
+
+/// The most bytes of a line, without its LF.
+pub const LONGEST_LINE: usize = 255;
+
+/// What a line asks, without its LF.
+///
+/// # Errors
+///
+/// Memory was refused.
+pub fn read_line(alloc: Global, line: &[u8]) -> Result<Asked, AllocError>
+    ensures { IfOk result (λ asked. asked ≡ asked_of line.now) }
+{
+    if line.len() > LONGEST_LINE {
+        return Ok(untagged(RequestFault::TooLong));
+    }
+    if !are_ascii(line) {
+        return Ok(untagged(RequestFault::NotAscii));
+    }
+    let words = words_between(alloc, line)?;
+    Ok(tagged_of(&words))
+}
+
+/// What the words of a line ask.
+fn tagged_of(words: &[&[u8]]) -> Asked
+    ensures { result ≡ tagged_of (map (λ w. w.now) words.now) }
+{
+    match words {
+        [tag, words @ ..] => match Name::from_bytes(tag) {
+            Some(tag) => Asked {
+                tag: Some(tag),
+                request: request_of(words),
+            },
+            None => untagged(RequestFault::BadTag),
+        },
+        [] => untagged(RequestFault::BadTag),
+    }
+}
+
+/// A line that has no tag.
+fn untagged(fault: RequestFault) -> Asked
+    ensures { result ≡ untagged fault }
+{
+    Asked {
+        tag: None,
+        request: Err(fault),
+    }
+}
+
+/// Whether each byte is one of 32 to 126.
+fn are_ascii(line: &[u8]) -> bool
+    ensures { result ≡ list_all is_ascii line.now }
+{
+    line.iter().all(|b| is_ascii(*b))
+}
+
+fn is_ascii(b: u8) -> bool
+    ensures { result ≡ is_ascii b }
+{
+    b' ' <= b && b <= b'~'
+}
+
+/// The words of a line, with one space between two.
+fn words_between(alloc: Global, line: &[u8]) -> Result<Vec<&[u8]>, AllocError>
+    ensures { IfOk result (λ words. map (λ w. w.now) words.items ≡ words_between line.now) }
+{
+    let mut words = Vec::new(alloc);
+    for word in line.split(|b| *b == b' ') {
+        words.push(word)?;
+    }
+    Ok(words)
+}
