@@ -1,0 +1,22 @@
+-- The file of a new store.
+use Rattle.std.specs.Prelude.{◌≡◌, ℕ, List, [], ◌∷◌}
+use Rattle.table_checker.specs.Checked.{Checked}
+use Rattle.store_text.specs.declared.line.ObjectLine.{ObjectLine}
+use Rattle.journal.specs.declared.header.Header.{Header}
+use Rattle.journal.specs.Contents.{Contents}
+use Rattle.durable_store.specs.Types.{HasTypes}
+use Rattle.durable_store.specs.Epochs.{firsts}
+
+-- the header of a new file: no store was made of it yet
+abbrev pub first_header : List ℕ → Header
+first_header id = record { format = 1; id = id; life = 0 }
+
+-- these texts and objects, which have types that begin at their initial states, and no event
+pub record IsNew (id : List ℕ) (given : List (List ℕ)) (lines : List ObjectLine) (c : Contents) : Type 0 where
+  pub headers : c.headers ≡ first_header id ∷ []
+  pub texts : c.types ≡ given
+  pub objects : c.objects ≡ lines
+  pub none : c.events ≡ []
+  pub types : List Checked
+  pub are : HasTypes c types
+  pub states : c.states ≡ firsts types
