@@ -52,6 +52,14 @@ fn long_lines_are_refused(rt: HostRuntime) {
     assert!(&rt; matches!(refused.request, Err(RequestFault::TooLong)));
 }
 
+/// The words of a call, where a line is one.
+fn call_of(asked: &Asked) -> Option<(TransactionName, u32, &[u8])> {
+    match &asked.request {
+        Ok(Request::Call { t, x, call }) => Some((*t, *x, call.as_bytes())),
+        _ => None,
+    }
+}
+
 /// A call has a transaction, an object and a name; the greatest numbers are read.
 #[test]
 fn a_call_is_read(rt: HostRuntime) {
@@ -60,16 +68,7 @@ fn a_call_is_read(rt: HostRuntime) {
         life: u32::MAX,
         number: u32::MAX,
     };
-    let is_read = match asked.request {
-        Ok(
-            Request::Call {
-                t: found,
-                x: 17,
-                call,
-            },
-        ) => found == t && call.as_bytes() == b"take:2",
-        _ => false,
-    };
+    let is_read = call_of(&asked) == Some((t, 17, b"take:2".as_slice()));
     assert!(&rt; is_read && has_tag(&asked, "a-1"));
 }
 
