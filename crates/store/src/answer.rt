@@ -26,6 +26,7 @@ use store_laws::{
 
 impl<R: Recovery> Store<R> {
     /// Answers t's call at object x, which has it.
+    #[inline(always)]
     pub(crate) fn answer(&mut self, w: u8, t: u32, x: u8, call: Call) -> Result<Answer, Refusal>
         requires still_open { is_open (seen self.old.history) t ≡ true }
         requires call { (o : Object) × (slice_get (objects self.old) x ≡ Some o) × IsCall o.table call }

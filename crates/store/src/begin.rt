@@ -18,6 +18,7 @@ impl<R: Recovery> Store<R> {
     /// # Errors
     ///
     /// `TooManyOpen`, `HistoryFull`, or `NoMemory`, and the store is as it was.
+    #[inline(always)]
     pub fn begin(&mut self, w: u8) -> Result<u32, Refusal>
         ensures number { IfOk result (λ t. t ≡ begins self.old.history) }
         ensures step { MayStep self.old w command.Begin result self.new }

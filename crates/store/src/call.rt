@@ -49,6 +49,7 @@ impl<R: Recovery> Store<R> {
     /// # Errors
     ///
     /// As `call`; `NoCall` where no call there has this number.
+    #[inline(always)]
     pub fn call_op(&mut self, w: u8, t: u32, x: u32, c: u8) -> Result<Answer, Refusal>
         ensures step { (name : List ℕ) → call_at (slice_get (objects self.old) x) name ≡ Some c → MayStep self.old w (command.Call t x name) result self.new }
         ensures answer { Answers self.old w t x c result self.new }

@@ -21,6 +21,7 @@ impl<R: Recovery> Store<R> {
     /// # Errors
     ///
     /// `NotOpen`, and the store is as it was.
+    #[inline(always)]
     pub fn commit(&mut self, w: u8, t: u32) -> Result<(), Refusal>
         ensures { Steps self.old w (command.Commit t) result self.new }
     {
@@ -40,6 +41,7 @@ impl<R: Recovery> Store<R> {
     }
 
     /// Ends transaction t, as worker w.
+    #[inline(always)]
     fn end(&mut self, w: u8, t: u32, how: End) -> Result<(), Refusal>
         ensures { Steps self.old w (end_command how t) result self.new }
     {
