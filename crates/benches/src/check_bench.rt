@@ -1,9 +1,10 @@
 //! Times of the reader and of the checker: `check KIND FILE ROUNDS` prints whether the file is accepted,
 //! and the least nanoseconds of reading it, of `check` and of `check_parallel`.
 
-use crate::bench_error::BenchError;
-use crate::parts::number;
-use std::alloc::Global;
+use crate::lines_bench::type_time;
+use crate::parts::{number, show, since};
+use anyhow::{Error, Result};
+use std::alloc::{AllocError, Global};
 use std::fs;
 use std::rt::{Clock, Files};
 use std::thread::Threads;
@@ -11,107 +12,109 @@ use std::time::Instant;
 use table_checker::{Kind, check, check_parallel};
 use type_text::{TypeFile, read_type};
 
+const USAGE: &str = "usage: benches check undo|intentions FILE ROUNDS";
+
 /// Measures what the words ask for, and prints it.
 pub fn measure<R: Files + Clock + Print + AllocGlobal + Threads + Sync>(
     rt: &R,
     words: &[String],
-) -> Result<(), BenchError> {
+) -> Result<()> {
+    let Some((kind, path, rounds)) = asked(words) else {
+        return Err(Error::msg(USAGE));
+    };
+    let text = fs::read(rt, path)?;
+    measure_text(rt, kind, &text, rounds)
+}
+
+/// The kind, the path and the rounds that the words ask for.
+fn asked(words: &[String]) -> Option<(Kind, &str, u32)> {
     match words {
-        [kind, path, rounds] => measure_file(rt, kind.as_str(), path.as_str(), rounds),
-        _ => Err(BenchError::CheckUsage),
+        [kind, path, rounds] => {
+            let kind = Kind::of_word(kind.as_bytes())?;
+            Some((kind, path.as_str(), number(rounds)?))
+        }
+        _ => None,
     }
 }
 
-/// Measures the file at a path.
-fn measure_file<R: Files + Clock + Print + AllocGlobal + Threads + Sync>(
-    rt: &R,
-    kind: &str,
-    path: &str,
-    rounds: &String,
-) -> Result<(), BenchError> {
-    let kind = Kind::of_word(kind.as_bytes()).ok_or(BenchError::CheckUsage)?;
-    let rounds = number(rounds).ok_or(BenchError::CheckUsage)?;
-    let text = fs::read(rt, path)?;
-    let times = times_of(rt, kind, &text, rounds)?;
-    print_times(rt, times)
-}
-
-/// Whether a file is accepted, and the least nanoseconds of each part.
-#[derive(Clone, Copy)]
-struct Times {
-    accepted: bool,
-    read: u128,
-    check: u128,
-    check_parallel: u128,
-}
-
-/// The times of a text.
-fn times_of<R: Clock + AllocGlobal + Threads + Sync>(
+/// Measures a text.
+fn measure_text<R: Clock + Print + AllocGlobal + Threads + Sync>(
     rt: &R,
     kind: Kind,
     text: &[u8],
     rounds: u32,
-) -> Result<Times, BenchError> {
+) -> Result<()> {
     let file = read_type(rt.alloc(), text)?;
-    times_of_file(rt, kind, text, &file, rounds)
+    measure_file(rt, kind, text, &file, rounds)
 }
 
-/// The times of a text and its file.
-fn times_of_file<R: Clock + AllocGlobal + Threads + Sync>(
+/// Measures a text and its file.
+fn measure_file<R: Clock + Print + AllocGlobal + Threads + Sync>(
     rt: &R,
     kind: Kind,
     text: &[u8],
     file: &TypeFile,
     rounds: u32,
-) -> Result<Times, BenchError> {
+) -> Result<()> {
+    let accepted = is_accepted(rt.alloc(), file, kind)?;
+    let times = times_of(rt, kind, text, file, rounds)?;
+    print_times(rt, accepted, times)
+}
+
+fn print_times<R: Print>(rt: &R, accepted: bool, times: Times) -> Result<()> {
+    println!(rt; "accepted {accepted}")?;
+    show(
+        rt,
+        &[
+            ("read", times.read),
+            ("check", times.check),
+            ("check_parallel", times.check_parallel),
+        ],
+    )
+}
+
+/// Whether a file is accepted for a kind.
+fn is_accepted(alloc: Global, file: &TypeFile, kind: Kind) -> Result<bool, AllocError> {
+    Ok(check(file.copy(alloc)?, kind).is_ok())
+}
+
+/// The least nanoseconds of each part.
+#[derive(Clone, Copy)]
+struct Times {
+    read: u128,
+    check: u128,
+    check_parallel: u128,
+}
+
+/// The times of a text and its file.
+fn times_of<R: Clock + AllocGlobal + Threads + Sync>(
+    rt: &R,
+    kind: Kind,
+    text: &[u8],
+    file: &TypeFile,
+    rounds: u32,
+) -> Result<Times> {
     let mut times = Times {
-        accepted: is_accepted(rt.alloc(), file, kind)?,
         read: u128::MAX,
         check: u128::MAX,
         check_parallel: u128::MAX,
     };
     for _ in 0..rounds {
-        times.read = times.read.min(read_time(rt, text)?);
+        times.read = times.read.min(type_time(rt, text)?);
         times.check = times.check.min(check_time(rt, file, kind)?);
         times.check_parallel = times.check_parallel.min(parallel_time(rt, file, kind)?);
     }
     Ok(times)
 }
 
-/// Whether a file is accepted for a kind.
-fn is_accepted(alloc: Global, file: &TypeFile, kind: Kind) -> Result<bool, BenchError> {
-    Ok(check(file.copy(alloc)?, kind).is_ok())
-}
-
-fn print_times<R: Print>(rt: &R, times: Times) -> Result<(), BenchError> {
-    println!(rt; "accepted {}", times.accepted)?;
-    println!(rt; "read {}", times.read)?;
-    println!(rt; "check {}", times.check)?;
-    println!(rt; "check_parallel {}", times.check_parallel)?;
-    Ok(())
-}
-
-/// The nanoseconds of a reading.
-fn read_time<R: Clock + AllocGlobal>(rt: &R, text: &[u8]) -> Result<u128, BenchError> {
-    let start = Instant::now(rt)?;
-    let file = read_type(rt.alloc(), text);
-    let time = start.elapsed(rt)?;
-    drop(file?);
-    Ok(time.as_nanos())
-}
-
 /// The nanoseconds of a check on one thread.
-fn check_time<R: Clock + AllocGlobal>(
-    rt: &R,
-    file: &TypeFile,
-    kind: Kind,
-) -> Result<u128, BenchError> {
+fn check_time<R: Clock + AllocGlobal>(rt: &R, file: &TypeFile, kind: Kind) -> Result<u128> {
     let copy = file.copy(rt.alloc())?;
-    let start = Instant::now(rt)?;
+    let start = Instant::now(rt);
     let verdict = check(copy, kind);
-    let time = start.elapsed(rt)?;
+    let time = since(rt, start);
     drop(verdict);
-    Ok(time.as_nanos())
+    Ok(time?)
 }
 
 /// The nanoseconds of a check by all processors.
@@ -119,11 +122,11 @@ fn parallel_time<R: Clock + AllocGlobal + Threads + Sync>(
     rt: &R,
     file: &TypeFile,
     kind: Kind,
-) -> Result<u128, BenchError> {
+) -> Result<u128> {
     let copy = file.copy(rt.alloc())?;
-    let start = Instant::now(rt)?;
+    let start = Instant::now(rt);
     let verdict = check_parallel(rt, copy, kind);
-    let time = start.elapsed(rt)?;
+    let time = since(rt, start);
     drop(verdict);
-    Ok(time.as_nanos())
+    Ok(time?)
 }

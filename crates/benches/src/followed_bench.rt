@@ -2,9 +2,9 @@
 //! that `bench/plain_follow` wrote, with the same types, and prints how many histories they are, and how
 //! many of the changed events were made. At the first history that a store doesn't follow alike it stops.
 
-use crate::bench_error::BenchError;
-use crate::parts::checked_of;
+use crate::parts::checked_at;
 use crate::store_bench::{Fresh, store_at};
+use anyhow::{Context, Error, Result, bail};
 use intentions_manager::IntentionsManager;
 use object_trait::{Event, EventKind, Recovery};
 use std::alloc::{AllocError, Global};
@@ -15,29 +15,31 @@ use store::{Store, Stray, follow, replay};
 use table_checker::{CheckedType, Kind};
 use undo_manager::UndoManager;
 
+const USAGE: &str = "usage: benches followed undo|intentions NUMBERS FILE..";
+
+const CUT_SHORT: &str = "the numbers end in the midst of a history";
+
 /// The most events of a history, as for the plain program.
 const MOST_EVENTS: u32 = 48;
 /// How many numbers an event is.
 const WORDS: usize = 6;
 
 /// Follows what the words ask for, and prints how much that was.
-pub fn measure<R: Files + Print + AllocGlobal>(rt: &R, words: &[String]) -> Result<(), BenchError> {
+pub fn measure<R: Files + Print + AllocGlobal>(rt: &R, words: &[String]) -> Result<()> {
     match words {
         [kind, path, paths @ ..] => {
-            let kind = Kind::of_word(kind.as_bytes()).ok_or(BenchError::FollowedUsage)?;
-            let text = fs::read(rt, path.as_str())?;
-            let numbers = numbers_of(rt.alloc(), &text)?;
-            let types = types_of(rt, kind, paths)?;
-            let told = match kind {
-                Kind::Undo => follow_all::<UndoManager>(rt.alloc(), &types, &numbers)?,
-                Kind::Intentions => follow_all::<IntentionsManager>(rt.alloc(), &types, &numbers)?,
-            };
-            println!(rt; "histories {}", told.histories)?;
-            println!(rt; "changed {} made {}", told.histories, told.made)?;
-            Ok(())
+            let kind = Kind::of_word(kind.as_bytes()).context(USAGE)?;
+            let numbers = numbers_at(rt, path.as_str())?;
+            measure_numbers(rt, kind, &numbers, paths)
         }
-        _ => Err(BenchError::FollowedUsage),
+        _ => Err(Error::msg(USAGE)),
     }
+}
+
+/// The numbers of the file at a path.
+fn numbers_at<R: Files + AllocGlobal>(rt: &R, path: &str) -> Result<Vec<u32>> {
+    let text = fs::read(rt, path)?;
+    Ok(numbers_of(rt.alloc(), &text)?)
 }
 
 /// The numbers of a text: what isn't a digit stands between them.
@@ -56,18 +58,44 @@ fn numbers_of(alloc: Global, text: &[u8]) -> Result<Vec<u32>, AllocError> {
     Ok(numbers)
 }
 
-/// The types of these files.
-fn types_of<R: Files + AllocGlobal>(
+/// Follows the histories of these numbers at the types of these files, and prints how much that was.
+fn measure_numbers<R: Files + Print + AllocGlobal>(
+    rt: &R,
+    kind: Kind,
+    numbers: &[u32],
+    paths: &[String],
+) -> Result<()> {
+    let types = types_at(rt, kind, paths)?;
+    measure_types(rt, kind, numbers, &types)
+}
+
+/// The types of the files at these paths.
+fn types_at<R: Files + AllocGlobal>(
     rt: &R,
     kind: Kind,
     paths: &[String],
-) -> Result<Vec<Arc<CheckedType>>, BenchError> {
+) -> Result<Vec<Arc<CheckedType>>> {
     let mut types = Vec::new(rt.alloc());
     for path in paths {
-        let text = fs::read(rt, path.as_str())?;
-        types.push(checked_of(rt.alloc(), kind, &text)?)?;
+        types.push(checked_at(rt, kind, path.as_str())?)?;
     }
     Ok(types)
+}
+
+/// Follows the histories of these numbers at these types, and prints how much that was.
+fn measure_types<R: Print + AllocGlobal>(
+    rt: &R,
+    kind: Kind,
+    numbers: &[u32],
+    types: &[Arc<CheckedType>],
+) -> Result<()> {
+    let told = match kind {
+        Kind::Undo => follow_all::<UndoManager>(rt.alloc(), types, numbers),
+        Kind::Intentions => follow_all::<IntentionsManager>(rt.alloc(), types, numbers),
+    };
+    let Told { histories, made } = told?;
+    println!(rt; "histories {histories}\nchanged {histories} made {made}")?;
+    Ok(())
 }
 
 /// How many histories were followed, and how many of their changed events were made.
@@ -77,11 +105,11 @@ struct Told {
     made: u32,
 }
 
-/// A history of the plain program: its events, an event that is to follow those before a place, whether
-/// that one is made there, and the states that are kept at the end.
-#[derive(Drop)]
+/// A history of the plain program: the numbers of its events, an event that is to follow those before a
+/// place, whether that one is made there, and the states that are kept at the end.
+#[derive(Clone, Copy)]
 struct Plain<'a> {
-    events: Vec<Event>,
+    numbers: &'a [u32],
     place: usize,
     other: Event,
     is_made: bool,
@@ -93,7 +121,7 @@ fn follow_all<M: Fresh>(
     alloc: Global,
     types: &[Arc<CheckedType>],
     numbers: &[u32],
-) -> Result<Told, BenchError> {
+) -> Result<Told> {
     let mut told = Told {
         histories: 0,
         made: 0,
@@ -103,44 +131,46 @@ fn follow_all<M: Fresh>(
         if left.is_empty() {
             break;
         }
-        let (plain, rest) = first_of(alloc, left, types.len())?;
-        if !is_alike::<M>(alloc, types, &plain)? {
-            return Err(BenchError::Differs(at));
-        }
+        let (is_made, rest) = follow_first::<M>(alloc, types, left, at)?;
         told.histories = told.histories.saturating_add(1);
-        told.made = told.made.saturating_add(u32::from(plain.is_made));
+        told.made = told.made.saturating_add(u32::from(is_made));
         left = rest;
     }
     Ok(told)
 }
 
-/// The first history of these numbers, at so many objects, and the numbers behind it.
-fn first_of<'a>(
+/// Follows the first of these histories, which is at this place among all: whether its changed event is
+/// made, and the numbers behind it.
+fn follow_first<'a, M: Fresh>(
     alloc: Global,
+    types: &[Arc<CheckedType>],
     numbers: &'a [u32],
-    objects: usize,
-) -> Result<(Plain<'a>, &'a [u32]), BenchError> {
-    let [count, numbers @ ..] = numbers else {
-        return Err(BenchError::CutShort);
-    };
-    let Some((words, numbers)) = numbers.split_at_checked((*count as usize).saturating_mul(WORDS))
-    else {
-        return Err(BenchError::CutShort);
-    };
+    at: usize,
+) -> Result<(bool, &'a [u32])> {
+    let (plain, rest) = first_of(numbers, types.len()).context(CUT_SHORT)?;
+    if is_alike::<M>(alloc, types, plain)? {
+        Ok((plain.is_made, rest))
+    } else {
+        bail!("history {at}: a store doesn't follow it as the plain program says")
+    }
+}
+
+/// The first history of these numbers, at so many objects, and the numbers behind it.
+fn first_of(numbers: &[u32], objects: usize) -> Option<(Plain<'_>, &[u32])> {
+    let (count, numbers) = numbers.split_first()?;
+    let (events, numbers) = numbers.split_at_checked((*count as usize).saturating_mul(WORDS))?;
     let [place, w, kind, t, x, c, u, is_made, numbers @ ..] = numbers else {
-        return Err(BenchError::CutShort);
+        return None;
     };
-    let Some((kept, numbers)) = numbers.split_at_checked(objects) else {
-        return Err(BenchError::CutShort);
-    };
+    let (kept, numbers) = numbers.split_at_checked(objects)?;
     let plain = Plain {
-        events: events_of(alloc, words)?,
+        numbers: events,
         place: *place as usize,
         other: event_of(*w, *kind, *t, *x, *c, *u),
         is_made: *is_made == 1,
         kept,
     };
-    Ok((plain, numbers))
+    Some((plain, numbers))
 }
 
 /// The events of these numbers.
@@ -171,71 +201,135 @@ fn event_of(w: u32, kind: u32, t: u32, x: u32, c: u32, u: u32) -> Event {
 }
 
 /// Whether new stores follow a history, and its changed event, as the plain program says.
-fn is_alike<M: Fresh>(
+fn is_alike<M: Fresh>(alloc: Global, types: &[Arc<CheckedType>], plain: Plain) -> Result<bool> {
+    let events = events_of(alloc, plain.numbers)?;
+    are_alike::<M>(alloc, types, &events, plain)
+}
+
+/// The same of a history of these events.
+fn are_alike<M: Fresh>(
     alloc: Global,
     types: &[Arc<CheckedType>],
-    plain: &Plain,
-) -> Result<bool, BenchError> {
+    events: &[Event],
+    plain: Plain,
+) -> Result<bool> {
+    Ok(is_followed::<M>(alloc, types, events, plain)? && is_told::<M>(alloc, types, events, plain)?)
+}
+
+/// Whether a new store follows these events, to the same history and the same states.
+fn is_followed<M: Fresh>(
+    alloc: Global,
+    types: &[Arc<CheckedType>],
+    events: &[Event],
+    plain: Plain,
+) -> Result<bool> {
     let mut store = new_store::<M>(alloc, types)?;
-    let is_followed = is_followed(alloc, &mut store, plain);
+    let follows = follows(&mut store, events, plain.kept);
     let _ = store.close();
+    Ok(follows)
+}
+
+/// Whether another new store follows the changed event as the plain program says.
+fn is_told<M: Fresh>(
+    alloc: Global,
+    types: &[Arc<CheckedType>],
+    events: &[Event],
+    plain: Plain,
+) -> Result<bool> {
     let mut store = new_store::<M>(alloc, types)?;
-    let is_told = is_told(alloc, &mut store, plain);
+    let tells = tells(alloc, &mut store, events, plain);
     let _ = store.close();
-    Ok(is_followed? && is_told?)
+    Ok(tells?)
 }
 
 /// A new store with an object of each type.
-fn new_store<M: Fresh>(alloc: Global, types: &[Arc<CheckedType>]) -> Result<Store<M>, BenchError> {
+fn new_store<M: Fresh>(alloc: Global, types: &[Arc<CheckedType>]) -> Result<Store<M>> {
     let mut fresh = Vec::new(alloc);
     for checked in types {
-        fresh.push(M::fresh(alloc, checked.clone()?)?)?;
+        fresh.push(M::fresh(alloc, checked)?)?;
     }
     store_at(alloc, fresh, MOST_EVENTS)
 }
 
-/// Whether a new store follows the history, to the same events and the same states.
-fn is_followed<M: Recovery>(
-    alloc: Global,
-    store: &mut Store<M>,
-    plain: &Plain,
-) -> Result<bool, AllocError> {
-    let told = replay(store, &plain.events);
-    let kept = states_of(alloc, store)?;
-    Ok(told.is_ok() && store.history() == plain.events.as_slice() && kept.as_slice() == plain.kept)
+/// Whether a store follows these events, to the same history and these states.
+fn follows<M: Recovery>(store: &mut Store<M>, events: &[Event], states: &[u32]) -> bool {
+    replay(store, events).is_ok() && store.history() == events && keeps(store, states)
 }
 
-/// Whether a new store follows the events before the place, and then makes the changed one where the
-/// plain program does; where it doesn't, it stays as it was, and follows the other events.
-fn is_told<M: Recovery>(
+/// Whether a store follows the events before the place, and then the changed one as the plain program says.
+fn tells<M: Recovery>(
     alloc: Global,
     store: &mut Store<M>,
-    plain: &Plain,
+    events: &[Event],
+    plain: Plain,
 ) -> Result<bool, AllocError> {
-    let Some((before, behind)) = plain.events.split_at_checked(plain.place) else {
-        return Ok(false);
-    };
-    let is_there = replay(store, before).is_ok();
-    let kept = states_of(alloc, store)?;
-    let told = follow(store, plain.other);
-    if plain.is_made {
-        let made = store.history().split_last() == Some((&plain.other, before));
-        return Ok(is_there && told == Ok(()) && made);
+    match events.split_at_checked(plain.place) {
+        Some((before, behind)) if replay(store, before).is_ok() => {
+            tells_behind(alloc, store, before, behind, plain)
+        }
+        _ => Ok(false),
     }
-    let stays = told == Err(Stray::NotMade)
+}
+
+/// Whether a store with the events before the place makes the changed one where the plain program does;
+/// where it doesn't, it stays as it was, and follows the other events.
+fn tells_behind<M: Recovery>(
+    alloc: Global,
+    store: &mut Store<M>,
+    before: &[Event],
+    behind: &[Event],
+    plain: Plain,
+) -> Result<bool, AllocError> {
+    if plain.is_made {
+        return Ok(is_made(store, before, plain.other));
+    }
+    let kept = states_of(alloc, store)?;
+    Ok(is_left(store, before, plain.other, &kept) && goes_on(store, behind, plain.kept))
+}
+
+/// Whether a store makes an event behind those before it.
+fn is_made<M: Recovery>(store: &mut Store<M>, before: &[Event], event: Event) -> bool {
+    follow(store, event).is_ok() && store.history().split_last() == Some((&event, before))
+}
+
+/// Whether a store doesn't make an event, has those before it alone, and keeps these states.
+fn is_left<M: Recovery>(
+    store: &mut Store<M>,
+    before: &[Event],
+    event: Event,
+    states: &[u32],
+) -> bool {
+    follow(store, event) == Err(Stray::NotMade)
         && store.history() == before
         && store.event_count() as usize == before.len()
-        && states_of(alloc, store)? == kept;
-    let goes_on = replay(store, behind).is_ok()
-        && states_of(alloc, store)?.as_slice() == plain.kept;
-    Ok(is_there && stays && goes_on)
+        && keeps(store, states)
+}
+
+/// Whether a store follows further events, to these states.
+fn goes_on<M: Recovery>(store: &mut Store<M>, behind: &[Event], states: &[u32]) -> bool {
+    replay(store, behind).is_ok() && keeps(store, states)
+}
+
+/// Whether the objects keep these states.
+fn keeps<M: Recovery>(store: &Store<M>, states: &[u32]) -> bool {
+    for (x, state) in (0..store.object_count()).zip(states) {
+        if kept(store, x) != *state {
+            return false;
+        }
+    }
+    store.object_count() as usize == states.len()
 }
 
 /// The states that the objects keep.
 fn states_of<M: Recovery>(alloc: Global, store: &Store<M>) -> Result<Vec<u32>, AllocError> {
     let mut states = Vec::new(alloc);
     for x in 0..store.object_count() {
-        states.push(u32::from(store.kept(x).unwrap_or(0)))?;
+        states.push(kept(store, x))?;
     }
     Ok(states)
+}
+
+/// The state that an object keeps, or 0.
+fn kept<M: Recovery>(store: &Store<M>, x: u32) -> u32 {
+    u32::from(store.kept(x).unwrap_or(0))
 }

@@ -2,17 +2,19 @@
 //! a type in place, whose calls 0 and 1 take turns, with 16 transactions open, and forgets each 65,536 of
 //! them. It prints the nanoseconds of the first and of the last million.
 
-use crate::bench_error::BenchError;
-use crate::parts::{checked_of, number};
+use crate::parts::{checked_at, number, show, since};
 use crate::store_bench::store_of;
+use anyhow::{Error, Result};
 use object_trait::Recovery;
 use serial_order::Refusal;
-use std::fs;
 use std::rt::{Clock, Files};
+use std::sync::Arc;
 use std::time::Instant;
 use store::Store;
-use table_checker::Kind;
+use table_checker::{CheckedType, Kind};
 use undo_manager::UndoManager;
+
+const USAGE: &str = "usage: benches lasting FILE MILLIONS";
 
 /// How many transactions are open.
 const OPEN: usize = 16;
@@ -26,25 +28,34 @@ const CALLS: u32 = 512;
 const WORKER: u8 = 0;
 
 /// Measures what the words ask for, and prints it.
-pub fn measure<R: Files + Clock + Print + AllocGlobal>(
-    rt: &R,
-    words: &[String],
-) -> Result<(), BenchError> {
+pub fn measure<R: Files + Clock + Print + AllocGlobal>(rt: &R, words: &[String]) -> Result<()> {
+    let Some((path, millions)) = asked(words) else {
+        return Err(Error::msg(USAGE));
+    };
+    let checked = checked_at(rt, Kind::Undo, path)?;
+    measure_type(rt, &checked, millions)
+}
+
+/// The path and the millions that the words ask for.
+fn asked(words: &[String]) -> Option<(&str, u32)> {
     match words {
-        [path, millions] => {
-            let millions = number(millions).ok_or(BenchError::LastingUsage)?;
-            let text = fs::read(rt, path.as_str())?;
-            let checked = checked_of(rt.alloc(), Kind::Undo, &text)?;
-            let mut store = store_of::<UndoManager>(rt.alloc(), &checked, 1, u32::MAX)?;
-            let measured = measure_store(rt, &mut store, millions);
-            let events = store.event_count();
-            let _ = store.close();
-            measured?;
-            println!(rt; "events {events}")?;
-            Ok(())
-        }
-        _ => Err(BenchError::LastingUsage),
+        [path, millions] => Some((path.as_str(), number(millions)?)),
+        _ => None,
     }
+}
+
+/// Makes the events at an object of a type, and prints how many they are.
+fn measure_type<R: Clock + Print + AllocGlobal>(
+    rt: &R,
+    checked: &Arc<CheckedType>,
+    millions: u32,
+) -> Result<()> {
+    let mut store = store_of::<UndoManager>(rt.alloc(), checked, 1, u32::MAX)?;
+    let measured = measure_store(rt, &mut store, millions);
+    let events = u128::from(store.event_count());
+    let _ = store.close();
+    measured?;
+    show(rt, &[("events", events)])
 }
 
 /// Makes the events, and prints how long the first and the last million took.
@@ -52,20 +63,41 @@ fn measure_store<R: Clock + Print, M: Recovery>(
     rt: &R,
     store: &mut Store<M>,
     millions: u32,
-) -> Result<(), BenchError> {
+) -> Result<()> {
+    let mut open = begin_all(store)?;
+    for million in 0..millions {
+        let time = million_time(rt, store, &mut open)?;
+        show_time(rt, time, million == 0 || million == millions - 1)?;
+    }
+    Ok(())
+}
+
+/// Prints a time, where it is to be told.
+fn show_time<R: Print>(rt: &R, time: u128, is_told: bool) -> Result<()> {
+    if is_told {
+        return show(rt, &[("nanoseconds", time)]);
+    }
+    Ok(())
+}
+
+/// Begins the transactions.
+fn begin_all<M: Recovery>(store: &mut Store<M>) -> Result<[u32; OPEN], Refusal> {
     let mut open = [0u32; OPEN];
     for t in &mut open {
         *t = store.begin(WORKER)?;
     }
-    for million in 0..millions {
-        let start = Instant::now(rt)?;
-        make_million(store, &mut open)?;
-        let time = start.elapsed(rt)?;
-        if million == 0 || million == millions - 1 {
-            println!(rt; "nanoseconds {}", time.as_nanos())?;
-        }
-    }
-    Ok(())
+    Ok(open)
+}
+
+/// Makes a million events: the nanoseconds that they took.
+fn million_time<R: Clock, M: Recovery>(
+    rt: &R,
+    store: &mut Store<M>,
+    open: &mut [u32; OPEN],
+) -> Result<u128> {
+    let start = Instant::now(rt);
+    make_million(store, open)?;
+    Ok(since(rt, start)?)
 }
 
 /// Makes a million events, and forgets them as they come.

@@ -1,13 +1,15 @@
 //! Times of the readers of texts: `lines type|script FILE ROUNDS` prints the number of lines that the
 //! text ended, and the least nanoseconds of reading it.
 
-use crate::bench_error::BenchError;
-use crate::parts::number;
+use crate::parts::{number, show, since};
+use anyhow::{Error, Result};
 use script_text::read_script;
 use std::fs;
 use std::rt::{Clock, Files};
 use std::time::Instant;
 use type_text::read_type;
+
+const USAGE: &str = "usage: benches lines type|script FILE ROUNDS";
 
 /// What the text is.
 #[derive(Clone, Copy)]
@@ -17,16 +19,22 @@ enum Form {
 }
 
 /// Measures what the words ask for, and prints it.
-pub fn measure<R: Files + Clock + Print + AllocGlobal>(
-    rt: &R,
-    words: &[String],
-) -> Result<(), BenchError> {
+pub fn measure<R: Files + Clock + Print + AllocGlobal>(rt: &R, words: &[String]) -> Result<()> {
+    let Some((form, path, rounds)) = asked(words) else {
+        return Err(Error::msg(USAGE));
+    };
+    let text = fs::read(rt, path)?;
+    measure_text(rt, form, &text, rounds)
+}
+
+/// The form, the path and the rounds that the words ask for.
+fn asked(words: &[String]) -> Option<(Form, &str, u32)> {
     match words {
         [form, path, rounds] => {
-            let form = form_of(form.as_str()).ok_or(BenchError::LinesUsage)?;
-            measure_file(rt, form, path.as_str(), rounds)
+            let form = form_of(form.as_str())?;
+            Some((form, path.as_str(), number(rounds)?))
         }
-        _ => Err(BenchError::LinesUsage),
+        _ => None,
     }
 }
 
@@ -38,19 +46,25 @@ fn form_of(word: &str) -> Option<Form> {
     }
 }
 
-/// Measures the file at a path.
-fn measure_file<R: Files + Clock + Print + AllocGlobal>(
+/// Measures a text.
+fn measure_text<R: Clock + Print + AllocGlobal>(
     rt: &R,
     form: Form,
-    path: &str,
-    rounds: &String,
-) -> Result<(), BenchError> {
-    let rounds = number(rounds).ok_or(BenchError::LinesUsage)?;
-    let text = fs::read(rt, path)?;
-    let time = least_time(rt, form, &text, rounds)?;
-    println!(rt; "lines {}", text.iter().filter(|b| **b == b'\n').count())?;
-    println!(rt; "read {}", time)?;
-    Ok(())
+    text: &[u8],
+    rounds: u32,
+) -> Result<()> {
+    let time = least_time(rt, form, text, rounds)?;
+    let lines = u128::from(line_count(text));
+    show(rt, &[("lines", lines), ("read", time)])
+}
+
+/// How many lines a text ends.
+fn line_count(text: &[u8]) -> u64 {
+    let mut count: u64 = 0;
+    for byte in text {
+        count = count.saturating_add(u64::from(*byte == b'\n'));
+    }
+    count
 }
 
 /// The least nanoseconds of a reading.
@@ -59,32 +73,32 @@ fn least_time<R: Clock + AllocGlobal>(
     form: Form,
     text: &[u8],
     rounds: u32,
-) -> Result<u128, BenchError> {
+) -> Result<u128> {
     let mut least = u128::MAX;
     for _ in 0..rounds {
         let time = match form {
-            Form::Type => type_time(rt, text)?,
-            Form::Script => script_time(rt, text)?,
+            Form::Type => type_time(rt, text),
+            Form::Script => script_time(rt, text),
         };
-        least = least.min(time);
+        least = least.min(time?);
     }
     Ok(least)
 }
 
 /// The nanoseconds of reading a type file.
-fn type_time<R: Clock + AllocGlobal>(rt: &R, text: &[u8]) -> Result<u128, BenchError> {
-    let start = Instant::now(rt)?;
+pub fn type_time<R: Clock + AllocGlobal>(rt: &R, text: &[u8]) -> Result<u128> {
+    let start = Instant::now(rt);
     let file = read_type(rt.alloc(), text);
-    let time = start.elapsed(rt)?;
+    let time = since(rt, start);
     drop(file?);
-    Ok(time.as_nanos())
+    Ok(time?)
 }
 
 /// The nanoseconds of reading a script.
-fn script_time<R: Clock + AllocGlobal>(rt: &R, text: &[u8]) -> Result<u128, BenchError> {
-    let start = Instant::now(rt)?;
+fn script_time<R: Clock + AllocGlobal>(rt: &R, text: &[u8]) -> Result<u128> {
+    let start = Instant::now(rt);
     let script = read_script(rt.alloc(), text);
-    let time = start.elapsed(rt)?;
+    let time = since(rt, start);
     drop(script?);
-    Ok(time.as_nanos())
+    Ok(time?)
 }

@@ -1,7 +1,6 @@
 //! Programs that measure: the first word says what is measured, and the others are those of its module.
 #![tactic(auto)]
 
-mod bench_error;
 mod check_bench;
 mod followed_bench;
 mod lasting_bench;
@@ -10,13 +9,16 @@ mod parts;
 mod store_bench;
 mod workers_bench;
 
-use bench_error::BenchError;
+use anyhow::{Error, Result};
 use std::env;
 use std::process::ExitCode;
 use std::rt::{Clock, Env, Files};
 use std::sync::Wait;
 use std::thread::Threads;
 use store_bench::What;
+
+/// What the first word may be.
+const USAGE: &str = "the first word is check, store, follow, followed, lasting, lines or workers";
 
 fn main(rt: HostRuntime) -> ExitCode {
     match measure(&rt) {
@@ -28,12 +30,20 @@ fn main(rt: HostRuntime) -> ExitCode {
     }
 }
 
-/// Measures what the first word asks for, by the others, and prints it.
+/// Measures what the program's words ask for, and prints it.
 fn measure<R: Env + Files + Clock + Print + AllocGlobal + Threads + Wait + Sync>(
     rt: &R,
-) -> Result<(), BenchError> {
+) -> Result<()> {
     let words: Vec<String> = env::args(rt)?.skip(1).collect(rt.alloc())?;
-    match words.as_slice() {
+    measure_words(rt, &words)
+}
+
+/// Measures what the first word asks for, by the others.
+fn measure_words<R: Files + Clock + Print + AllocGlobal + Threads + Wait + Sync>(
+    rt: &R,
+    words: &[String],
+) -> Result<()> {
+    match words {
         [what, words @ ..] => match what.as_str() {
             "check" => check_bench::measure(rt, words),
             "store" => store_bench::measure(rt, What::Run, words),
@@ -42,8 +52,8 @@ fn measure<R: Env + Files + Clock + Print + AllocGlobal + Threads + Wait + Sync>
             "lasting" => lasting_bench::measure(rt, words),
             "lines" => lines_bench::measure(rt, words),
             "workers" => workers_bench::measure(rt, words),
-            _ => Err(BenchError::NoSuchBench),
+            _ => Err(Error::msg(USAGE)),
         },
-        _ => Err(BenchError::NoSuchBench),
+        _ => Err(Error::msg(USAGE)),
     }
 }

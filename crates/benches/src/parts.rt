@@ -1,8 +1,11 @@
-//! What several measurements need of their words.
+//! What several measurements need: their words, their types, the clock, and what they print.
 
-use crate::bench_error::BenchError;
+use anyhow::{Result, bail};
 use std::alloc::Global;
+use std::rt::{Clock, Files};
 use std::sync::Arc;
+use std::time::Instant;
+use std::{fs, io};
 use table_checker::{CheckedType, Kind, check};
 use type_text::read_type;
 
@@ -11,10 +14,37 @@ pub fn number(word: &String) -> Option<u32> {
     word.as_str().parse::<u32>().ok()
 }
 
+/// The type of the file at a path, where it is accepted for a kind.
+pub fn checked_at<R: Files + AllocGlobal>(
+    rt: &R,
+    kind: Kind,
+    path: &str,
+) -> Result<Arc<CheckedType>> {
+    let text = fs::read(rt, path)?;
+    checked_of(rt.alloc(), kind, &text)
+}
+
 /// The type of a text, where it is accepted for a kind.
-pub fn checked_of(alloc: Global, kind: Kind, text: &[u8]) -> Result<Arc<CheckedType>, BenchError> {
+fn checked_of(alloc: Global, kind: Kind, text: &[u8]) -> Result<Arc<CheckedType>> {
     match check(read_type(alloc, text)?, kind) {
         Ok(checked) => Ok(Arc::new(alloc, checked)?),
-        Err(_) => Err(BenchError::NotAccepted),
+        Err(_) => bail!("the type isn't accepted"),
     }
+}
+
+/// The nanoseconds since a start.
+///
+/// # Errors
+///
+/// The clock failed, now or at the start.
+pub fn since<R: Clock>(rt: &R, start: io::Result<Instant>) -> io::Result<u128> {
+    Ok(start?.elapsed(rt)?.as_nanos())
+}
+
+/// Prints each name with its number, on a line of their own.
+pub fn show<R: Print>(rt: &R, rows: &[(&str, u128)]) -> Result<()> {
+    for (name, number) in rows {
+        println!(rt; "{name} {number}")?;
+    }
+    Ok(())
 }

@@ -7,20 +7,22 @@ mod outcome;
 mod rounds;
 mod workload;
 
-use crate::bench_error::BenchError;
-use crate::parts::{checked_of, number};
+use crate::parts::{checked_at, number, show};
+use anyhow::{Error, Result};
 pub use fresh::Fresh;
 use intentions_manager::IntentionsManager;
 use object_trait::Event;
 pub use rounds::{store_at, store_of};
-use rounds::{Measured, least_followed, least_of};
-use std::fs;
+use rounds::{Followed, Measured, least_followed, least_of};
 use std::mem::size_of;
 use std::rt::{Clock, Files};
 use std::sync::Arc;
 use table_checker::{CheckedType, Kind};
 use undo_manager::UndoManager;
 use workload::{Mode, Workload};
+
+const USAGE: &str =
+    "usage: benches store|follow undo|intentions FILE OBJECTS OPEN CALLS plain|old|rollback COMMANDS ROUNDS";
 
 /// What is measured of a workload.
 #[derive(Clone, Copy)]
@@ -36,32 +38,48 @@ pub fn measure<R: Files + Clock + Print + AllocGlobal>(
     rt: &R,
     what: What,
     words: &[String],
-) -> Result<(), BenchError> {
+) -> Result<()> {
+    let Some((kind, path, workload)) = asked(words) else {
+        return Err(Error::msg(USAGE));
+    };
+    let checked = checked_at(rt, kind, path)?;
+    measure_what(rt, what, &checked, workload)
+}
+
+/// Measures what is asked for of a workload at objects of a type.
+fn measure_what<R: Clock + Print + AllocGlobal>(
+    rt: &R,
+    what: What,
+    checked: &Arc<CheckedType>,
+    workload: Workload,
+) -> Result<()> {
+    match what {
+        What::Run => measure_type(rt, checked, workload),
+        What::Follow => measure_following(rt, checked, workload),
+    }
+}
+
+/// The kind, the path and the workload that the words ask for.
+fn asked(words: &[String]) -> Option<(Kind, &str, Workload)> {
     match words {
-        [kind, path, workload @ .., rounds] => {
-            let kind = Kind::of_word(kind.as_bytes()).ok_or(BenchError::StoreUsage)?;
-            let workload = workload_of(workload).ok_or(BenchError::StoreUsage)?;
-            let rounds = number(rounds).ok_or(BenchError::StoreUsage)?;
-            let text = fs::read(rt, path.as_str())?;
-            let checked = checked_of(rt.alloc(), kind, &text)?;
-            match what {
-                What::Run => measure_type(rt, &checked, workload, rounds),
-                What::Follow => measure_following(rt, &checked, workload, rounds),
-            }
+        [kind, path, workload @ ..] => {
+            let kind = Kind::of_word(kind.as_bytes())?;
+            Some((kind, path.as_str(), workload_of(workload)?))
         }
-        _ => Err(BenchError::StoreUsage),
+        _ => None,
     }
 }
 
 /// The workload of these words.
 fn workload_of(words: &[String]) -> Option<Workload> {
     match words {
-        [objects, open, calls, mode, commands] => Some(Workload {
+        [objects, open, calls, mode, commands, rounds] => Some(Workload {
             objects: number(objects)?,
             open: number(open)?,
             calls: number(calls)?,
             mode: Mode::of_word(mode.as_str())?,
             commands: number(commands)?,
+            rounds: number(rounds)?,
         }),
         _ => None,
     }
@@ -72,13 +90,12 @@ fn measure_type<R: Clock + Print + AllocGlobal>(
     rt: &R,
     checked: &Arc<CheckedType>,
     workload: Workload,
-    rounds: u32,
-) -> Result<(), BenchError> {
+) -> Result<()> {
     let measured = match checked.kind() {
-        Kind::Undo => least_of::<R, UndoManager>(rt, checked, workload, rounds)?,
-        Kind::Intentions => least_of::<R, IntentionsManager>(rt, checked, workload, rounds)?,
+        Kind::Undo => least_of::<R, UndoManager>(rt, checked, workload),
+        Kind::Intentions => least_of::<R, IntentionsManager>(rt, checked, workload),
     };
-    print_measured(rt, measured)
+    print_measured(rt, measured?)
 }
 
 /// Measures a workload at objects of a type and a store that follows it, and prints the times.
@@ -86,27 +103,29 @@ fn measure_following<R: Clock + Print + AllocGlobal>(
     rt: &R,
     checked: &Arc<CheckedType>,
     workload: Workload,
-    rounds: u32,
-) -> Result<(), BenchError> {
+) -> Result<()> {
     let followed = match checked.kind() {
-        Kind::Undo => least_followed::<R, UndoManager>(rt, checked, workload, rounds)?,
-        Kind::Intentions => least_followed::<R, IntentionsManager>(rt, checked, workload, rounds)?,
+        Kind::Undo => least_followed::<R, UndoManager>(rt, checked, workload),
+        Kind::Intentions => least_followed::<R, IntentionsManager>(rt, checked, workload),
     };
-    println!(rt; "run {}", followed.run)?;
-    println!(rt; "follow {}", followed.follow)?;
-    Ok(())
+    let Followed { run, follow } = followed?;
+    show(rt, &[("run", run), ("follow", follow)])
 }
 
-fn print_measured<R: Print>(rt: &R, measured: Measured) -> Result<(), BenchError> {
+fn print_measured<R: Print>(rt: &R, measured: Measured) -> Result<()> {
     let outcome = measured.outcome;
-    println!(rt; "nanoseconds {}", measured.nanoseconds)?;
-    println!(rt; "event_bytes {}", size_of::<Event>())?;
-    println!(rt; "refused {}", outcome.refused)?;
-    println!(rt; "ops {}", outcome.ops)?;
-    println!(rt; "busy {}", outcome.busy)?;
-    println!(rt; "none {}", outcome.none)?;
-    println!(rt; "commits {}", outcome.commits)?;
-    println!(rt; "kept {}", outcome.kept)?;
-    println!(rt; "history {}", outcome.history)?;
-    Ok(())
+    show(
+        rt,
+        &[
+            ("nanoseconds", measured.nanoseconds),
+            ("event_bytes", size_of::<Event>() as u128),
+            ("refused", u128::from(outcome.refused)),
+            ("ops", u128::from(outcome.ops)),
+            ("busy", u128::from(outcome.busy)),
+            ("none", u128::from(outcome.none)),
+            ("commits", u128::from(outcome.commits)),
+            ("kept", u128::from(outcome.kept)),
+            ("history", u128::from(outcome.history)),
+        ],
+    )
 }

@@ -6,11 +6,10 @@ mod thinking;
 mod told;
 mod work;
 
-use crate::bench_error::BenchError;
-use crate::parts::{checked_of, number};
+use crate::parts::{checked_at, number, show};
+use anyhow::{Context, Error, Result};
 use run::run;
 use std::alloc::Global;
-use std::fs;
 use std::rt::{Clock, Files};
 use std::sync::Wait;
 use std::thread::Threads;
@@ -18,57 +17,81 @@ use std::time::Duration;
 use table_checker::Kind;
 use told::Told;
 use type_table::Name;
-use work::Work;
+use work::{Pace, Work};
+
+const USAGE: &str =
+    "usage: benches workers undo|intentions FILE WORKERS JOBS TRIES MICROSECONDS CALL..";
 
 /// Measures what the words ask for, and prints it.
 pub fn measure<H: Files + Clock + Print + AllocGlobal + Threads + Wait + Sync>(
     rt: &H,
     words: &[String],
-) -> Result<(), BenchError> {
+) -> Result<()> {
+    let Some((kind, path, pace, calls)) = asked(words) else {
+        return Err(Error::msg(USAGE));
+    };
+    let calls = names_of(rt.alloc(), calls)?;
+    measure_work(
+        rt,
+        kind,
+        path,
+        Work {
+            pace,
+            calls: &calls,
+        },
+    )
+}
+
+/// The kind, the path, the pace of the work and the words of its calls, of which there is one.
+fn asked(words: &[String]) -> Option<(Kind, &str, Pace, &[String])> {
     match words {
-        [kind, path, work @ ..] => {
-            let kind = Kind::of_word(kind.as_bytes()).ok_or(BenchError::WorkersUsage)?;
-            let work = work_of(rt.alloc(), work)?;
-            let text = fs::read(rt, path.as_str())?;
-            let checked = checked_of(rt.alloc(), kind, &text)?;
-            let (time, told) = run(rt, checked, &work)?;
-            print_told(rt, time, told)
+        [kind, path, workers, jobs, tries, think, calls @ ..] if !calls.is_empty() => {
+            let kind = Kind::of_word(kind.as_bytes())?;
+            let pace = pace_of(workers, jobs, tries, think)?;
+            Some((kind, path.as_str(), pace, calls))
         }
-        _ => Err(BenchError::WorkersUsage),
+        _ => None,
     }
 }
 
-/// The work of these words.
-fn work_of(alloc: Global, words: &[String]) -> Result<Work, BenchError> {
-    match words {
-        [workers, jobs, tries, think, calls @ ..] if !calls.is_empty() => Ok(Work {
-            workers: asked(workers)?,
-            jobs: asked(jobs)?,
-            tries: u8::try_from(asked(tries)?).map_err(|_| BenchError::WorkersUsage)?,
-            think: Duration::from_micros(u64::from(asked(think)?)),
-            calls: names_of(alloc, calls)?,
-        }),
-        _ => Err(BenchError::WorkersUsage),
-    }
+/// The pace of these words, the last in microseconds.
+fn pace_of(workers: &String, jobs: &String, tries: &String, think: &String) -> Option<Pace> {
+    Some(Pace {
+        workers: number(workers)?,
+        jobs: number(jobs)?,
+        tries: u8::try_from(number(tries)?).ok()?,
+        think: Duration::from_micros(u64::from(number(think)?)),
+    })
 }
 
-/// The number that a word asks for.
-fn asked(word: &String) -> Result<u32, BenchError> {
-    number(word).ok_or(BenchError::WorkersUsage)
-}
-
-fn names_of(alloc: Global, words: &[String]) -> Result<Vec<Name>, BenchError> {
+fn names_of(alloc: Global, words: &[String]) -> Result<Vec<Name>> {
     let mut names = Vec::new(alloc);
     for word in words {
-        names.push(Name::new(word.as_str()).ok_or(BenchError::WorkersUsage)?)?;
+        names.push(Name::new(word.as_str()).context(USAGE)?)?;
     }
     Ok(names)
 }
 
-fn print_told<H: Print>(rt: &H, time: Duration, told: Told) -> Result<(), BenchError> {
-    println!(rt; "nanoseconds {}", time.as_nanos())?;
-    println!(rt; "commits {}", told.commits)?;
-    println!(rt; "busy {}", told.busy)?;
-    println!(rt; "none {}", told.none)?;
-    Ok(())
+/// Measures work at an object of the type of the file at a path.
+fn measure_work<H: Files + Clock + Print + AllocGlobal + Threads + Wait + Sync>(
+    rt: &H,
+    kind: Kind,
+    path: &str,
+    work: Work,
+) -> Result<()> {
+    let checked = checked_at(rt, kind, path)?;
+    let (time, told) = run(rt, &checked, work)?;
+    print_told(rt, time, told)
+}
+
+fn print_told<H: Print>(rt: &H, time: Duration, told: Told) -> Result<()> {
+    show(
+        rt,
+        &[
+            ("nanoseconds", time.as_nanos()),
+            ("commits", u128::from(told.commits)),
+            ("busy", u128::from(told.busy)),
+            ("none", u128::from(told.none)),
+        ],
+    )
 }

@@ -1,8 +1,9 @@
 //! Objects as they are made.
 
-use crate::bench_error::BenchError;
+use anyhow::{Error, Result};
 use intentions_manager::IntentionsManager;
 use object_trait::Recovery;
+use objects::Object;
 use std::alloc::Global;
 use std::sync::Arc;
 use table_checker::CheckedType;
@@ -10,23 +11,29 @@ use undo_manager::UndoManager;
 
 /// Objects that are made of a checked type.
 pub trait Fresh: Recovery {
-    fn fresh(alloc: Global, checked: Arc<CheckedType>) -> Result<Self, BenchError>;
+    fn fresh(alloc: Global, checked: &Arc<CheckedType>) -> Result<Self>;
 }
 
 impl Fresh for UndoManager {
-    fn fresh(alloc: Global, checked: Arc<CheckedType>) -> Result<UndoManager, BenchError> {
-        match UndoManager::new(alloc, checked) {
+    fn fresh(alloc: Global, checked: &Arc<CheckedType>) -> Result<UndoManager> {
+        match UndoManager::new(alloc, checked.clone()?) {
             Ok(object) => Ok(object),
-            Err((_, wrong)) => Err(BenchError::WrongKind(wrong)),
+            Err((_, wrong)) => Err(Error::from(wrong)),
         }
     }
 }
 
 impl Fresh for IntentionsManager {
-    fn fresh(alloc: Global, checked: Arc<CheckedType>) -> Result<IntentionsManager, BenchError> {
-        match IntentionsManager::new(alloc, checked) {
+    fn fresh(alloc: Global, checked: &Arc<CheckedType>) -> Result<IntentionsManager> {
+        match IntentionsManager::new(alloc, checked.clone()?) {
             Ok(object) => Ok(object),
-            Err((_, wrong)) => Err(BenchError::WrongKind(wrong)),
+            Err((_, wrong)) => Err(Error::from(wrong)),
         }
+    }
+}
+
+impl Fresh for Object {
+    fn fresh(alloc: Global, checked: &Arc<CheckedType>) -> Result<Object> {
+        Ok(Object::new(alloc, checked.clone()?))
     }
 }

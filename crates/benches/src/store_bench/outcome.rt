@@ -1,6 +1,7 @@
 //! What came of a run, in a few numbers.
 
-use object_trait::{Event, EventKind};
+use object_trait::{Event, EventKind, Recovery};
+use store::Store;
 
 /// What came of a run: how many events there are of each kind that is counted, and sums of the
 /// states that are kept and of the history.
@@ -29,8 +30,23 @@ impl Outcome {
         }
     }
 
+    /// Takes in what a store has at the end of a run: its states, and its history once it is closed.
+    pub fn take<M: Recovery>(&mut self, store: Store<M>) {
+        for x in 0..store.object_count() {
+            self.keep(store.kept(x).unwrap_or(0));
+        }
+        let (history, _) = store.close();
+        self.note_all(&history);
+    }
+
+    fn note_all(&mut self, events: &[Event]) {
+        for event in events {
+            self.note(*event);
+        }
+    }
+
     /// Takes an event in: which kind it is of, and its numbers.
-    pub fn note(&mut self, event: Event) {
+    fn note(&mut self, event: Event) {
         match event.kind {
             EventKind::Op { .. } => self.ops = self.ops.saturating_add(1),
             EventKind::Busy { .. } => self.busy = self.busy.saturating_add(1),
@@ -45,7 +61,7 @@ impl Outcome {
     }
 
     /// Takes a state that is kept in.
-    pub fn keep(&mut self, state: u16) {
+    fn keep(&mut self, state: u16) {
         self.kept = folded(self.kept, u32::from(state));
     }
 }

@@ -3,15 +3,16 @@
 use super::fresh::Fresh;
 use super::outcome::Outcome;
 use super::workload::{Command, Workload, commands_of};
-use crate::bench_error::BenchError;
+use crate::parts::since;
+use anyhow::{Error, Result, bail};
 use object_trait::{Event, Recovery};
-use std::alloc::Global;
-use std::io;
+use std::alloc::{AllocError, Global};
 use std::rt::Clock;
 use std::sync::Arc;
 use std::time::Instant;
 use store::{Store, replay};
 use table_checker::CheckedType;
+use type_table::Op;
 
 /// The most events of a history.
 const MOST_EVENTS: u32 = 1_000_000;
@@ -25,22 +26,29 @@ pub struct Measured {
     pub outcome: Outcome,
 }
 
-/// The least time of so many rounds of a workload at objects of a checked type.
+/// The least time of the rounds of a workload at objects of a checked type.
 pub fn least_of<R: Clock + AllocGlobal, M: Fresh>(
     rt: &R,
     checked: &Arc<CheckedType>,
     workload: Workload,
-    rounds: u32,
-) -> Result<Measured, BenchError> {
-    let numbers = numbers_of::<M>(rt.alloc(), checked)?;
-    let commands = commands_of(rt.alloc(), workload, numbers)?;
+) -> Result<Measured> {
+    let commands = commands_at::<M>(rt.alloc(), checked, workload)?;
+    least_round::<R, M>(rt, checked, workload, &commands)
+}
+
+/// The least time of the rounds of these commands.
+fn least_round<R: Clock + AllocGlobal, M: Fresh>(
+    rt: &R,
+    checked: &Arc<CheckedType>,
+    workload: Workload,
+    commands: &[Command],
+) -> Result<Measured> {
     let mut least = Measured {
         nanoseconds: u128::MAX,
         outcome: Outcome::new(),
     };
-    for _ in 0..rounds {
-        let store = store_of::<M>(rt.alloc(), checked, workload.objects, MOST_EVENTS)?;
-        let measured = round(rt, store, workload.objects, &commands)?;
+    for _ in 0..workload.rounds {
+        let measured = round::<R, M>(rt, checked, workload.objects, commands)?;
         least = Measured {
             nanoseconds: least.nanoseconds.min(measured.nanoseconds),
             outcome: measured.outcome,
@@ -49,84 +57,81 @@ pub fn least_of<R: Clock + AllocGlobal, M: Fresh>(
     Ok(least)
 }
 
-/// A store of so many new objects of a checked type, whose history may have so many events.
-pub fn store_of<M: Fresh>(
-    alloc: Global,
+/// The time of a run in a new store, and what came of it.
+fn round<R: Clock + AllocGlobal, M: Fresh>(
+    rt: &R,
     checked: &Arc<CheckedType>,
     objects: u32,
-    max_events: u32,
-) -> Result<Store<M>, BenchError> {
-    let mut fresh = Vec::new(alloc);
-    for _ in 0..objects {
-        fresh.push(M::fresh(alloc, checked.clone()?)?)?;
-    }
-    store_at(alloc, fresh, max_events)
-}
-
-/// A store of these new objects, whose history may have so many events.
-pub fn store_at<M: Fresh>(
-    alloc: Global,
-    fresh: Vec<M>,
-    max_events: u32,
-) -> Result<Store<M>, BenchError> {
-    match Store::new(alloc, fresh, max_events) {
-        Ok(store) => Ok(store),
-        Err((_, refusal)) => Err(BenchError::NoStore(refusal)),
-    }
-}
-
-/// The numbers of the calls of a type, as a store of it tells them.
-fn numbers_of<M: Fresh>(alloc: Global, checked: &Arc<CheckedType>) -> Result<Vec<u8>, BenchError> {
-    let store = store_of::<M>(alloc, checked, 1, MOST_EVENTS)?;
-    let mut numbers = Vec::new(alloc);
-    let mut pushed = Ok(());
-    for op in checked.table().ops() {
-        let name = str::from_utf8(op.call.as_bytes()).unwrap_or("");
-        if let Some(c) = store.call_of(0, name) {
-            if pushed.is_ok() && !numbers.contains(&c) {
-                pushed = numbers.push(c);
-            }
-        }
-    }
-    drop(store.close());
-    pushed?;
-    Ok(numbers)
-}
-
-/// The time of a run in a new store, and what came of it.
-fn round<R: Clock, M: Recovery>(
-    rt: &R,
-    store: Store<M>,
-    objects: u32,
     commands: &[Command],
-) -> Result<Measured, BenchError> {
-    let mut store = store;
+) -> Result<Measured> {
+    let mut store = store_of::<M>(rt.alloc(), checked, objects, MOST_EVENTS)?;
     let mut outcome = Outcome::new();
-    let time = time_of(rt, &mut store, commands, &mut outcome);
-    for x in 0..objects {
-        outcome.keep(store.kept(x).unwrap_or(0));
-    }
-    let (history, _) = store.close();
-    for event in &history {
-        outcome.note(*event);
-    }
+    let start = Instant::now(rt);
+    outcome.refused = run(&mut store, commands);
+    let time = since(rt, start);
+    outcome.take(store);
     Ok(Measured {
         nanoseconds: time?,
         outcome,
     })
 }
 
-/// The nanoseconds of a run.
-fn time_of<R: Clock, M: Recovery>(
-    rt: &R,
-    store: &mut Store<M>,
-    commands: &[Command],
-    outcome: &mut Outcome,
-) -> io::Result<u128> {
-    let start = Instant::now(rt)?;
-    outcome.refused = run(store, commands);
-    let time = start.elapsed(rt)?;
-    Ok(time.as_nanos())
+/// A store of so many new objects of a checked type, whose history may have so many events.
+pub fn store_of<M: Fresh>(
+    alloc: Global,
+    checked: &Arc<CheckedType>,
+    objects: u32,
+    max_events: u32,
+) -> Result<Store<M>> {
+    let mut fresh = Vec::new(alloc);
+    for _ in 0..objects {
+        fresh.push(M::fresh(alloc, checked)?)?;
+    }
+    store_at(alloc, fresh, max_events)
+}
+
+/// A store of these new objects, whose history may have so many events.
+pub fn store_at<M: Fresh>(alloc: Global, fresh: Vec<M>, max_events: u32) -> Result<Store<M>> {
+    match Store::new(alloc, fresh, max_events) {
+        Ok(store) => Ok(store),
+        Err((_, refusal)) => Err(Error::from(refusal)),
+    }
+}
+
+/// The commands of a workload at objects of a checked type.
+fn commands_at<M: Fresh>(
+    alloc: Global,
+    checked: &Arc<CheckedType>,
+    workload: Workload,
+) -> Result<Vec<Command>> {
+    let numbers = numbers_of::<M>(alloc, checked)?;
+    Ok(commands_of(alloc, workload, &numbers)?)
+}
+
+/// The numbers of the calls of a type, as a store of it tells them.
+fn numbers_of<M: Fresh>(alloc: Global, checked: &Arc<CheckedType>) -> Result<Vec<u8>> {
+    let store = store_of::<M>(alloc, checked, 1, MOST_EVENTS)?;
+    let numbers = numbers_in(alloc, &store, checked.table().ops());
+    let _ = store.close();
+    Ok(numbers?)
+}
+
+/// The numbers of the calls of these operations, each once.
+fn numbers_in<M: Recovery>(
+    alloc: Global,
+    store: &Store<M>,
+    ops: &[Op],
+) -> Result<Vec<u8>, AllocError> {
+    let mut numbers = Vec::new(alloc);
+    for op in ops {
+        let name = str::from_utf8(op.call.as_bytes()).unwrap_or("");
+        if let Some(c) = store.call_of(0, name) {
+            if !numbers.contains(&c) {
+                numbers.push(c)?;
+            }
+        }
+    }
+    Ok(numbers)
 }
 
 /// Gives a store the commands, and answers how many of them it refused.
@@ -159,52 +164,65 @@ pub struct Followed {
     pub follow: u128,
 }
 
-/// The least times of so many rounds of a workload at objects of a checked type, and of following them.
+/// The least times of the rounds of a workload at objects of a checked type, and of following them.
 pub fn least_followed<R: Clock + AllocGlobal, M: Fresh>(
     rt: &R,
     checked: &Arc<CheckedType>,
     workload: Workload,
-    rounds: u32,
-) -> Result<Followed, BenchError> {
-    let numbers = numbers_of::<M>(rt.alloc(), checked)?;
-    let commands = commands_of(rt.alloc(), workload, numbers)?;
+) -> Result<Followed> {
+    let commands = commands_at::<M>(rt.alloc(), checked, workload)?;
+    least_both::<R, M>(rt, checked, workload, &commands)
+}
+
+/// The least times of the rounds of these commands, and of following them.
+fn least_both<R: Clock + AllocGlobal, M: Fresh>(
+    rt: &R,
+    checked: &Arc<CheckedType>,
+    workload: Workload,
+    commands: &[Command],
+) -> Result<Followed> {
     let mut least = Followed {
         run: u128::MAX,
         follow: u128::MAX,
     };
-    for _ in 0..rounds {
-        let store = store_of::<M>(rt.alloc(), checked, workload.objects, MOST_EVENTS)?;
-        let (run, events) = run_once(rt, store, &commands)?;
-        let store = store_of::<M>(rt.alloc(), checked, workload.objects, MOST_EVENTS)?;
-        let follow = follow_once(rt, store, &events)?;
+    for _ in 0..workload.rounds {
+        let once = followed_once::<R, M>(rt, checked, workload.objects, commands)?;
         least = Followed {
-            run: least.run.min(run),
-            follow: least.follow.min(follow),
+            run: least.run.min(once.run),
+            follow: least.follow.min(once.follow),
         };
     }
     Ok(least)
 }
 
-/// The time of a run in a new store, and its events.
-fn run_once<R: Clock, M: Recovery>(
+/// The times of a run in a new store, and of another that follows its events.
+fn followed_once<R: Clock + AllocGlobal, M: Fresh>(
     rt: &R,
-    store: Store<M>,
+    checked: &Arc<CheckedType>,
+    objects: u32,
     commands: &[Command],
-) -> Result<(u128, Vec<Event>), BenchError> {
-    let mut store = store;
-    let mut outcome = Outcome::new();
-    let time = time_of(rt, &mut store, commands, &mut outcome);
-    let (history, _) = store.close();
-    Ok((time?, history))
+) -> Result<Followed> {
+    let mut store = store_of::<M>(rt.alloc(), checked, objects, MOST_EVENTS)?;
+    let start = Instant::now(rt);
+    run(&mut store, commands);
+    let time = since(rt, start);
+    let (events, _) = store.close();
+    let follow = follow_once::<R, M>(rt, checked, objects, &events);
+    drop(events);
+    Ok(Followed {
+        run: time?,
+        follow: follow?,
+    })
 }
 
 /// The time in which a new store follows these events.
-fn follow_once<R: Clock, M: Recovery>(
+fn follow_once<R: Clock + AllocGlobal, M: Fresh>(
     rt: &R,
-    store: Store<M>,
+    checked: &Arc<CheckedType>,
+    objects: u32,
     events: &[Event],
-) -> Result<u128, BenchError> {
-    let mut store = store;
+) -> Result<u128> {
+    let mut store = store_of::<M>(rt.alloc(), checked, objects, MOST_EVENTS)?;
     let time = time_to_follow(rt, &mut store, events);
     let _ = store.close();
     time
@@ -215,12 +233,12 @@ fn time_to_follow<R: Clock, M: Recovery>(
     rt: &R,
     store: &mut Store<M>,
     events: &[Event],
-) -> Result<u128, BenchError> {
-    let start = Instant::now(rt)?;
+) -> Result<u128> {
+    let start = Instant::now(rt);
     let told = replay(store, events);
-    let time = start.elapsed(rt)?;
-    match told {
-        Ok(()) => Ok(time.as_nanos()),
-        Err(_) => Err(BenchError::Strayed),
+    let time = since(rt, start);
+    if told.is_err() {
+        bail!("a store doesn't follow the events of another");
     }
+    Ok(time?)
 }

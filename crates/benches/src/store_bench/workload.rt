@@ -33,16 +33,16 @@ pub enum Mode {
 impl Mode {
     /// The mode of a word.
     pub fn of_word(word: &str) -> Option<Mode> {
-        match word.as_bytes() {
-            b"plain" => Some(Mode::Plain),
-            b"old" => Some(Mode::Old),
-            b"rollback" => Some(Mode::Rollback),
+        match word {
+            "plain" => Some(Mode::Plain),
+            "old" => Some(Mode::Old),
+            "rollback" => Some(Mode::Rollback),
             _ => None,
         }
     }
 }
 
-/// So many open transactions, each of which makes so many calls and ends.
+/// So many open transactions, each of which makes so many calls and ends, in each of so many rounds.
 #[derive(Clone, Copy)]
 pub struct Workload {
     pub objects: u32,
@@ -50,6 +50,7 @@ pub struct Workload {
     pub calls: u32,
     pub mode: Mode,
     pub commands: u32,
+    pub rounds: u32,
 }
 
 /// A generator of numbers that look random (Marsaglia's xorshift of 32 bits).
@@ -77,17 +78,17 @@ struct Running {
 
 /// Commands that are being made.
 #[derive(Drop)]
-struct Script {
+struct Script<'a> {
     workload: Workload,
     // the numbers of the calls
-    numbers: Vec<u8>,
+    numbers: &'a [u8],
     random: Random,
     begun: u32,
     commands: Vec<Command>,
 }
 
-impl Script {
-    fn new(alloc: Global, workload: Workload, numbers: Vec<u8>) -> Script {
+impl<'a> Script<'a> {
+    fn new(alloc: Global, workload: Workload, numbers: &'a [u8]) -> Script<'a> {
         Script {
             workload,
             numbers,
@@ -155,28 +156,53 @@ impl Script {
         }
         Ok(())
     }
+
+    /// The transaction that never ends, where the mode has one.
+    fn begin_old(&mut self) -> Result<(), AllocError> {
+        if self.workload.mode == Mode::Old {
+            let old = self.begin()?;
+            self.call(old.t)?;
+        }
+        Ok(())
+    }
+
+    /// Begins the open transactions.
+    fn begin_all(&mut self, open: &mut Vec<Running>) -> Result<(), AllocError> {
+        for _ in 0..self.workload.open {
+            open.push(self.begin()?)?;
+        }
+        Ok(())
+    }
+
+    /// Turns of the open transactions, until the commands are enough.
+    fn fill(&mut self, open: &mut Vec<Running>) -> Result<(), AllocError> {
+        for _ in 0..self.workload.commands {
+            if self.is_full() {
+                break;
+            }
+            self.go_on(open)?;
+        }
+        Ok(())
+    }
+
+    /// All commands, with a list for the open transactions.
+    fn make(&mut self, open: &mut Vec<Running>) -> Result<(), AllocError> {
+        self.begin_old()?;
+        self.begin_all(open)?;
+        self.fill(open)
+    }
 }
 
 /// The commands of a workload, for calls of these numbers.
 pub fn commands_of(
     alloc: Global,
     workload: Workload,
-    numbers: Vec<u8>,
+    numbers: &[u8],
 ) -> Result<Vec<Command>, AllocError> {
     let mut script = Script::new(alloc, workload, numbers);
-    if workload.mode == Mode::Old {
-        let old = script.begin()?;
-        script.call(old.t)?;
-    }
     let mut open = Vec::new(alloc);
-    for _ in 0..workload.open {
-        open.push(script.begin()?)?;
-    }
-    for _ in 0..workload.commands {
-        if script.is_full() {
-            break;
-        }
-        script.go_on(&mut open)?;
-    }
+    let made = script.make(&mut open);
+    drop(open);
+    made?;
     Ok(script.commands)
 }

@@ -3,10 +3,10 @@
 use super::thinking::Thinking;
 use super::told::{Told, told_of};
 use super::work::Work;
-use crate::bench_error::BenchError;
+use crate::store_bench::store_of;
+use anyhow::{Error, Result};
 use jobs_text::Job;
 use objects::Object;
-use std::alloc::Global;
 use std::io;
 use std::rt::Clock;
 use std::sync::{Arc, Wait};
@@ -24,25 +24,24 @@ const MOST_EVENTS: u32 = 1_000_000;
 /// of it. The time begins before the first worker is started and ends with the last one's end.
 pub fn run<H: Clock + AllocGlobal + Threads + Wait + Sync>(
     rt: &H,
-    checked: Arc<CheckedType>,
-    work: &Work,
-) -> Result<(Duration, Told), BenchError> {
+    checked: &Arc<CheckedType>,
+    work: Work,
+) -> Result<(Duration, Told)> {
     let jobs = work.jobs(rt.alloc())?;
-    let store = store_of(rt.alloc(), checked)?;
+    let store = store_of::<Object>(rt.alloc(), checked, 1, MOST_EVENTS)?;
     let (reports, fault, time) = timed(rt, store, jobs, work);
-    match fault {
-        Some(fault) => Err(BenchError::NotWorked(fault)),
-        None => Ok((time?, told_of(&reports)?)),
-    }
+    told_in(&reports, fault, time)
 }
 
-/// A store of one new object of a checked type.
-fn store_of(alloc: Global, checked: Arc<CheckedType>) -> Result<Store<Object>, BenchError> {
-    let mut objects = Vec::new(alloc);
-    objects.push(Object::new(alloc, checked))?;
-    match Store::new(alloc, objects, MOST_EVENTS) {
-        Ok(store) => Ok(store),
-        Err((_, refusal)) => Err(BenchError::NoStore(refusal)),
+/// What the reports tell, where the workers had no fault and the clock told the time.
+fn told_in(
+    reports: &[Report],
+    fault: Option<WorkFault>,
+    time: io::Result<Duration>,
+) -> Result<(Duration, Told)> {
+    match fault {
+        Some(fault) => Err(Error::from(fault)),
+        None => Ok((time?, told_of(reports)?)),
     }
 }
 
@@ -51,18 +50,18 @@ fn timed<H: Clock + AllocGlobal + Threads + Wait + Sync>(
     rt: &H,
     store: Store<Object>,
     jobs: Vec<Vec<Job>>,
-    work: &Work,
+    work: Work,
 ) -> (Vec<Report>, Option<WorkFault>, io::Result<Duration>) {
     let gate = Thinking {
         rt,
-        time: work.think,
+        time: work.pace.think,
     };
     let start = Instant::now(rt);
     let Worked {
         store,
         reports,
         fault,
-    } = run_workers(rt, store, jobs, work.tries, &gate);
+    } = run_workers(rt, store, jobs, work.pace.tries, &gate);
     let time = start.and_then(|start| start.elapsed(rt));
     let _ = store.close();
     (reports, fault, time)

@@ -1,6 +1,6 @@
 //! What came of a run, in a few numbers.
 
-use crate::bench_error::BenchError;
+use anyhow::{Result, bail};
 use object_trait::EventKind;
 use worker_turns::{Outcome, Receipt, Report};
 
@@ -27,12 +27,12 @@ impl Told {
     /// # Errors
     ///
     /// The job was refused, or it wasn't run.
-    fn count(&mut self, outcome: Outcome) -> Result<(), BenchError> {
+    fn count(&mut self, outcome: Outcome) -> Result<()> {
         match outcome {
             Outcome::Committed(_) => self.commits = self.commits.saturating_add(1),
             Outcome::GaveUp => {}
-            Outcome::Refused(refusal) => return Err(BenchError::Refused(refusal)),
-            Outcome::NotRun => return Err(BenchError::NotRun),
+            Outcome::Refused(refusal) => bail!("a job was refused: {refusal}"),
+            Outcome::NotRun => bail!("a job wasn't run"),
         }
         Ok(())
     }
@@ -46,11 +46,14 @@ impl Told {
         }
     }
 
-    fn take(&mut self, report: &Report) -> Result<(), BenchError> {
-        for receipt in &report.receipts {
+    fn note_all(&mut self, receipts: &[Receipt]) {
+        for receipt in receipts {
             self.note(*receipt);
         }
-        for outcome in &report.outcomes {
+    }
+
+    fn count_all(&mut self, outcomes: &[Outcome]) -> Result<()> {
+        for outcome in outcomes {
             self.count(*outcome)?;
         }
         Ok(())
@@ -58,10 +61,11 @@ impl Told {
 }
 
 /// What the reports of workers tell.
-pub fn told_of(reports: &[Report]) -> Result<Told, BenchError> {
+pub fn told_of(reports: &[Report]) -> Result<Told> {
     let mut told = Told::new();
     for report in reports {
-        told.take(report)?;
+        told.note_all(&report.receipts);
+        told.count_all(&report.outcomes)?;
     }
     Ok(told)
 }

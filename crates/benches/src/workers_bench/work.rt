@@ -8,22 +8,28 @@ use type_table::Name;
 /// The one object.
 const OBJECT: u32 = 0;
 
-/// So many workers, each with so many jobs of one call, which are taken in turn.
-#[derive(Drop)]
-pub struct Work {
+/// So many workers, each with so many jobs, which are tried so often.
+#[derive(Clone, Copy)]
+pub struct Pace {
     pub workers: u32,
     pub jobs: u32,
     pub tries: u8,
     /// Between a call and the end of its transaction.
     pub think: Duration,
-    pub calls: Vec<Name>,
 }
 
-impl Work {
+/// Jobs of one call each: the calls are taken in turn.
+#[derive(Clone, Copy)]
+pub struct Work<'a> {
+    pub pace: Pace,
+    pub calls: &'a [Name],
+}
+
+impl Work<'_> {
     /// The jobs of each worker.
     pub fn jobs(&self, alloc: Global) -> Result<Vec<Vec<Job>>, AllocError> {
         let mut lists = Vec::new(alloc);
-        for w in 0..self.workers {
+        for w in 0..self.pace.workers {
             lists.push(self.jobs_of(alloc, w)?)?;
         }
         Ok(lists)
@@ -31,7 +37,7 @@ impl Work {
 
     fn jobs_of(&self, alloc: Global, w: u32) -> Result<Vec<Job>, AllocError> {
         let mut jobs = Vec::new(alloc);
-        for n in 0..self.jobs {
+        for n in 0..self.pace.jobs {
             jobs.push(self.job(alloc, w, n)?)?;
         }
         Ok(jobs)
