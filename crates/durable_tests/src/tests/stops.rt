@@ -113,11 +113,12 @@ fn counted_once<S: Alter>(store: &mut Durable<S>) -> Result<(), JournalError>
     requires { IsDurable S.Store store.old }
     ensures { OnOk result (IsDurable S.Store store.new) }
 {
-    if let Ok(t) = store.begin()? {
-        let _ = store.call(t, 0, b"inc:1")?;
-        let _ = store.call(t, 1, b"inc:1")?;
-        let _ = store.commit(t)?;
-    }
+    let Ok(t) = store.begin()? else {
+        return store.settle();
+    };
+    let _ = store.call(t, 0, b"inc:1")?;
+    let _ = store.call(t, 1, b"inc:1")?;
+    let _ = store.commit(t)?;
     store.settle()
 }
 
