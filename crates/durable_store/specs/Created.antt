@@ -1,9 +1,11 @@
 -- The file of a new store.
-use Rattle.std.specs.Prelude.{◌≡◌, ℕ, List, [], ◌∷◌}
+use Rattle.std.specs.Prelude.{◌≡◌, ⊤, ℕ, List, [], ◌∷◌}
 use Rattle.table_checker.specs.Checked.{Checked}
 use Rattle.store_text.specs.declared.line.ObjectLine.{ObjectLine}
 use Rattle.journal.specs.declared.header.Header.{Header}
 use Rattle.journal.specs.Contents.{Contents}
+use Rattle.durable_store.specs.declared.open_error.OpenError.{OpenError}
+use Rattle.durable_store.specs.declared.open_error.OpenError.TheVariants.{Journal}
 use Rattle.durable_store.specs.Types.{HasTypes}
 use Rattle.durable_store.specs.Epochs.{firsts}
 
@@ -20,3 +22,8 @@ pub record IsNew (id : List ℕ) (given : List (List ℕ)) (lines : List ObjectL
   pub types : List Checked
   pub are : HasTypes c types
   pub states : c.states ≡ firsts types
+
+-- an error that isn't the file's leaves the trees as they were
+abbrev pub IsLeft : {S : Type 0} → OpenError → S → S → Type 0
+IsLeft (Journal fault) old new = ⊤
+IsLeft error old new = new ≡ old

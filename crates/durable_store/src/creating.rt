@@ -1,11 +1,11 @@
 //! The file of a new store.
 
-ghost use Rattle.std.specs.Prelude.{◌≡◌, map, IfOk, IsTrue};
+ghost use Rattle.std.specs.Prelude.{◌≡◌, map, IfErr, IfOk, IsTrue};
 ghost use Rattle.std.specs.Arc.{arc_value};
 ghost use Rattle.sqlite_trees.specs.View.{IsClean};
 ghost use Rattle.journal.specs.Contents.{contents_of};
 ghost use Rattle.journal.specs.Said.{contents};
-ghost use Rattle.durable_store.specs.Created.{IsNew};
+ghost use Rattle.durable_store.specs.Created.{IsLeft, IsNew};
 ghost use Rattle.durable_store.specs.Epochs.{firsts};
 
 use crate::begun_types::files_of;
@@ -36,6 +36,7 @@ pub fn create<S: Alter>(
 ) -> Result<S, (OpenError, S)>
     requires { IsClean (S.Store.view trees) → IsTrue (S.Store.view trees).is_numbered }
     ensures created { IfOk result (λ trees. IsClean (S.Store.view trees) → IsNew id texts.items lines.items (contents_of (S.Store.view trees).committed)) }
+    ensures left { IfErr result (λ e. IsLeft e.0 trees e.1) }
     ensures numbered { IfOk result (λ trees. IsClean (S.Store.view trees) → IsTrue (S.Store.view trees).is_numbered) }
 {
     let said = match new_contents(alloc, id, texts, lines) {
