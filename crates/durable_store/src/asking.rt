@@ -16,7 +16,8 @@ impl<S: Alter> Durable<S> {
     ///
     /// # Errors
     ///
-    /// The file failed or isn't one of a store, or memory was refused for it: it isn't to be used any more.
+    /// The file failed or isn't one of a store, or memory was refused for it: the store isn't to be used any
+    /// more.
     pub fn types(&mut self, alloc: Global) -> Result<Vec<TypeText>, JournalError>
         requires sound { IsDurable S.Store self.old }
         requires shows { ShowsCommit S.Store self.old.journal }
