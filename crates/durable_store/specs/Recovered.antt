@@ -5,7 +5,7 @@ use Rattle.store_laws.specs.Stored.{Stored}
 use Rattle.store.specs.Ends.{closing}
 use Rattle.journal.specs.declared.header.Header.{Header}
 use Rattle.journal.specs.Contents.{Contents, in_life}
-use Rattle.journal.specs.Journal.{Clean, IsOpen, durable, written}
+use Rattle.journal.specs.Journal.{Clean, IsOpen, ShowsCommit, durable, written}
 use Rattle.durable_store.specs.declared.durable.Durable.{Durable}
 use Rattle.durable_store.specs.Types.{HasTypes}
 use Rattle.durable_store.specs.Durable.{events, with_all}
@@ -39,5 +39,6 @@ pub record Recovers {S : Type 0} (g : Ghosts S) (old new : Durable S) : Type 0 w
   pub history : new.store.history ≡ old.store.history ++ closing old.store.history
   pub clean : Clean g new.journal → Clean g old.journal
   pub is_open : Clean g new.journal → IsOpen g new.journal
+  pub shows : ShowsCommit g new.journal
   pub durable : Clean g new.journal → durable g new.journal ≡ recovered (written g old.journal)
   pub written : Clean g new.journal → written g new.journal ≡ recovered (written g old.journal)

@@ -3,7 +3,7 @@
 ghost use Rattle.std.specs.Prelude.{◌≡◌, ◌⊎◌, ◌<◌, length, Some, slice_get, IfErr, IfOk, OnOk};
 ghost use Rattle.sqlite_trees.specs.Tree.{Trees};
 ghost use Rattle.journal.specs.Contents.{IsFile, contents_of};
-ghost use Rattle.journal.specs.Journal.{Clean, durable, may_leave, written};
+ghost use Rattle.journal.specs.Journal.{Clean, ShowsCommit, durable, may_leave, written};
 ghost use Rattle.table_checker.specs.Checked.{Checked};
 ghost use Rattle.store.specs.Renews.{RefusesRenew, Renews};
 ghost use Rattle.durable_store.specs.Durable.{IsDurable};
@@ -35,6 +35,7 @@ impl<S: Alter> Durable<S> {
         ensures store { IfOk result.1 (λ r. OnOk r (Renews self.store result.0.store)) }
         ensures refused { IfOk result.1 (λ r. IfErr r (λ why. RefusesRenew self.store why × (result.0 ≡ self))) }
         ensures durable { IfOk result.1 (λ r. OnOk r (Clean S.Store result.0.journal → durable S.Store result.0.journal ≡ renewed (written S.Store self.journal) result.0.store.types)) }
+        ensures shows { IfOk result.1 (λ r. OnOk r (ShowsCommit S.Store result.0.journal)) }
         ensures clean { Clean S.Store result.0.journal → Clean S.Store self.journal }
         ensures crash { (db : Trees) → may_leave S.Store result.0.journal db
             → (Clean S.Store self.journal × IsFile db × (contents_of db ≡ renewed (written S.Store self.journal) result.0.store.types)) ⊎ may_leave S.Store self.journal db }
@@ -63,6 +64,7 @@ impl<S: Alter> Durable<S> {
         ensures store { OnOk result (self.new.store ≡ record self.old.store { forgotten = length self.old.store.history }) }
         ensures types { self.new.store.types ≡ self.old.store.types }
         ensures durable { OnOk result (Clean S.Store self.new.journal → durable S.Store self.new.journal ≡ renewed (written S.Store self.old.journal) self.old.store.types) }
+        ensures shows { OnOk result (ShowsCommit S.Store self.new.journal) }
         ensures clean { Clean S.Store self.new.journal → Clean S.Store self.old.journal }
         ensures crash { (db : Trees) → may_leave S.Store self.new.journal db
             → (Clean S.Store self.old.journal × IsFile db × (contents_of db ≡ renewed (written S.Store self.old.journal) self.old.store.types)) ⊎ may_leave S.Store self.old.journal db }

@@ -1,6 +1,7 @@
 //! A store whose settled commits survive a crash.
 #![tactic(auto)]
 
+mod asking;
 mod begun_types;
 mod creating;
 mod durable;

@@ -4,7 +4,7 @@ ghost use Rattle.std.specs.Prelude.{◌≡◌, ◌⊎◌, IfOk, IfErr, OnOk, IsT
 ghost use Rattle.sqlite_trees.specs.Tree.{Trees};
 ghost use Rattle.sqlite_trees.specs.View.{IsClean};
 ghost use Rattle.journal.specs.Contents.{IsFile, contents_of};
-ghost use Rattle.journal.specs.Journal.{Clean, IsJournal, IsOpen, IsSettled, durable, may_leave, written};
+ghost use Rattle.journal.specs.Journal.{Clean, IsJournal, IsOpen, IsSettled, ShowsCommit, durable, may_leave, written};
 ghost use Rattle.journal.specs.Said.{contents};
 ghost use Rattle.durable_store.specs.Durable.{IsDurable};
 ghost use Rattle.durable_store.specs.Recovered.{IsRecovered, IsStoreOf, Recovers, recovered};
@@ -27,6 +27,7 @@ pub fn open<S: Alter>(alloc: Global, trees: S) -> Result<Durable<S>, (OpenError,
     ensures sound { IfOk result (λ d. IsDurable S.Store d) }
     ensures clean { IfOk result (λ d. Clean S.Store d.journal → IsClean (S.Store.view trees)) }
     ensures is_open { IfOk result (λ d. Clean S.Store d.journal → IsOpen S.Store d.journal) }
+    ensures shows { IfOk result (λ d. ShowsCommit S.Store d.journal) }
     ensures was_open { IfOk result (λ d. Clean S.Store d.journal → IsTrue (S.Store.view trees).is_open) }
     ensures found { IfOk result (λ d. Clean S.Store d.journal → IsRecovered S.Store (contents_of (S.Store.view trees).committed) d) }
     ensures crash { IfErr result (λ e. (db : Trees) → S.Store.recovers e.1 db
@@ -56,6 +57,7 @@ pub(crate) fn resume<S: Alter>(
     ensures sound { IfOk result (λ d. IsDurable S.Store d) }
     ensures clean { IfOk result (λ d. Clean S.Store d.journal → Clean S.Store journal) }
     ensures is_open { IfOk result (λ d. Clean S.Store d.journal → IsOpen S.Store d.journal) }
+    ensures shows { IfOk result (λ d. ShowsCommit S.Store d.journal) }
     ensures found { IfOk result (λ d. Clean S.Store d.journal → IsRecovered S.Store (contents said.now) d) }
     ensures crash { IfErr result (λ e. (db : Trees) → S.Store.recovers e.1 db
         → (Clean S.Store journal × IsFile db × (contents_of db ≡ recovered (contents said.now))) ⊎ may_leave S.Store journal db) }

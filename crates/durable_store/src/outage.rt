@@ -4,7 +4,7 @@ ghost use Rattle.std.specs.Prelude.{◌≡◌, ◌⊎◌, ◌++◌, IsTrue, IfSo
 ghost use Rattle.sqlite_trees.specs.Tree.{Trees};
 ghost use Rattle.store.specs.Ends.{closing};
 ghost use Rattle.journal.specs.Contents.{contents_of};
-ghost use Rattle.journal.specs.Journal.{Clean, IsNumbered, durable, may_leave, written};
+ghost use Rattle.journal.specs.Journal.{Clean, IsNumbered, ShowsCommit, durable, may_leave, written};
 ghost use Rattle.durable_store.specs.Durable.{IsDurable};
 ghost use Rattle.durable_store.specs.Recovered.{IsRecovered};
 
@@ -17,6 +17,7 @@ use std::alloc::Global;
 pub fn restart<S: Alter + Reopen + Drop>(alloc: Global, running: Durable<S>) -> Option<Durable<S>>
     requires { IsNumbered S.Store running.journal }
     ensures sound { IfSome result (λ d. IsDurable S.Store d) }
+    ensures shows { IfSome result (λ d. ShowsCommit S.Store d.journal) }
     ensures clean { IfSome result (λ d. Clean S.Store d.journal → Clean S.Store running.journal) }
     ensures found { IfSome result (λ d. Clean S.Store d.journal
         → (db : Trees) × may_leave S.Store running.journal db × IsRecovered S.Store (contents_of db) d) }

@@ -3,7 +3,7 @@
 ghost use Rattle.std.specs.Prelude.{◌≡◌, ◌⊎◌, length, OnOk};
 ghost use Rattle.sqlite_trees.specs.Tree.{Trees};
 ghost use Rattle.journal.specs.Contents.{IsFile, contents_of};
-ghost use Rattle.journal.specs.Journal.{Clean, IsNumbered, IsOpen, durable, may_leave, written};
+ghost use Rattle.journal.specs.Journal.{Clean, IsNumbered, IsOpen, ShowsCommit, durable, may_leave, written};
 ghost use Rattle.durable_store.specs.Durable.{IsDurable, events};
 
 use crate::durable::Durable;
@@ -27,6 +27,7 @@ impl<S: Alter> Durable<S> {
         ensures durable { OnOk result (Clean S.Store self.new.journal → durable S.Store self.new.journal ≡ written S.Store self.old.journal) }
         ensures history { OnOk result (Clean S.Store self.new.journal → self.new.store.history ≡ events (durable S.Store self.new.journal).events) }
         ensures is_open { OnOk result (Clean S.Store self.new.journal → IsOpen S.Store self.new.journal) }
+        ensures shows { OnOk result (ShowsCommit S.Store self.new.journal) }
         ensures numbered { IsNumbered S.Store self.old.journal → IsNumbered S.Store self.new.journal }
         ensures clean { Clean S.Store self.new.journal → Clean S.Store self.old.journal }
         ensures crash { (db : Trees) → may_leave S.Store self.new.journal db

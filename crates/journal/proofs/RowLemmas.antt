@@ -1,11 +1,14 @@
 -- Rows of values at their positions.
-use Rattle.std.proofs.Common.{◌≡◌, refl, ap, ℕ, zero, suc, ◌+◌, ◌<◌, List, [], ◌∷◌, ◌++◌, length, map, set, arith, ◌∙◌, sym, append_assoc}
+use Rattle.std.proofs.Common.{◌≡◌, refl, ap, ℕ, zero, suc, ◌+◌, ◌<◌, ◌≤◌, List, [], ◌∷◌, ◌++◌, drop, length, map, set, take, arith, ◌∙◌, sym, append_assoc}
 use Rattle.std.specs.Prelude.{pos}
 use Rattle.std.specs.declared.cmp.Ordering.TheVariants.{Less, Equal}
 use Rattle.sqlite_value.specs.declared.value.Value.TheVariants.{Int}
 use Rattle.sqlite_value.specs.declared.keys.Order.{Order}
 use Rattle.sqlite_value.specs.Order.{Row, value_cmp}
-use Rattle.sqlite_value.proofs.OrderLemmas.{value_cmp-Int}
+use Rattle.sqlite_value.specs.Keys.{first_key, plain, prefix_cmp}
+use Rattle.sqlite_value.proofs.OrderLemmas.{then-Equal, value_cmp-Int}
+use Rattle.std.proofs.Math.Seq.{take-append_seam}
+use Rattle.std.proofs.lemmas.List.{append-nil, length-take, take_all, take-map}
 use Rattle.std.proofs.lemmas.Int.{ints}
 use Rattle.std.proofs.lemmas.Bool.Decides.{nat_tests}
 use Rattle.sqlite_trees.specs.Tree.{from_key, put_row, rowid}
@@ -22,9 +25,25 @@ module _ {E : Type 0} (row_at : ℕ → E → Row) where
   rows-more m n (first ∷ es) e h = ap (λ more. row_at m first ∷ more) (rows-more (suc m) n es e (omega arith))
 
   -- one more row is read
-  pub reads-more : (all left : List Row) (n : ℕ) (es : List E) (e : E) → length es ≡ n → all ≡ rows row_at 0 es ++ row_at n e ∷ left → all ≡ rows row_at 0 (es ++ e ∷ []) ++ left
-  reads-more all left n es e h is =
-      is ∙ sym (append_assoc (rows row_at 0 es) (row_at n e ∷ []) left) ∙ ap (λ front. front ++ left) (sym (rows-more 0 n es e (omega arith)))
+  pub reads-more : (left : List Row) (m n : ℕ) (es : List E) (e : E) → m + length es ≡ n → rows row_at m es ++ row_at n e ∷ left ≡ rows row_at m (es ++ e ∷ []) ++ left
+  reads-more left m n es e h =
+      sym (append_assoc (rows row_at m es) (row_at n e ∷ []) left) ∙ ap (λ front. front ++ left) (sym (rows-more m n es e h))
+
+  -- as many rows as values
+  pub length-rows : (m : ℕ) (es : List E) → length (rows row_at m es) ≡ length es
+  length-rows m [] = refl
+  length-rows m (e ∷ es) = ap suc (length-rows (suc m) es)
+
+  -- they are the first ones, where they are as many as were asked for, or where there are no more
+  pub first-rows : (count m : ℕ) (es : List E) (left : List Row) → length es ≡ count → rows row_at m es ≡ take count (rows row_at m es ++ left)
+  first-rows count m es left many = sym (ap (λ n. take n (rows row_at m es ++ left)) (sym (length-rows m es ∙ many)) ∙ take-append_seam (rows row_at m es) left)
+
+  pub all-rows : (count m : ℕ) (es : List E) (left : List Row) → length es ≤ count → left ≡ [] → rows row_at m es ≡ take count (rows row_at m es ++ left)
+  all-rows count m es left short none =
+      sym (ap (λ left. take count (rows row_at m es ++ left)) none ∙ ap (take count) (append-nil (rows row_at m es)) ∙ take_all count (rows row_at m es) (omega (arith, length-rows m es, short)))
+
+  pub whole-rows : (count m : ℕ) (es : List E) (all : List Row) → length es < count → rows row_at m es ≡ take count all → all ≡ rows row_at m es
+  whole-rows count m es all few is = sym (is ∙ take_all count all (omega (arith, length-rows m es, ap length is, length-take count all, few)))
 
   -- the rows tell their values
   pub rows-told : (told : Row → E) → ((n : ℕ) (e : E) → told (row_at n e) ≡ e) → (m : ℕ) (es : List E) → map told (rows row_at m es) ≡ es
@@ -36,6 +55,29 @@ pub from_nothing : (o : Order) (all : List Row) → from_key o [] all ≡ all
 from_nothing o [] = refl
 from_nothing o ([] ∷ all) = refl
 from_nothing o ((v ∷ r) ∷ all) = refl
+
+-- a seek of a position begins at its row
+module _ {E : Type 0} (row_at : ℕ → E → Row) (keyed : (n : ℕ) (e : E) → (rest : Row) × (row_at n e ≡ Int (pos n) ∷ rest)) where
+  compared : (m n : ℕ) (e : E) → prefix_cmp plain (row_at m e) (Int (pos n) ∷ []) ≡ value_cmp (Int (pos m)) (Int (pos n))
+  unfolding first_key
+  compared m n e = rw ((keyed m e).1) (then-Equal (value_cmp (Int (pos m)) (Int (pos n))))
+
+  pub from_position : (k m n : ℕ) (es : List E) → m + k ≡ n → from_key plain (Int (pos n) ∷ []) (rows row_at m es) ≡ rows row_at n (drop k es)
+  from_position zero m n [] h = refl
+  from_position (suc k) m n [] h = refl
+  from_position zero m n (e ∷ es) h =
+      let same : n ≡ m = omega (arith, h) in
+      let equal : prefix_cmp plain (row_at m e) (Int (pos m) ∷ []) ≡ Equal = compared m m e ∙ value_cmp-Int (pos m) (pos m) ∙ grind (arith, ints, nat_tests) in
+      rw same (rw equal refl)
+  from_position (suc k) m n (e ∷ es) h =
+      let less : prefix_cmp plain (row_at m e) (Int (pos n) ∷ []) ≡ Less = compared m n e ∙ lower m n (omega (arith, h)) in
+      rw less (from_position k (suc m) n es (omega (arith, h)))
+
+-- the values of the first rows are the first values
+pub told-first : {E : Type 0} (row_at : ℕ → E → Row) (told : Row → E) → ((n : ℕ) (e : E) → told (row_at n e) ≡ e) → (n count : ℕ) (es all : List E)
+    → rows row_at n es ≡ take count (rows row_at n all) → es ≡ take count all
+told-first row_at told back n count es all is =
+    sym (rows-told row_at told back n es) ∙ ap (map told) is ∙ sym (take-map told count (rows row_at n all)) ∙ ap (take count) (rows-told row_at told back n all)
 
 -- ---- a row is written
 

@@ -11,6 +11,7 @@ use Rattle.sqlite_trees.specs.View.{IsClean, View}
 use Rattle.journal.specs.declared.header.Header.{Header}
 use Rattle.journal.specs.declared.journal.Journal.{Journal}
 use Rattle.journal.specs.Contents.{Contents, IsFile, contents_of}
+use Rattle.journal.specs.Tables.{IsUnused}
 
 -- the five tables are there
 pub record HasTables (v : View) : Type 0 where
@@ -60,6 +61,10 @@ module _ {S : Type 0} (g : Ghosts S) where
   -- a crash at this moment leaves the file as it was at the last commit
   abbrev pub IsSettled : Journal S → Type 0
   IsSettled it = (db : Trees) → may_leave it db → contents_of db ≡ durable it
+
+  -- nothing is written that isn't durable: the trees show their last commit
+  abbrev pub ShowsCommit : Journal S → Type 0
+  ShowsCommit it = IsClean (g.view it.store) → IsUnused (g.view it.store)
 
   -- its trees are listed by their numbers, as an open of the file gives it
   abbrev pub IsNumbered : Journal S → Type 0

@@ -87,14 +87,22 @@ pub fn byte(n: u32) -> Option<u8>
     u8::try_from(n).ok()
 }
 
+/// The key of the row at this position.
+pub fn begin_key(row: &mut Row, position: u64) -> Result<(), AllocError>
+    requires { position < 2 ^ 62 }
+    ensures { OnOk result (row.new ≡ Int (pos position) ∷ []) }
+{
+    row.clear();
+    row.push(ValueRef::Int(position as i64))
+}
+
 /// Begins the row at this position: with NULL in the position's own column, since SQLite keeps it as the
 /// rowid.
 pub fn begin_row(row: &mut Row, position: u64) -> Result<(), AllocError>
     requires { position < 2 ^ 62 }
     ensures { OnOk result (row.new ≡ Int (pos position) ∷ Null ∷ []) }
 {
-    row.clear();
-    row.push(ValueRef::Int(position as i64))?;
+    begin_key(row, position)?;
     row.push(ValueRef::Null)
 }
 

@@ -7,7 +7,7 @@ ghost use Rattle.sqlite_value.specs.declared.value.Value.TheVariants.{Text};
 ghost use Rattle.sqlite_trees.specs.Tree.{Trees};
 ghost use Rattle.sqlite_trees.specs.Objects.{catalog_tree};
 ghost use Rattle.sqlite_trees.specs.View.{IsClean};
-ghost use Rattle.journal.specs.Journal.{Clean, IsJournal, IsOpen, durable, name_column, written};
+ghost use Rattle.journal.specs.Journal.{Clean, IsJournal, IsOpen, ShowsCommit, durable, name_column, written};
 ghost use Rattle.journal.specs.Said.{contents};
 
 use crate::contents::{FileContents, HEADER, NAME, OBJECTS, STATES, TYPES};
@@ -228,6 +228,7 @@ impl<S: Alter> Journal<S> {
         ensures kept { IfOk result (λ j. IsJournal S.Store j) }
         ensures settled { IfOk result (λ j. Clean S.Store j → written S.Store j ≡ durable S.Store j) }
         ensures is_open { IfOk result (λ j. Clean S.Store j → IsOpen S.Store j) }
+        ensures shows { IfOk result (λ j. ShowsCommit S.Store j) }
         ensures said { IfOk result (λ j. Clean S.Store j → durable S.Store j ≡ contents said.now) }
     {
         let mut row = Row::new(alloc);

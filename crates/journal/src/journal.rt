@@ -3,7 +3,7 @@
 ghost use Rattle.std.specs.Prelude.{◌≡◌, ◌⊎◌, ◌∷◌, [], IsTrue, OnOk};
 ghost use Rattle.sqlite_trees.specs.Tree.{Trees};
 ghost use Rattle.journal.specs.Contents.{IsFile, contents_of, with_event};
-ghost use Rattle.journal.specs.Journal.{Clean, IsJournal, IsNumbered, IsOpen, IsSettled, durable, may_leave, written};
+ghost use Rattle.journal.specs.Journal.{Clean, IsJournal, IsNumbered, IsOpen, IsSettled, ShowsCommit, durable, may_leave, written};
 
 use crate::contents::EVENTS;
 use crate::header::Header;
@@ -63,6 +63,7 @@ impl<S: Store> Journal<S> {
         ensures crash { (db : Trees) → may_leave S.Store self.new db
             → (Clean S.Store self.old × IsFile db × (contents_of db ≡ written S.Store self.old)) ⊎ may_leave S.Store self.old db }
         ensures is_open { OnOk result (Clean S.Store self.new → IsOpen S.Store self.new) }
+        ensures shows { OnOk result (ShowsCommit S.Store self.new) }
         ensures numbered { IsNumbered S.Store self.old → IsNumbered S.Store self.new }
     {
         self.store.commit()?;

@@ -1,6 +1,7 @@
 //! What a store keeps in a SQLite file: tables of values, whose rows are read back as they were written.
 #![tactic(auto)]
 
+mod asking;
 mod cells;
 mod contents;
 mod creating;

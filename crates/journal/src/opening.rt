@@ -7,7 +7,7 @@ ghost use Rattle.sqlite_trees.specs.Tree.{Trees, has_rowid};
 ghost use Rattle.sqlite_trees.specs.Objects.{catalog_tree};
 ghost use Rattle.sqlite_trees.specs.View.{IsClean};
 ghost use Rattle.journal.specs.Contents.{IsFile, contents_of};
-ghost use Rattle.journal.specs.Journal.{Clean, HasTables, IsJournal, IsNamedOnce, IsOpen, durable, may_leave, name_column, written};
+ghost use Rattle.journal.specs.Journal.{Clean, HasTables, IsJournal, IsNamedOnce, IsOpen, ShowsCommit, durable, may_leave, name_column, written};
 ghost use Rattle.journal.specs.Said.{contents};
 
 use crate::cells::is_number;
@@ -34,6 +34,7 @@ impl<S: Alter> Journal<S> {
         ensures kept { IfOk result (λ r. IsJournal S.Store r.0) }
         ensures settled { IfOk result (λ r. Clean S.Store r.0 → written S.Store r.0 ≡ durable S.Store r.0) }
         ensures is_open { IfOk result (λ r. Clean S.Store r.0 → IsOpen S.Store r.0) }
+        ensures shows { IfOk result (λ r. ShowsCommit S.Store r.0) }
         ensures clean { IfOk result (λ r. Clean S.Store r.0 → IsClean (S.Store.view store)) }
         ensures said { IfOk result (λ r. Clean S.Store r.0 → durable S.Store r.0 ≡ contents r.1) }
         ensures was_open { IfOk result (λ r. Clean S.Store r.0 → IsTrue (S.Store.view store).is_open) }

@@ -1,11 +1,13 @@
 //! Tables of values, at the positions 0, 1, 2 and so on.
 
-ghost use Rattle.std.specs.Prelude.{◌≡◌, ◌<◌, ◌^◌, IfOk, OnOk, length};
+ghost use Rattle.std.specs.Prelude.{◌≡◌, ◌+◌, ◌<◌, ◌^◌, List, drop, length, map, take, Some, IfOk, IsSome, OnOk};
+ghost use Rattle.sqlite_value.specs.Order.{Row as Columns};
 ghost use Rattle.sqlite_trees.specs.Tree.{Trees, put_row};
 ghost use Rattle.sqlite_trees.specs.View.{IsClean, KeepsSchema, SetsTree};
 ghost use Rattle.journal.specs.Rows.{rows};
 ghost use Rattle.journal.specs.Tables.{IsUnused, OnlyReads};
 
+use crate::cells::begin_key;
 use crate::entry::Entry;
 use crate::journal_error::JournalError;
 use sqlite_trees::store::{Direction, Shape, Store};
@@ -58,11 +60,62 @@ pub fn read_all<S: Store, E: Entry + Drop>(
     ensures clean { IsClean (S.Store.view store.new) → IsClean (S.Store.view store.old) }
     ensures crash { (db : Trees) → S.Store.recovers store.new db → S.Store.recovers store.old db }
 {
-    let mut entries = Vec::new(alloc);
     row.clear();
     store.seek(0, table, row, Direction::Forward)?;
-    for position in 0..MOST_ROWS {
-        if !store.next(0, row)? {
+    read_on(alloc, store, 0, usize::MAX, row)
+}
+
+/// The values of a table from this position on, in order, and at most so many.
+///
+/// # Errors
+///
+/// As `read_all`; `Full` where there is no such position.
+pub fn read_from<S: Store, E: Entry + Drop>(
+    alloc: Global,
+    store: &mut S,
+    table: u32,
+    from: u64,
+    count: usize,
+    row: &mut Row,
+) -> Result<Vec<E>, JournalError>
+    requires shape { IsClean (S.Store.view store.old) → (S.Store.view store.old).shape table ≡ Shape.Table }
+    requires told { IsClean (S.Store.view store.old) → (S.Store.view store.old).trees table ≡ rows E.row_at 0 (map E.told_by ((S.Store.view store.old).trees table)) }
+    ensures told { IfOk result (λ entries. IsClean (S.Store.view store.new) → entries.items ≡ take count (drop from (map E.told_by ((S.Store.view store.old).trees table)))) }
+    ensures same { OnOk result (IsClean (S.Store.view store.new) → OnlyReads (S.Store.view store.old) (S.Store.view store.new)) }
+    ensures clean { IsClean (S.Store.view store.new) → IsClean (S.Store.view store.old) }
+    ensures crash { (db : Trees) → S.Store.recovers store.new db → S.Store.recovers store.old db }
+{
+    if from >= MOST_ROWS {
+        return Err(JournalError::Full);
+    }
+    begin_key(row, from)?;
+    store.seek(0, table, row, Direction::Forward)?;
+    read_on(alloc, store, from, count, row)
+}
+
+/// The values of the rows that a cursor has left, the first of them at this position, and at most so many.
+///
+/// # Errors
+///
+/// As `read_all`.
+fn read_on<S: Store, E: Entry + Drop>(
+    alloc: Global,
+    store: &mut S,
+    from: u64,
+    count: usize,
+    row: &mut Row,
+) -> Result<Vec<E>, JournalError>
+    requires { IsSome ((S.Store.view store.old).cursors 0) }
+    ensures told { IfOk result (λ entries. IsClean (S.Store.view store.new)
+        → (all : List Columns) × ((S.Store.view store.old).cursors 0 ≡ Some all) × (rows E.row_at from entries.items ≡ take count all)) }
+    ensures few { IfOk result (λ entries. from + length entries.items < 2 ^ 62) }
+    ensures same { OnOk result (IsClean (S.Store.view store.new) → OnlyReads (S.Store.view store.old) (S.Store.view store.new)) }
+    ensures clean { IsClean (S.Store.view store.new) → IsClean (S.Store.view store.old) }
+    ensures crash { (db : Trees) → S.Store.recovers store.new db → S.Store.recovers store.old db }
+{
+    let mut entries = Vec::new(alloc);
+    for position in from..MOST_ROWS {
+        if entries.len() == count || !store.next(0, row)? {
             return Ok(entries);
         }
         let Some(entry) = E::read(alloc, position, row)? else {

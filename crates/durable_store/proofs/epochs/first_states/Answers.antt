@@ -1,4 +1,4 @@
-use Rattle.std.proofs.Common.{◌≡◌, ◌∙◌, ◌<◌, ◌≤◌, [], ◌∷◌, ◌++◌, length, take, ap, sym, arith}
+use Rattle.std.proofs.Common.{◌∙◌, ◌<◌, ◌≤◌, [], ◌∷◌, ◌++◌, length, ap, sym, arith}
 use Rattle.std.proofs.lemmas.List.{length-map, take_all}
 use Rattle.object_trait.specs.Object.{object_of}
 use Rattle.durable_store.specs.Epochs.{firsts}

@@ -1,0 +1,18 @@
+use Rattle.std.proofs.Common.{◌≡◌, ◌∙◌, List, [], ◌∷◌, ap, drop, refl, sym, take}
+use Rattle.std.proofs.lemmas.Result.{IfOk-weaker}
+use Rattle.object_trait.specs.declared.event.EventKind.{EventKind}
+use Rattle.journal.specs.Journal.{Clean, written}
+use Rattle.durable_store.specs.Durable.{events, kinds}
+use Rattle.durable_store.proofs.durable.Durable.events.Goals as goal
+
+kinds-events : (happened : List EventKind) → kinds (events happened) ≡ happened
+kinds-events [] = refl
+kinds-events (kind ∷ happened) = ap (λ more. kind ∷ more) (kinds-events happened)
+
+-- the journal has the events of the store's history
+pub returns-clause-happened : goal.returns-clause-happened
+returns-clause-happened g c = IfOk-weaker c.events.result _ _ (λ found said clean.
+    let was : Clean g.S.Store c.args.self.now.journal = c.events.ensures.clean clean in
+    let happened = (written g.S.Store c.args.self.now.journal).events in
+    let same : happened ≡ kinds c.args.self.now.store.history = sym (ap kinds (c.requires.sound.history was) ∙ kinds-events happened) in
+    said clean ∙ ap (λ es. take c.args.count (drop c.args.from es)) same) c.events.ensures.said
