@@ -45,3 +45,7 @@ OutcomesStay g old new = (db : Trees) → may_leave g new.journal db → may_lea
 -- nothing of what was settled changes
 abbrev pub KeepsSettled : {S : Type 0} (g : Ghosts S) → Durable S → Durable S → Type 0
 KeepsSettled g old new = Clean g new.journal → durable g new.journal ≡ durable g old.journal
+
+-- what is written grows by the events that the store has made since
+abbrev pub WritesSince : {S : Type 0} (g : Ghosts S) → Durable S → Durable S → Type 0
+WritesSince g old new = Clean g new.journal → written g new.journal ≡ with_all (written g old.journal) (drop (length old.store.history) new.store.history)

@@ -7,7 +7,7 @@ ghost use Rattle.serial_order.specs.Replay.{call_at};
 ghost use Rattle.store_laws.specs.Stored.{MayStep, objects};
 ghost use Rattle.store.specs.Calls.{Answers};
 ghost use Rattle.journal.specs.Journal.{Clean};
-ghost use Rattle.durable_store.specs.Durable.{IsDurable, KeepsSettled, OutcomesStay};
+ghost use Rattle.durable_store.specs.Durable.{IsDurable, KeepsSettled, OutcomesStay, WritesSince};
 
 use journal::{Journal, JournalError};
 use object_calls::Answer;
@@ -51,6 +51,7 @@ impl<S: Alter> Durable<S> {
         ensures number { IfOk result (λ r. IfOk r (λ t. t ≡ begins self.old.store.history)) }
         ensures step { IfOk result (λ r. MayStep self.old.store 0 command.Begin r self.new.store) }
         ensures life { self.new.journal.header ≡ self.old.journal.header }
+        ensures written { OnOk result (WritesSince S.Store self.old self.new) }
         ensures settled { OnOk result (KeepsSettled S.Store self.old self.new) }
         ensures clean { Clean S.Store self.new.journal → Clean S.Store self.old.journal }
         ensures crash { OutcomesStay S.Store self.old self.new }
@@ -77,6 +78,7 @@ impl<S: Alter> Durable<S> {
         ensures step { IfOk result (λ r. MayStep self.old.store 0 (command.Call t x name.now) r self.new.store) }
         ensures answer { IfOk result (λ r. (c : ℕ) → call_at (slice_get (objects self.old.store) x) name.now ≡ Some c → Answers self.old.store 0 t x c r self.new.store) }
         ensures life { self.new.journal.header ≡ self.old.journal.header }
+        ensures written { OnOk result (WritesSince S.Store self.old self.new) }
         ensures settled { OnOk result (KeepsSettled S.Store self.old self.new) }
         ensures clean { Clean S.Store self.new.journal → Clean S.Store self.old.journal }
         ensures crash { OutcomesStay S.Store self.old self.new }

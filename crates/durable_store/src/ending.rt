@@ -1,10 +1,12 @@
 //! The ends and the rollbacks of transactions.
 
-ghost use Rattle.std.specs.Prelude.{◌≡◌, IfOk, OnOk};
+ghost use Rattle.std.specs.Prelude.{◌≡◌, ◌++◌, ℕ, false, IfOk, OnOk};
+ghost use Rattle.serial_order.specs.History.{is_open, seen};
 ghost use Rattle.serial_order.specs.declared.command.Command.TheVariants as command;
 ghost use Rattle.store_laws.specs.Stored.{MayStep, Steps};
+ghost use Rattle.store.specs.Ends.{closing};
 ghost use Rattle.journal.specs.Journal.{Clean};
-ghost use Rattle.durable_store.specs.Durable.{IsDurable, KeepsSettled, OutcomesStay};
+ghost use Rattle.durable_store.specs.Durable.{IsDurable, KeepsSettled, OutcomesStay, WritesSince};
 
 use crate::durable::Durable;
 use journal::JournalError;
@@ -23,6 +25,7 @@ impl<S: Alter> Durable<S> {
         ensures sound { OnOk result (IsDurable S.Store self.new) }
         ensures step { IfOk result (λ r. Steps self.old.store 0 (command.Commit t) r self.new.store) }
         ensures life { self.new.journal.header ≡ self.old.journal.header }
+        ensures written { OnOk result (WritesSince S.Store self.old self.new) }
         ensures settled { OnOk result (KeepsSettled S.Store self.old self.new) }
         ensures clean { Clean S.Store self.new.journal → Clean S.Store self.old.journal }
         ensures crash { OutcomesStay S.Store self.old self.new }
@@ -43,6 +46,7 @@ impl<S: Alter> Durable<S> {
         ensures sound { OnOk result (IsDurable S.Store self.new) }
         ensures step { IfOk result (λ r. Steps self.old.store 0 (command.Abort t) r self.new.store) }
         ensures life { self.new.journal.header ≡ self.old.journal.header }
+        ensures written { OnOk result (WritesSince S.Store self.old self.new) }
         ensures settled { OnOk result (KeepsSettled S.Store self.old self.new) }
         ensures clean { Clean S.Store self.new.journal → Clean S.Store self.old.journal }
         ensures crash { OutcomesStay S.Store self.old self.new }
@@ -64,6 +68,7 @@ impl<S: Alter> Durable<S> {
         ensures sound { OnOk result (IsDurable S.Store self.new) }
         ensures step { IfOk result (λ r. MayStep self.old.store 0 (command.Rollback t n) r self.new.store) }
         ensures life { self.new.journal.header ≡ self.old.journal.header }
+        ensures written { OnOk result (WritesSince S.Store self.old self.new) }
         ensures settled { OnOk result (KeepsSettled S.Store self.old self.new) }
         ensures clean { Clean S.Store self.new.journal → Clean S.Store self.old.journal }
         ensures crash { OutcomesStay S.Store self.old self.new }
@@ -72,5 +77,27 @@ impl<S: Alter> Durable<S> {
         let rolled_back = self.store.rollback(0, t, n);
         self.write_since(count)?;
         Ok(rolled_back)
+    }
+
+    /// Aborts each open transaction, in the order in which they began. The events are written, and a crash may still
+    /// take them away.
+    ///
+    /// # Errors
+    ///
+    /// As `begin`.
+    pub fn abort_all(&mut self) -> Result<(), JournalError>
+        requires { IsDurable S.Store self.old }
+        ensures sound { OnOk result (IsDurable S.Store self.new) }
+        ensures store { self.new.store ≡ record self.old.store { history = self.old.store.history ++ closing self.old.store.history } }
+        ensures none { (t : ℕ) → is_open (seen self.new.store.history) t ≡ false }
+        ensures life { self.new.journal.header ≡ self.old.journal.header }
+        ensures written { OnOk result (WritesSince S.Store self.old self.new) }
+        ensures settled { OnOk result (KeepsSettled S.Store self.old self.new) }
+        ensures clean { Clean S.Store self.new.journal → Clean S.Store self.old.journal }
+        ensures crash { OutcomesStay S.Store self.old self.new }
+    {
+        let count = self.store.event_count();
+        self.store.abort_all();
+        self.write_since(count)
     }
 }

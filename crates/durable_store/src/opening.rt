@@ -97,9 +97,7 @@ impl<S: Alter> Durable<S> {
         ensures crash { (db : Trees) → may_leave S.Store self.new.journal db
             → (Clean S.Store self.old.journal × IsFile db × (contents_of db ≡ recovered (written S.Store self.old.journal))) ⊎ may_leave S.Store self.old.journal db }
     {
-        let count = self.store.event_count();
-        self.store.abort_all();
-        self.write_since(count)?;
+        self.abort_all()?;
         self.journal.begin_life()?;
         self.settle()
     }

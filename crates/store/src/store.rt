@@ -1,9 +1,10 @@
 //! The store, and what is read of it.
 
 ghost use Rattle.std.specs.Prelude.{◌≡◌, ◌≤◌, [], map, length, drop, nat_lt, slice_get, is_some, Some, IfOk, IfErr, IfSome};
-ghost use Rattle.serial_order.specs.History.{begins};
+ghost use Rattle.serial_order.specs.History.{begins, seen};
 ghost use Rattle.serial_order.specs.Laws.{AreChecked};
 ghost use Rattle.serial_order.specs.Machine.{IsRun};
+ghost use Rattle.serial_order.specs.Replay.{open_count};
 ghost use Rattle.serial_order.specs.Serial.{IsSerial};
 ghost use Rattle.store_laws.specs.Stored.{objects, types_of};
 ghost use Rattle.store.specs.Ends.{MayBegin, Refuses};
@@ -19,7 +20,7 @@ use open_transactions::OpenTransactions;
 use serial_order::checked_headline;
 use std::alloc::Global;
 use std::marker::Model;
-use store_laws::new_is_kept;
+use store_laws::{new_is_kept, rows_are_counted};
 use table_checker::CheckedType;
 use type_table::runs_along;
 
@@ -116,6 +117,14 @@ impl<R: Recovery> Store<R> {
         ensures { result ≡ begins self.now.history }
     {
         self.transactions.begun()
+    }
+
+    /// How many transactions are open.
+    pub fn open_count(&self) -> u32
+        ensures { result ≡ open_count (seen self.now.history) }
+    {
+        rows_are_counted();
+        self.transactions.open_count()
     }
 
     /// How many objects there are.

@@ -26,8 +26,19 @@ impl<R: Recovery> Store<R> {
     pub fn would(&self, t: u32, x: u32, name: &str) -> Result<Answer, Refusal>
         ensures { Would self.now t x name.now result }
     {
+        self.would_bytes(t, x, name.as_bytes())
+    }
+
+    /// The same of a name that lies as bytes.
+    ///
+    /// # Errors
+    ///
+    /// As `would`.
+    pub fn would_bytes(&self, t: u32, x: u32, name: &[u8]) -> Result<Answer, Refusal>
+        ensures { Would self.now t x name.now result }
+    {
         let calls = self.calls_for(t, x)?;
-        let Some(call) = calls.by_name(name) else {
+        let Some(call) = calls.by_bytes(name) else {
             return Err(Refusal::NoCall);
         };
         self.would_give(t, x as u8, call)

@@ -1,5 +1,5 @@
 use Rattle.durable_store.proofs.Aborts.{aborts-behind}
-use Rattle.durable_store.proofs.durable.Durable.recover.Goals as goal
+use Rattle.durable_store.proofs.durable.Durable.abort_all.Goals as goal
 
 pub write_since-requires : goal.write_since-requires
 write_since-requires g c =
