@@ -1,0 +1,139 @@
+-- What was told, group by group.
+use Rattle.std.proofs.Common.{◌≡◌, ◌∙◌, ℕ, ◌+◌, List, [], ◌++◌, length, take, drop, refl, sym, ap, subst, Option, None, Some, arith}
+use Rattle.std.proofs.Math.Seq.{take-append-add}
+use Rattle.std.proofs.lemmas.List.{append_assoc, append-nil, length-append, take-append-drop, drop_all}
+use Rattle.std.proofs.lemmas.Grind.{flat_map-append}
+use Rattle.std.specs.Io.KnownBytes.{Appends, Consumes, Keeps}
+use Rattle.sqlite_trees.specs.declared.store.Store.{Ghosts}
+use Rattle.journal.specs.Journal.{Clean, written}
+use Rattle.durable_store.specs.declared.durable.Durable.{Durable}
+use Rattle.serving.specs.declared.answer_line.Answered.{Answered}
+use Rattle.serving.specs.declared.session.Session.{Session}
+use Rattle.serving.specs.declared.server.Server.{Server}
+use Rattle.serving.specs.Requests.{LetsGo}
+use Rattle.serving.specs.Served.{Serves}
+use Rattle.serving.specs.Serving.{GoesOn, HasServed, ServesBytes}
+use Rattle.durable_store.specs.Durable.{IsDurable}
+use Rattle.serving.specs.Group.{HasTold, IsFresh, StopsTelling}
+use Rattle.serving.specs.Told.{AppendsPart, answers_text}
+use Rattle.serving.proofs.Serving.{goes-nowhere, goes-then}
+use Rattle.serving.proofs.Telling.{part-of-whole}
+
+-- ---- known bytes
+
+appends-then : (a b c : Option (List ℕ)) (x y : List ℕ) → Appends a b x → Appends b c y → Appends a c (x ++ y)
+appends-then None b c x y first second = tt
+appends-then (Some xs) None c x y first second = absurd first
+appends-then (Some xs) (Some ys) None x y first second = absurd second
+appends-then (Some xs) (Some ys) (Some zs) x y first second = second ∙ (ap (λ bs. bs ++ y) first ∙ append_assoc xs x y)
+
+part-then : (a b c : Option (List ℕ)) (x y : List ℕ) → Appends a b x → AppendsPart b c y → AppendsPart a c (x ++ y)
+part-then a b c x y first (n, within, second) =
+    (length x + n, omega (arith, length-append x y), subst (Appends a c) (sym (take-append-add x y n)) (appends-then a b c x (take n y) first second))
+
+consumes-then : (a b c : Option (List ℕ)) (x y : List ℕ) → Consumes a b x → Consumes b c y → Consumes a c (x ++ y)
+consumes-then None b c x y first second = tt
+consumes-then (Some xs) None c x y first second = absurd first
+consumes-then (Some xs) (Some ys) None x y first second = absurd second
+consumes-then (Some xs) (Some ys) (Some zs) x y first second = first ∙ (ap (λ bs. x ++ bs) second ∙ sym (append_assoc x y zs))
+
+pub keeps-same : (a : Option (List ℕ)) → Keeps a a
+keeps-same None = tt
+keeps-same (Some xs) = refl
+
+told-more : (told more : List Answered) → answers_text (told ++ more) ≡ answers_text told ++ answers_text more
+told-more told more = flat_map-append _ told more
+
+-- ---- a server stops
+
+-- with nothing more told
+pub stops-before : {S : Type 0} {g : Ghosts S} {began : Session S} {given taken given_now taken_now : Option (List ℕ)} {old : Server S} (new : Durable S)
+    → (Clean g new.journal → Clean g old.session.store.journal) → HasTold g began given taken old given_now taken_now → StopsTelling g began taken new taken_now
+stops-before {S} {g} {began} {given} {taken} {given_now} {taken_now} {old} new clean has = record {
+  lines = has.served.lines;
+  answers = has.told;
+  reached = old.session.store.store;
+  ended = old.end;
+  serves = λ now. subst (λ all. Serves began.life (written g began.store.journal) has.served.lines began.store.store all old.session.store.store old.end)
+      (ap (λ more. has.told ++ more) has.waits ∙ append-nil has.told) (has.served.serves (clean now));
+  part = part-of-whole taken taken_now taken_now (answers_text has.told) has.appended (keeps-same taken_now);
+}
+
+-- while it tells
+pub stops-telling : {S : Type 0} {g : Ghosts S} {began : Session S} {given taken given_now taken_now : Option (List ℕ)} {old : Server S} (mid : Server S) (new : Durable S) (taken_new : Option (List ℕ))
+    (bytes : List ℕ) → (Clean g new.journal → Clean g mid.session.store.journal) → (has : HasTold g began given taken old given_now taken_now) → ServesBytes g began has.told has.seen bytes mid
+    → AppendsPart taken_now taken_new (answers_text mid.answers.items) → StopsTelling g began taken new taken_new
+stops-telling {S} {g} {began} {given} {taken} {given_now} {taken_now} {old} mid new taken_new bytes clean has more part = record {
+  lines = more.served.lines;
+  answers = has.told ++ mid.answers.items;
+  reached = mid.session.store.store;
+  ended = mid.end;
+  serves = λ now. more.served.serves (clean now);
+  part = subst (AppendsPart taken taken_new) (sym (told-more has.told mid.answers.items)) (part-then taken taken_now taken_new (answers_text has.told) (answers_text mid.answers.items) has.appended part);
+}
+
+-- ---- a group was told
+
+pub group-told : {S : Type 0} {g : Ghosts S} {began : Session S} {given taken given_now taken_now : Option (List ℕ)} {old : Server S} (mid new : Server S) (given_new taken_new : Option (List ℕ))
+    (bytes : List ℕ) → old.end ≡ None → HasTold g began given taken old given_now taken_now
+    → ((told : List Answered) (seen : List ℕ) → HasServed g began told seen old → ServesBytes g began told seen bytes mid)
+    → Consumes given_now given_new bytes → Appends taken_now taken_new (answers_text mid.answers.items)
+    → GoesOn g mid.session new.session → LetsGo mid.session.store.store new.session.store.store
+    → new.line ≡ mid.line → new.end ≡ mid.end → new.answers.items ≡ []
+    → HasTold g began given taken new given_new taken_new
+group-told {S} {g} {began} {given} {taken} {given_now} {taken_now} {old} mid new given_new taken_new bytes none has serves consumed appended goes lets line ended clear =
+    let more = serves has.told has.seen has.served in
+    let served = more.served in
+    let goes_on : GoesOn g began new.session = goes-then served.goes_on goes in
+    record {
+      told = has.told ++ mid.answers.items;
+      seen = has.seen ++ take more.count bytes;
+      rest = drop more.count bytes;
+      consumed = subst (Consumes given given_new)
+          (ap (λ (xs : List ℕ). (has.seen ++ xs) ++ bytes) (has.all none) ∙ (ap (λ (xs : List ℕ). xs ++ bytes) (append-nil has.seen)
+          ∙ (ap (λ (xs : List ℕ). has.seen ++ xs) (sym (take-append-drop more.count bytes)) ∙ sym (append_assoc has.seen (take more.count bytes) (drop more.count bytes)))))
+          (consumes-then given given_now given_new (has.seen ++ has.rest) bytes has.consumed consumed);
+      all = λ e. drop_all more.count bytes (omega (arith, more.all (sym ended ∙ e)));
+      waits = clear;
+      served = record {
+        lines = served.lines;
+        half = served.half;
+        asked = served.asked;
+        kept = ap (λ v. v.items) line ∙ served.kept;
+        goes_on = goes_on;
+        serves = λ clean.
+            let so_far = served.serves (goes.clean clean) in
+            rw (lets, ended, ap (λ xs. (has.told ++ mid.answers.items) ++ xs) clear ∙ append-nil (has.told ++ mid.answers.items))
+            (Serves.forget served.lines began.store.store mid.session.store.store (has.told ++ mid.answers.items) new.session.store.store.forgotten mid.end so_far);
+      };
+      appended = subst (Appends taken taken_new) (sym (told-more has.told mid.answers.items)) (appends-then taken taken_now taken_new (answers_text has.told) (answers_text mid.answers.items) has.appended appended);
+    }
+
+-- ---- nothing was told yet
+
+appends-none : (a : Option (List ℕ)) → Appends a a []
+appends-none None = tt
+appends-none (Some xs) = sym (append-nil xs)
+
+consumes-none : (a : Option (List ℕ)) → Consumes a a []
+consumes-none None = tt
+consumes-none (Some xs) = refl
+
+pub told-none : {S : Type 0} {g : Ghosts S} (given taken : Option (List ℕ)) (s : Server S) → IsDurable g s.session.store → IsFresh s → HasTold g s.session given taken s given taken
+told-none {S} {g} given taken s sound fresh = record {
+  told = [];
+  seen = [];
+  rest = [];
+  consumed = consumes-none given;
+  all = λ e. refl;
+  waits = fresh.answers;
+  served = record {
+    lines = [];
+    half = [];
+    asked = record { text = refl; whole = tt; within = refl };
+    kept = fresh.line;
+    goes_on = goes-nowhere s.session sound;
+    serves = λ clean. rw (fresh.answers, fresh.end) (Serves.none s.session.store.store);
+  };
+  appended = appends-none taken;
+}

@@ -1,0 +1,6 @@
+pub mod Following
+pub mod ByteByByte
+pub mod Serving
+pub mod Telling
+pub mod Listed
+pub mod Groups

@@ -1,0 +1,85 @@
+-- What a request does to a store, and what it is answered.
+use Rattle.std.specs.Prelude.{◌≡◌, ℕ, ◌==◌, List, length, MatchBool, MatchOption, Option, Some, None, slice_get, option_and_then, Result, Ok, Err}
+use Rattle.type_table.specs.declared.op.Op.{Op}
+use Rattle.object_trait.specs.Object.{Object}
+use Rattle.object_calls.specs.declared.answer.Answer as calls
+use Rattle.object_calls.specs.declared.answer.Answer.TheVariants as call
+use Rattle.serial_order.specs.declared.command.Command.TheVariants as command
+use Rattle.serial_order.specs.declared.refusal.Refusal.{Refusal}
+use Rattle.serial_order.specs.declared.refusal.Refusal.TheVariants.{NotOpen, NoObject}
+use Rattle.store_laws.specs.Stored.{MayStep, Steps, Stored, objects}
+use Rattle.store.specs.Calls.{Would}
+use Rattle.store.specs.KeptState.{IsKeptState}
+use Rattle.serial_order.specs.History.{begins, seen}
+use Rattle.serial_order.specs.Replay.{open_count}
+use Rattle.request_text.specs.declared.request.TransactionName.{TransactionName}
+use Rattle.serving.specs.declared.answer_line.AnswerLine.{AnswerLine}
+use Rattle.serving.specs.declared.answer_line.AnswerLine.TheVariants.{Done, Committed, Begun, State, Reply, Busy, Nothing, Counts, Refused}
+
+-- a transaction of this life
+abbrev pub named : ℕ → ℕ → TransactionName
+named life number = record { life = life; number = number }
+
+-- what a begin is answered
+abbrev pub begun : ℕ → Result ℕ Refusal → AnswerLine
+begun life (Ok number) = Begun (named life number)
+begun life (Err refusal) = Refused refusal
+
+-- what a request is answered that is done or refused
+abbrev pub done_or : AnswerLine → Result (Unit {0}) Refusal → AnswerLine
+done_or done (Ok u) = done
+done_or done (Err refusal) = Refused refusal
+
+-- operation k of the object at x
+abbrev pub op_at : Stored → ℕ → ℕ → Option Op
+op_at s x k = option_and_then (λ (o : Object). slice_get o.table.ops k) (slice_get (objects s) x)
+
+-- its reply
+abbrev pub reply_of : Option Op → AnswerLine
+reply_of (Some op) = Reply op.reply
+reply_of None = Nothing
+
+-- what a call at x is answered
+abbrev pub answered : Stored → ℕ → ℕ → Result calls.Answer Refusal → AnswerLine
+answered s life x (Ok (call.Reply k)) = reply_of (op_at s x k)
+answered s life x (Ok (call.Busy u)) = Busy (named life u)
+answered s life x (Ok call.None) = Nothing
+answered s life x (Err refusal) = Refused refusal
+
+-- of a transaction of this life so much, and one of another life isn't open
+abbrev pub InLife : ℕ → TransactionName → Stored → Stored → AnswerLine → Type 0 → Type 0
+InLife life t old new answer does = MatchBool (t.life == life) does ((answer ≡ Refused NotOpen) × (new ≡ old))
+
+-- ---- requests
+
+abbrev pub DoesBegin : ℕ → Stored → AnswerLine → Stored → Type 0
+DoesBegin life old answer new = (r : Result ℕ Refusal) × MayStep old 0 command.Begin r new × (answer ≡ begun life r)
+
+abbrev pub DoesCall : ℕ → Stored → TransactionName → ℕ → List ℕ → AnswerLine → Stored → Type 0
+DoesCall life old t x name answer new =
+    InLife life t old new answer ((r : Result calls.Answer Refusal) × MayStep old 0 (command.Call t.number x name) r new × (answer ≡ answered new life x r))
+
+abbrev pub DoesWould : ℕ → Stored → TransactionName → ℕ → List ℕ → AnswerLine → Stored → Type 0
+DoesWould life old t x name answer new =
+    InLife life t old new answer ((r : Result calls.Answer Refusal) × Would old t.number x name r × (answer ≡ answered old life x r) × (new ≡ old))
+
+abbrev pub DoesCommit : ℕ → Stored → TransactionName → AnswerLine → Stored → Type 0
+DoesCommit life old t answer new =
+    InLife life t old new answer ((r : Result (Unit {0}) Refusal) × Steps old 0 (command.Commit t.number) r new × (answer ≡ done_or Committed r))
+
+abbrev pub DoesAbort : ℕ → Stored → TransactionName → AnswerLine → Stored → Type 0
+DoesAbort life old t answer new =
+    InLife life t old new answer ((r : Result (Unit {0}) Refusal) × Steps old 0 (command.Abort t.number) r new × (answer ≡ done_or Done r))
+
+abbrev pub DoesRollback : ℕ → Stored → TransactionName → ℕ → AnswerLine → Stored → Type 0
+DoesRollback life old t count answer new =
+    InLife life t old new answer ((r : Result (Unit {0}) Refusal) × MayStep old 0 (command.Rollback t.number count) r new × (answer ≡ done_or Done r))
+
+-- the kept state, or that there is no such object
+abbrev pub DoesKept : Stored → ℕ → AnswerLine → Stored → Type 0
+DoesKept old x answer new =
+    (new ≡ old) × MatchOption (slice_get (objects old) x) (answer ≡ Refused NoObject) (λ o. (state : ℕ) × IsKeptState old x state × (answer ≡ State state))
+
+-- how many events, transactions that have begun, and open ones
+abbrev pub DoesStats : Stored → AnswerLine → Stored → Type 0
+DoesStats old answer new = (answer ≡ Counts (length old.history) (begins old.history) (open_count (seen old.history))) × (new ≡ old)

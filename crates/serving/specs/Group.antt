@@ -1,0 +1,46 @@
+-- What a client was told.
+use Rattle.std.specs.Prelude.{◌≡◌, ℕ, Bool, true, false, List, [], ◌++◌, Option, None}
+use Rattle.std.specs.Io.KnownBytes.{Appends, Consumes, IsAtEnd}
+use Rattle.sqlite_trees.specs.declared.store.Store.{Ghosts}
+use Rattle.store_laws.specs.Stored.{Stored}
+use Rattle.journal.specs.Journal.{Clean, written}
+use Rattle.durable_store.specs.declared.durable.Durable.{Durable}
+use Rattle.request_text.specs.declared.request.Asked.{Asked}
+use Rattle.serving.specs.declared.answer_line.Answered.{Answered}
+use Rattle.serving.specs.declared.session.Session.{Session}
+use Rattle.serving.specs.declared.server.Server.{Server}
+use Rattle.serving.specs.Served.{Serves}
+use Rattle.serving.specs.Serving.{HasServed}
+use Rattle.serving.specs.Told.{AppendsPart, answers_text}
+
+-- since it began a server has taken these bytes of its input, done the lines of them up to one that asks for the end, and told its client all
+-- of the answers, and nothing else
+pub record HasTold {S : Type 0} (g : Ghosts S) (began : Session S) (given taken : Option (List ℕ)) (now : Server S) (given_now taken_now : Option (List ℕ)) : Type 0 where
+  pub told : List Answered
+  pub seen : List ℕ
+  pub rest : List ℕ
+  pub consumed : Consumes given given_now (seen ++ rest)
+  pub all : now.end ≡ None → rest ≡ []
+  pub waits : now.answers.items ≡ []
+  pub served : HasServed g began told seen now
+  pub appended : Appends taken taken_now (answers_text told)
+
+-- more may come: the end wasn't asked for. If none may come, it was, or the input has ended
+abbrev pub IsMore : {S : Type 0} → Bool → Server S → Option (List ℕ) → Type 0
+IsMore true now given_now = now.end ≡ None
+IsMore false now given_now = now.end ≡ None → IsAtEnd given_now
+
+-- a server stopped: its client was told a beginning of what some lines are answered
+pub record StopsTelling {S : Type 0} (g : Ghosts S) (began : Session S) (taken : Option (List ℕ)) (now : Durable S) (taken_now : Option (List ℕ)) : Type 0 where
+  pub lines : List (List ℕ)
+  pub answers : List Answered
+  pub reached : Stored
+  pub ended : Option Asked
+  pub serves : Clean g now.journal → Serves began.life (written g began.store.journal) lines began.store.store answers reached ended
+  pub part : AppendsPart taken taken_now (answers_text answers)
+
+-- a server that was asked nothing yet
+pub record IsFresh {S : Type 0} (s : Server S) : Type 0 where
+  pub line : s.line.items ≡ []
+  pub answers : s.answers.items ≡ []
+  pub end : s.end ≡ None

@@ -1,0 +1,9 @@
+pub mod AnswerText
+pub mod Told
+pub mod Does
+pub mod Follows
+pub mod Requests
+pub mod Lines
+pub mod Served
+pub mod Serving
+pub mod Group

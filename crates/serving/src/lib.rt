@@ -1,0 +1,25 @@
+//! A durable store that one client asks by lines: what each request does, and what it is answered.
+#![tactic(auto)]
+
+mod answer_line;
+mod asking;
+mod client;
+mod doing;
+mod group;
+mod lines;
+mod listing;
+mod reading;
+mod requests;
+mod running;
+mod serve_fault;
+mod server;
+mod session;
+mod settling;
+mod spelling;
+
+pub use answer_line::{AnswerLine, Answered};
+pub use client::Client;
+pub use serve_fault::ServeFault;
+pub use server::Server;
+pub use session::Session;
+pub use spelling::write_answer;

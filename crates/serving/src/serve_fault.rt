@@ -1,0 +1,53 @@
+use journal::JournalError;
+use outputs::OutFault;
+use std::alloc::{AllocError, AllocFailed};
+use thiserror::Error;
+
+/// Why a store isn't served any more.
+#[derive(Clone, Copy, Debug, PartialEq, Eq, Error)]
+pub enum ServeFault {
+    /// The file failed, or memory was refused for it.
+    #[error("{0}")]
+    Journal(JournalError),
+    /// What is asked can't be read.
+    #[error("the input failed")]
+    Input,
+    /// The output failed.
+    #[error("{0}")]
+    Output(OutFault),
+    /// Memory was refused.
+    #[error("no memory")]
+    NoMemory,
+}
+
+impl From<JournalError> for ServeFault {
+    ghost from_gives = { λ _ _. Unit {0} };
+
+    fn from(error: JournalError) -> ServeFault {
+        ServeFault::Journal(error)
+    }
+}
+
+impl From<OutFault> for ServeFault {
+    ghost from_gives = { λ _ _. Unit {0} };
+
+    fn from(fault: OutFault) -> ServeFault {
+        ServeFault::Output(fault)
+    }
+}
+
+impl From<AllocError> for ServeFault {
+    ghost from_gives = { λ _ _. Unit {0} };
+
+    fn from(_: AllocError) -> ServeFault {
+        ServeFault::NoMemory
+    }
+}
+
+impl<T: Drop> From<AllocFailed<T>> for ServeFault {
+    ghost from_gives = { λ _ _. Unit {0} };
+
+    fn from(_: AllocFailed<T>) -> ServeFault {
+        ServeFault::NoMemory
+    }
+}

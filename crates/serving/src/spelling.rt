@@ -1,0 +1,149 @@
+//! The lines of an answer.
+
+ghost use Rattle.std.specs.Prelude.{◌≡◌, None};
+ghost use Rattle.outputs.specs.Out.{Puts};
+ghost use Rattle.serving.specs.AnswerText.{answer_text, counts_text, done_text, fault_name, state_text, tag_text, transaction_text};
+
+use crate::answer_line::AnswerLine;
+use crate::listing::{put_events, put_objects, put_types};
+use itoa::Buffer;
+use outputs::{Out, OutFault, put_all, texts_in_turn};
+use request_text::{RequestFault, TransactionName};
+use script_run::name_of;
+use type_table::Name;
+
+/// Writes the lines of an answer behind its tag, which is `-` where there is none.
+///
+/// # Errors
+///
+/// The fault that stopped the output, which then took a beginning of the lines.
+pub fn write_answer<W: Out>(
+    out: &mut W,
+    tag: Option<Name>,
+    answer: &AnswerLine,
+) -> Result<(), OutFault>
+    requires { W.fault out.old ≡ None }
+    ensures { Puts (W.taken out.old) (W.taken out.new) (W.fault out.new) (answer_text tag answer.now) result }
+{
+    let tag = tag_of(&tag);
+    match answer {
+        AnswerLine::Done | AnswerLine::Committed => put_done(out, tag),
+        AnswerLine::Begun { t } => put_transaction(out, tag, b" ok ", *t),
+        AnswerLine::State { state } => put_state(out, tag, *state),
+        AnswerLine::Reply { reply } => put_all(out, &[tag, b" reply ", reply.as_bytes(), b"\n"]),
+        AnswerLine::Busy { blocker } => put_transaction(out, tag, b" busy ", *blocker),
+        AnswerLine::Nothing => put_all(out, &[tag, b" none\n"]),
+        AnswerLine::Counts {
+            events,
+            begun,
+            open,
+        } => put_counts(out, tag, *events, *begun, *open),
+        AnswerLine::Objects { objects } => put_objects(out, tag, objects),
+        AnswerLine::Types { texts } => put_types(out, tag, texts),
+        AnswerLine::Events { events } => put_events(out, tag, events),
+        AnswerLine::Refused { refusal } => {
+            put_all(
+                out,
+                &[tag, b" refused ", name_of(*refusal).as_bytes(), b"\n"],
+            )
+        }
+        AnswerLine::Fault { fault } => {
+            put_all(
+                out,
+                &[tag, b" fault ", fault_name(*fault).as_bytes(), b"\n"],
+            )
+        }
+    }
+}
+
+/// The bytes of a tag.
+fn tag_of(tag: &Option<Name>) -> &[u8]
+    ensures { result.now ≡ tag_text tag.now }
+{
+    match tag {
+        Some(tag) => tag.as_bytes(),
+        None => b"-",
+    }
+}
+
+/// Writes that it is done.
+pub(crate) fn put_done<W: Out>(out: &mut W, tag: &[u8]) -> Result<(), OutFault>
+    requires { W.fault out.old ≡ None }
+    ensures { Puts (W.taken out.old) (W.taken out.new) (W.fault out.new) (done_text tag.now) result }
+{
+    put_all(out, &[tag, b" ok\n"])
+}
+
+/// Writes a tag, words and a transaction.
+fn put_transaction<W: Out>(
+    out: &mut W,
+    tag: &[u8],
+    words: &[u8],
+    t: TransactionName,
+) -> Result<(), OutFault>
+    requires { W.fault out.old ≡ None }
+    ensures { Puts (W.taken out.old) (W.taken out.new) (W.fault out.new) (transaction_text tag.now words.now t) result }
+{
+    let (mut life, mut number) = (Buffer::new(), Buffer::new());
+    put_all(
+        out,
+        &[
+            tag,
+            words,
+            life.format(t.life).as_bytes(),
+            b".",
+            number.format(t.number).as_bytes(),
+            b"\n",
+        ],
+    )
+}
+
+/// Writes a tag and a state.
+fn put_state<W: Out>(out: &mut W, tag: &[u8], state: u16) -> Result<(), OutFault>
+    requires { W.fault out.old ≡ None }
+    ensures { Puts (W.taken out.old) (W.taken out.new) (W.fault out.new) (state_text tag.now state) result }
+{
+    let mut number = Buffer::new();
+    put_all(out, &[tag, b" ok ", number.format(state).as_bytes(), b"\n"])
+}
+
+/// Writes a tag and three counts.
+fn put_counts<W: Out>(
+    out: &mut W,
+    tag: &[u8],
+    events: u32,
+    begun: u32,
+    open: u32,
+) -> Result<(), OutFault>
+    requires { W.fault out.old ≡ None }
+    ensures { Puts (W.taken out.old) (W.taken out.new) (W.fault out.new) (counts_text tag.now events begun «open») result }
+{
+    let (mut first, mut second, mut third) = (Buffer::new(), Buffer::new(), Buffer::new());
+    put_all(
+        out,
+        &[
+            tag,
+            b" ok events ",
+            first.format(events).as_bytes(),
+            b" begun ",
+            second.format(begun).as_bytes(),
+            b" open ",
+            third.format(open).as_bytes(),
+            b"\n",
+        ],
+    )
+}
+
+/// The name of a fault.
+fn fault_name(fault: RequestFault) -> &'static str
+    ensures { result.now ≡ fault_name fault }
+{
+    match fault {
+        RequestFault::TooLong => "TooLong",
+        RequestFault::NotAscii => "NotAscii",
+        RequestFault::BadTag => "BadTag",
+        RequestFault::UnknownVerb => "UnknownVerb",
+        RequestFault::BadWords => "BadWords",
+        RequestFault::BadNumber => "BadNumber",
+    }
+}
