@@ -27,8 +27,8 @@ begun life (Err refusal) = Refused refusal
 
 -- what a request is answered that is done or refused
 abbrev pub done_or : AnswerLine → Result (Unit {0}) Refusal → AnswerLine
-done_or done (Ok u) = done
-done_or done (Err refusal) = Refused refusal
+done_or answer (Ok u) = answer
+done_or answer (Err refusal) = Refused refusal
 
 -- operation k of the object at x
 abbrev pub op_at : Stored → ℕ → ℕ → Option Op
