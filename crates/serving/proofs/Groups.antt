@@ -3,7 +3,8 @@ use Rattle.std.proofs.Common.{◌≡◌, ◌∙◌, ℕ, ◌+◌, List, [], ◌+
 use Rattle.std.proofs.Math.Seq.{take-append-add}
 use Rattle.std.proofs.lemmas.List.{append_assoc, append-nil, length-append, take-append-drop, drop_all}
 use Rattle.std.proofs.lemmas.Grind.{flat_map-append}
-use Rattle.std.specs.Io.KnownBytes.{Appends, Consumes, Keeps}
+use Rattle.std.proofs.KnownBytes.{Appends-nil, Appends-trans, Consumes-nil, Consumes-trans, Keeps-refl}
+use Rattle.std.specs.Io.KnownBytes.{Appends, Consumes}
 use Rattle.sqlite_trees.specs.declared.store.Store.{Ghosts}
 use Rattle.journal.specs.Journal.{Clean, written}
 use Rattle.durable_store.specs.declared.durable.Durable.{Durable}
@@ -21,25 +22,9 @@ use Rattle.serving.proofs.Telling.{part-of-whole}
 
 -- ---- known bytes
 
-appends-then : (a b c : Option (List ℕ)) (x y : List ℕ) → Appends a b x → Appends b c y → Appends a c (x ++ y)
-appends-then None b c x y first second = tt
-appends-then (Some xs) None c x y first second = absurd first
-appends-then (Some xs) (Some ys) None x y first second = absurd second
-appends-then (Some xs) (Some ys) (Some zs) x y first second = second ∙ (ap (λ bs. bs ++ y) first ∙ append_assoc xs x y)
-
 part-then : (a b c : Option (List ℕ)) (x y : List ℕ) → Appends a b x → AppendsPart b c y → AppendsPart a c (x ++ y)
 part-then a b c x y first (n, within, second) =
-    (length x + n, omega (arith, length-append x y), subst (Appends a c) (sym (take-append-add x y n)) (appends-then a b c x (take n y) first second))
-
-consumes-then : (a b c : Option (List ℕ)) (x y : List ℕ) → Consumes a b x → Consumes b c y → Consumes a c (x ++ y)
-consumes-then None b c x y first second = tt
-consumes-then (Some xs) None c x y first second = absurd first
-consumes-then (Some xs) (Some ys) None x y first second = absurd second
-consumes-then (Some xs) (Some ys) (Some zs) x y first second = first ∙ (ap (λ bs. x ++ bs) second ∙ sym (append_assoc x y zs))
-
-pub keeps-same : (a : Option (List ℕ)) → Keeps a a
-keeps-same None = tt
-keeps-same (Some xs) = refl
+    (length x + n, omega (arith, length-append x y), subst (Appends a c) (sym (take-append-add x y n)) (Appends-trans a b c x (take n y) first second))
 
 told-more : (told more : List Answered) → answers_text (told ++ more) ≡ answers_text told ++ answers_text more
 told-more told more = flat_map-append _ told more
@@ -56,7 +41,7 @@ stops-before {S} {g} {began} {given} {taken} {given_now} {taken_now} {old} new c
   ended = old.end;
   serves = λ now. subst (λ all. Serves began.life (written g began.store.journal) has.served.lines began.store.store all old.session.store.store old.end)
       (ap (λ more. has.told ++ more) has.waits ∙ append-nil has.told) (has.served.serves (clean now));
-  part = part-of-whole taken taken_now taken_now (answers_text has.told) has.appended (keeps-same taken_now);
+  part = part-of-whole taken taken_now taken_now (answers_text has.told) has.appended (Keeps-refl taken_now);
 }
 
 -- while it tells
@@ -92,7 +77,7 @@ group-told {S} {g} {began} {given} {taken} {given_now} {taken_now} {old} mid new
       consumed = subst (Consumes given given_new)
           (ap (λ (xs : List ℕ). (has.seen ++ xs) ++ bytes) (has.all none) ∙ (ap (λ (xs : List ℕ). xs ++ bytes) (append-nil has.seen)
           ∙ (ap (λ (xs : List ℕ). has.seen ++ xs) (sym (take-append-drop more.count bytes)) ∙ sym (append_assoc has.seen (take more.count bytes) (drop more.count bytes)))))
-          (consumes-then given given_now given_new (has.seen ++ has.rest) bytes has.consumed consumed);
+          (Consumes-trans given given_now given_new (has.seen ++ has.rest) bytes has.consumed consumed);
       all = λ e. drop_all more.count bytes (omega (arith, more.all (sym ended ∙ e)));
       waits = clear;
       served = record {
@@ -106,25 +91,17 @@ group-told {S} {g} {began} {given} {taken} {given_now} {taken_now} {old} mid new
             rw (lets, ended, ap (λ xs. (has.told ++ mid.answers.items) ++ xs) clear ∙ append-nil (has.told ++ mid.answers.items))
             (Serves.forget served.lines began.store.store mid.session.store.store (has.told ++ mid.answers.items) new.session.store.store.forgotten mid.end so_far);
       };
-      appended = subst (Appends taken taken_new) (sym (told-more has.told mid.answers.items)) (appends-then taken taken_now taken_new (answers_text has.told) (answers_text mid.answers.items) has.appended appended);
+      appended = subst (Appends taken taken_new) (sym (told-more has.told mid.answers.items)) (Appends-trans taken taken_now taken_new (answers_text has.told) (answers_text mid.answers.items) has.appended appended);
     }
 
 -- ---- nothing was told yet
-
-appends-none : (a : Option (List ℕ)) → Appends a a []
-appends-none None = tt
-appends-none (Some xs) = sym (append-nil xs)
-
-consumes-none : (a : Option (List ℕ)) → Consumes a a []
-consumes-none None = tt
-consumes-none (Some xs) = refl
 
 pub told-none : {S : Type 0} {g : Ghosts S} (given taken : Option (List ℕ)) (s : Server S) → IsDurable g s.session.store → IsFresh s → HasTold g s.session given taken s given taken
 told-none {S} {g} given taken s sound fresh = record {
   told = [];
   seen = [];
   rest = [];
-  consumed = consumes-none given;
+  consumed = Consumes-nil given;
   all = λ e. refl;
   waits = fresh.answers;
   served = record {
@@ -135,5 +112,5 @@ told-none {S} {g} given taken s sound fresh = record {
     goes_on = goes-nowhere s.session sound;
     serves = λ clean. rw (fresh.answers, fresh.end) (Serves.none s.session.store.store);
   };
-  appended = appends-none taken;
+  appended = Appends-nil taken;
 }

@@ -1,16 +1,14 @@
 -- What was told of a text.
-use Rattle.std.proofs.Common.{◌∙◌, ℕ, List, ◌++◌, length, sym, ap, Option, None, Some, Result, Ok, Err, arith}
+use Rattle.std.proofs.Common.{◌∙◌, ℕ, List, ◌++◌, length, sym, ap, Option, None, Some, Result, Ok, Err, arith, subst}
 use Rattle.std.proofs.Math.Seq.{take-length}
 use Rattle.std.specs.Prelude.{OnErr}
+use Rattle.std.proofs.KnownBytes.{Appends-kept}
 use Rattle.std.specs.Io.KnownBytes.{Appends, Keeps}
 use Rattle.serving.specs.Told.{AppendsPart}
 
 -- all of it
 pub part-of-whole : (a b c : Option (List ℕ)) (text : List ℕ) → Appends a b text → Keeps b c → AppendsPart a c text
-part-of-whole None b c text all keeps = (length text, omega arith, tt)
-part-of-whole (Some xs) None c text all keeps = absurd all
-part-of-whole (Some xs) (Some ys) None text all keeps = absurd keeps
-part-of-whole (Some xs) (Some ys) (Some zs) text all keeps = (length text, omega arith, keeps ∙ (all ∙ ap (λ t. xs ++ t) (sym (take-length text))))
+part-of-whole a b c text all keeps = (length text, omega arith, subst (Appends a c) (sym (take-length text)) (Appends-kept a b c text all keeps))
 
 pub at-error : {T E : Type 0} (r : Result T E) {P : Type 0} → P → OnErr r P
 at-error (Ok u) p = tt
