@@ -24,6 +24,20 @@ pub fn keep_plain<'a>(kept: &mut Vec<Event>, text: &'a [u8]) -> Option<&'a [u8]>
         [b'o', b'p', b' ', rest @ ..] => keep_op(kept, rest),
         [b'b', b'e', b'g', b'i', b'n', b' ', rest @ ..] => keep_begin(kept, rest),
         [b'c', b'o', b'm', b'm', b'i', b't', b' ', rest @ ..] => keep_commit(kept, rest),
+        _ => keep_rarer(kept, text),
+    }
+}
+
+/// The same of the lines that a history has fewer of.
+#[inline(always)]
+fn keep_rarer<'a>(kept: &mut Vec<Event>, text: &'a [u8]) -> Option<&'a [u8]>
+    requires { vec_len kept.old < vec_capacity kept.old }
+    ensures items { MatchOption result
+        (kept.new.items ≡ kept.old.items)
+        (λ behind. KeepsEntry events text.now behind.now (map line_of kept.old.items) (map line_of kept.new.items)) }
+    ensures few { length kept.new.items ≤ length kept.old.items + 1 }
+{
+    match text {
         [b'b', b'u', b's', b'y', b' ', rest @ ..] => keep_busy(kept, rest),
         [b'n', b'o', b'n', b'e', b' ', rest @ ..] => keep_nothing(kept, rest),
         [b'a', b'b', b'o', b'r', b't', b' ', rest @ ..] => keep_abort(kept, rest),

@@ -22,6 +22,18 @@ pub fn keep_plain<'a>(kept: &mut CommandList, text: &'a [u8]) -> Option<&'a [u8]
         [b'c', b'a', b'l', b'l', b' ', rest @ ..] => keep_call(kept, rest),
         [b'b', b'e', b'g', b'i', b'n', b'\n', behind @ ..] => keep_begin(kept, behind),
         [b'c', b'o', b'm', b'm', b'i', b't', b' ', rest @ ..] => keep_commit(kept, rest),
+        _ => keep_rarer(kept, text),
+    }
+}
+
+/// The same of the commands that a script has fewer of.
+#[inline]
+fn keep_rarer<'a>(kept: &mut CommandList, text: &'a [u8]) -> Option<&'a [u8]>
+    ensures { MatchOption result
+        (kept.new ≡ kept.old)
+        (λ behind. KeepsEntry commands text.now behind.now kept.old kept.new) }
+{
+    match text {
         [b'a', b'b', b'o', b'r', b't', b' ', rest @ ..] => keep_abort(kept, rest),
         [
             b'r',
