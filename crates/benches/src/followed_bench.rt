@@ -4,7 +4,7 @@
 
 use crate::parts::checked_at;
 use crate::store_bench::{Fresh, store_at};
-use anyhow::{Context, Error, Result, bail};
+use anyhow::{Error, Result, bail};
 use intentions_manager::IntentionsManager;
 use object_trait::{Event, EventKind, Recovery};
 use std::alloc::{AllocError, Global};
@@ -26,13 +26,21 @@ const WORDS: usize = 6;
 
 /// Follows what the words ask for, and prints how much that was.
 pub fn measure<R: Files + Print + AllocGlobal>(rt: &R, words: &[String]) -> Result<()> {
+    let Some((kind, path, paths)) = asked(words) else {
+        return Err(Error::msg(USAGE));
+    };
+    let numbers = numbers_at(rt, path)?;
+    measure_numbers(rt, kind, &numbers, paths)
+}
+
+/// The kind, the path of the numbers and those of the types that the words ask for.
+fn asked(words: &[String]) -> Option<(Kind, &str, &[String])> {
     match words {
         [kind, path, paths @ ..] => {
-            let kind = Kind::of_word(kind.as_bytes()).context(USAGE)?;
-            let numbers = numbers_at(rt, path.as_str())?;
-            measure_numbers(rt, kind, &numbers, paths)
+            let kind = Kind::of_word(kind.as_bytes())?;
+            Some((kind, path.as_str(), paths))
         }
-        _ => Err(Error::msg(USAGE)),
+        _ => None,
     }
 }
 
@@ -147,7 +155,9 @@ fn follow_first<'a, M: Fresh>(
     numbers: &'a [u32],
     at: usize,
 ) -> Result<(bool, &'a [u32])> {
-    let (plain, rest) = first_of(numbers, types.len()).context(CUT_SHORT)?;
+    let Some((plain, rest)) = first_of(numbers, types.len()) else {
+        return Err(Error::msg(CUT_SHORT));
+    };
     if is_alike::<M>(alloc, types, plain)? {
         Ok((plain.is_made, rest))
     } else {
@@ -213,7 +223,11 @@ fn are_alike<M: Fresh>(
     events: &[Event],
     plain: Plain,
 ) -> Result<bool> {
-    Ok(is_followed::<M>(alloc, types, events, plain)? && is_told::<M>(alloc, types, events, plain)?)
+    if is_followed::<M>(alloc, types, events, plain)? {
+        is_told::<M>(alloc, types, events, plain)
+    } else {
+        Ok(false)
+    }
 }
 
 /// Whether a new store follows these events, to the same history and the same states.
@@ -239,7 +253,7 @@ fn is_told<M: Fresh>(
     let mut store = new_store::<M>(alloc, types)?;
     let tells = tells(alloc, &mut store, events, plain);
     let _ = store.close();
-    Ok(tells?)
+    tells
 }
 
 /// A new store with an object of each type.
@@ -262,7 +276,7 @@ fn tells<M: Recovery>(
     store: &mut Store<M>,
     events: &[Event],
     plain: Plain,
-) -> Result<bool, AllocError> {
+) -> Result<bool> {
     match events.split_at_checked(plain.place) {
         Some((before, behind)) if replay(store, before).is_ok() => {
             tells_behind(alloc, store, before, behind, plain)
@@ -279,7 +293,7 @@ fn tells_behind<M: Recovery>(
     before: &[Event],
     behind: &[Event],
     plain: Plain,
-) -> Result<bool, AllocError> {
+) -> Result<bool> {
     if plain.is_made {
         return Ok(is_made(store, before, plain.other));
     }

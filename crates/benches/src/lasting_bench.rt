@@ -97,7 +97,7 @@ fn million_time<R: Clock, M: Recovery>(
 ) -> Result<u128> {
     let start = Instant::now(rt);
     make_million(store, open)?;
-    Ok(since(rt, start)?)
+    since(rt, start)
 }
 
 /// Makes a million events, and forgets them as they come.

@@ -91,7 +91,7 @@ pub fn type_time<R: Clock + AllocGlobal>(rt: &R, text: &[u8]) -> Result<u128> {
     let file = read_type(rt.alloc(), text);
     let time = since(rt, start);
     drop(file?);
-    Ok(time?)
+    time
 }
 
 /// The nanoseconds of reading a script.
@@ -100,5 +100,5 @@ fn script_time<R: Clock + AllocGlobal>(rt: &R, text: &[u8]) -> Result<u128> {
     let script = read_script(rt.alloc(), text);
     let time = since(rt, start);
     drop(script?);
-    Ok(time?)
+    time
 }

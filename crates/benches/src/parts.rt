@@ -37,7 +37,7 @@ fn checked_of(alloc: Global, kind: Kind, text: &[u8]) -> Result<Arc<CheckedType>
 /// # Errors
 ///
 /// The clock failed, now or at the start.
-pub fn since<R: Clock>(rt: &R, start: io::Result<Instant>) -> io::Result<u128> {
+pub fn since<R: Clock>(rt: &R, start: io::Result<Instant>) -> Result<u128> {
     Ok(start?.elapsed(rt)?.as_nanos())
 }
 

@@ -12,8 +12,9 @@ use anyhow::{Error, Result};
 pub use fresh::Fresh;
 use intentions_manager::IntentionsManager;
 use object_trait::Event;
+use outcome::Outcome;
+use rounds::least_of;
 pub use rounds::{store_at, store_of};
-use rounds::{Followed, Measured, least_followed, least_of};
 use std::mem::size_of;
 use std::rt::{Clock, Files};
 use std::sync::Arc;
@@ -43,20 +44,7 @@ pub fn measure<R: Files + Clock + Print + AllocGlobal>(
         return Err(Error::msg(USAGE));
     };
     let checked = checked_at(rt, kind, path)?;
-    measure_what(rt, what, &checked, workload)
-}
-
-/// Measures what is asked for of a workload at objects of a type.
-fn measure_what<R: Clock + Print + AllocGlobal>(
-    rt: &R,
-    what: What,
-    checked: &Arc<CheckedType>,
-    workload: Workload,
-) -> Result<()> {
-    match what {
-        What::Run => measure_type(rt, checked, workload),
-        What::Follow => measure_following(rt, checked, workload),
-    }
+    measure_type(rt, what, &checked, workload)
 }
 
 /// The kind, the path and the workload that the words ask for.
@@ -88,36 +76,26 @@ fn workload_of(words: &[String]) -> Option<Workload> {
 /// Measures a workload at objects of a type, and prints the times.
 fn measure_type<R: Clock + Print + AllocGlobal>(
     rt: &R,
+    what: What,
     checked: &Arc<CheckedType>,
     workload: Workload,
 ) -> Result<()> {
     let measured = match checked.kind() {
-        Kind::Undo => least_of::<R, UndoManager>(rt, checked, workload),
-        Kind::Intentions => least_of::<R, IntentionsManager>(rt, checked, workload),
+        Kind::Undo => least_of::<R, UndoManager>(rt, what, checked, workload),
+        Kind::Intentions => least_of::<R, IntentionsManager>(rt, what, checked, workload),
     };
-    print_measured(rt, measured?)
+    let measured = measured?;
+    match what {
+        What::Run => print_run(rt, measured.run, measured.outcome),
+        What::Follow => show(rt, &[("run", measured.run), ("follow", measured.follow)]),
+    }
 }
 
-/// Measures a workload at objects of a type and a store that follows it, and prints the times.
-fn measure_following<R: Clock + Print + AllocGlobal>(
-    rt: &R,
-    checked: &Arc<CheckedType>,
-    workload: Workload,
-) -> Result<()> {
-    let followed = match checked.kind() {
-        Kind::Undo => least_followed::<R, UndoManager>(rt, checked, workload),
-        Kind::Intentions => least_followed::<R, IntentionsManager>(rt, checked, workload),
-    };
-    let Followed { run, follow } = followed?;
-    show(rt, &[("run", run), ("follow", follow)])
-}
-
-fn print_measured<R: Print>(rt: &R, measured: Measured) -> Result<()> {
-    let outcome = measured.outcome;
+fn print_run<R: Print>(rt: &R, time: u128, outcome: Outcome) -> Result<()> {
     show(
         rt,
         &[
-            ("nanoseconds", measured.nanoseconds),
+            ("nanoseconds", time),
             ("event_bytes", size_of::<Event>() as u128),
             ("refused", u128::from(outcome.refused)),
             ("ops", u128::from(outcome.ops)),

@@ -232,24 +232,25 @@ impl Reference {
         answer
     }
 
-    /// The number of the call that is asked for, and its answer, or why there is none.
-    fn asked(&self, ask: Ask) -> Result<(u32, u32, u8, Answer), Refusal> {
-        let (t, x) = match ask {
-            Ask::Call(t, x, _) => (t, x),
-            Ask::Number(t, x, _) => (t, x),
-            _ => return Err(Refusal::NotOpen),
-        };
+    /// The number of the call of this name at x.
+    fn number_of(&self, x: u32, name: &str) -> Option<u8> {
+        let checked = self.types.get(x as usize)?;
+        first_of(checked.table().ops(), name.as_bytes())
+    }
+
+    /// The number, where it is that of a call at x.
+    fn number_at(&self, x: u32, c: u8) -> Option<u8> {
+        let checked = self.types.get(x as usize)?;
+        is_number(checked.table().ops(), c).then_some(c)
+    }
+
+    /// The answer of t's call at x, or why there is none. A call with no number isn't one of the type's.
+    fn asked(&self, t: u32, x: u32, number: Option<u8>) -> Result<(u8, Answer), Refusal> {
         if !self.is_open(t) {
             return Err(Refusal::NotOpen);
         }
         let Some(checked) = self.types.get(x as usize) else {
             return Err(Refusal::NoObject);
-        };
-        let ops = checked.table().ops();
-        let number = match ask {
-            Ask::Call(_, _, name) => first_of(ops, name.as_bytes()),
-            Ask::Number(_, _, c) if is_number(ops, c) => Some(c),
-            _ => None,
         };
         let Some(c) = number else {
             return Err(Refusal::NoCall);
@@ -257,14 +258,18 @@ impl Reference {
         if self.is_full(1) {
             return Err(Refusal::HistoryFull);
         }
-        Ok((t, x, c, self.answer_of(checked, x, t, c)))
+        Ok((c, self.answer_of(checked, x, t, c)))
     }
 
-    fn call(&mut self, w: u8, ask: Ask) -> Result<Told, AllocError> {
-        let (t, x, c, answer) = match self.asked(ask) {
-            Ok(asked) => asked,
-            Err(refusal) => return Ok(Told::Refused(refusal)),
-        };
+    fn call(&mut self, w: u8, t: u32, x: u32, number: Option<u8>) -> Result<Told, AllocError> {
+        match self.asked(t, x, number) {
+            Ok((c, answer)) => self.answer(w, t, x, c, answer),
+            Err(refusal) => Ok(Told::Refused(refusal)),
+        }
+    }
+
+    /// Answers t's call c at x.
+    fn answer(&mut self, w: u8, t: u32, x: u32, c: u8, answer: Answer) -> Result<Told, AllocError> {
         let kind = match answer {
             Answer::Reply(k) => {
                 self.living.push(Living { t, x, k })?;
@@ -344,7 +349,8 @@ impl Reference {
     pub fn told(&mut self, w: u8, ask: Ask) -> Result<Told, AllocError> {
         match ask {
             Ask::Begin => self.begin(w),
-            Ask::Call(..) | Ask::Number(..) => self.call(w, ask),
+            Ask::Call(t, x, name) => self.call(w, t, x, self.number_of(x, name)),
+            Ask::Number(t, x, c) => self.call(w, t, x, self.number_at(x, c)),
             Ask::Commit(t) => self.commit(w, t),
             Ask::Abort(t) => self.abort(w, t),
             Ask::Rollback(t, n) => self.rollback(w, t, n),

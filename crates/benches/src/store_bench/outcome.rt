@@ -30,13 +30,15 @@ impl Outcome {
         }
     }
 
-    /// Takes in what a store has at the end of a run: its states, and its history once it is closed.
-    pub fn take<M: Recovery>(&mut self, store: Store<M>) {
+    /// Takes in what a store has at the end of a run: its states, and its history once it is closed, which
+    /// comes back.
+    pub fn take<M: Recovery>(&mut self, store: Store<M>) -> Vec<Event> {
         for x in 0..store.object_count() {
             self.keep(store.kept(x).unwrap_or(0));
         }
         let (history, _) = store.close();
         self.note_all(&history);
+        history
     }
 
     fn note_all(&mut self, events: &[Event]) {

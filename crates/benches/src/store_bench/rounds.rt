@@ -1,5 +1,6 @@
 //! Runs of the same commands in new stores.
 
+use super::What;
 use super::fresh::Fresh;
 use super::outcome::Outcome;
 use super::workload::{Command, Workload, commands_of};
@@ -19,47 +20,54 @@ const MOST_EVENTS: u32 = 1_000_000;
 /// The one worker.
 const WORKER: u8 = 0;
 
-/// The least nanoseconds of a run, and what came of each.
+/// The least nanoseconds of a run and, where that is measured, of a new store that follows its events,
+/// and what came of each run.
 #[derive(Clone, Copy)]
 pub struct Measured {
-    pub nanoseconds: u128,
+    pub run: u128,
+    pub follow: u128,
     pub outcome: Outcome,
 }
 
-/// The least time of the rounds of a workload at objects of a checked type.
+/// The least times of the rounds of a workload at objects of a checked type.
 pub fn least_of<R: Clock + AllocGlobal, M: Fresh>(
     rt: &R,
+    what: What,
     checked: &Arc<CheckedType>,
     workload: Workload,
 ) -> Result<Measured> {
     let commands = commands_at::<M>(rt.alloc(), checked, workload)?;
-    least_round::<R, M>(rt, checked, workload, &commands)
+    least_round::<R, M>(rt, what, checked, workload, &commands)
 }
 
-/// The least time of the rounds of these commands.
+/// The least times of the rounds of these commands.
 fn least_round<R: Clock + AllocGlobal, M: Fresh>(
     rt: &R,
+    what: What,
     checked: &Arc<CheckedType>,
     workload: Workload,
     commands: &[Command],
 ) -> Result<Measured> {
     let mut least = Measured {
-        nanoseconds: u128::MAX,
+        run: u128::MAX,
+        follow: u128::MAX,
         outcome: Outcome::new(),
     };
     for _ in 0..workload.rounds {
-        let measured = round::<R, M>(rt, checked, workload.objects, commands)?;
+        let once = round::<R, M>(rt, what, checked, workload.objects, commands)?;
         least = Measured {
-            nanoseconds: least.nanoseconds.min(measured.nanoseconds),
-            outcome: measured.outcome,
+            run: least.run.min(once.run),
+            follow: least.follow.min(once.follow),
+            outcome: once.outcome,
         };
     }
     Ok(least)
 }
 
-/// The time of a run in a new store, and what came of it.
+/// The times of a run in a new store and of what else is measured of it, and what came of the run.
 fn round<R: Clock + AllocGlobal, M: Fresh>(
     rt: &R,
+    what: What,
     checked: &Arc<CheckedType>,
     objects: u32,
     commands: &[Command],
@@ -69,9 +77,15 @@ fn round<R: Clock + AllocGlobal, M: Fresh>(
     let start = Instant::now(rt);
     outcome.refused = run(&mut store, commands);
     let time = since(rt, start);
-    outcome.take(store);
+    let events = outcome.take(store);
+    let follow = match what {
+        What::Run => Ok(u128::MAX),
+        What::Follow => follow_once::<R, M>(rt, checked, objects, &events),
+    };
+    drop(events);
     Ok(Measured {
-        nanoseconds: time?,
+        run: time?,
+        follow: follow?,
         outcome,
     })
 }
@@ -157,64 +171,6 @@ fn is_accepted<M: Recovery>(store: &mut Store<M>, command: Command) -> bool {
     }
 }
 
-/// The least nanoseconds of a run, and of a new store that follows its events.
-#[derive(Clone, Copy)]
-pub struct Followed {
-    pub run: u128,
-    pub follow: u128,
-}
-
-/// The least times of the rounds of a workload at objects of a checked type, and of following them.
-pub fn least_followed<R: Clock + AllocGlobal, M: Fresh>(
-    rt: &R,
-    checked: &Arc<CheckedType>,
-    workload: Workload,
-) -> Result<Followed> {
-    let commands = commands_at::<M>(rt.alloc(), checked, workload)?;
-    least_both::<R, M>(rt, checked, workload, &commands)
-}
-
-/// The least times of the rounds of these commands, and of following them.
-fn least_both<R: Clock + AllocGlobal, M: Fresh>(
-    rt: &R,
-    checked: &Arc<CheckedType>,
-    workload: Workload,
-    commands: &[Command],
-) -> Result<Followed> {
-    let mut least = Followed {
-        run: u128::MAX,
-        follow: u128::MAX,
-    };
-    for _ in 0..workload.rounds {
-        let once = followed_once::<R, M>(rt, checked, workload.objects, commands)?;
-        least = Followed {
-            run: least.run.min(once.run),
-            follow: least.follow.min(once.follow),
-        };
-    }
-    Ok(least)
-}
-
-/// The times of a run in a new store, and of another that follows its events.
-fn followed_once<R: Clock + AllocGlobal, M: Fresh>(
-    rt: &R,
-    checked: &Arc<CheckedType>,
-    objects: u32,
-    commands: &[Command],
-) -> Result<Followed> {
-    let mut store = store_of::<M>(rt.alloc(), checked, objects, MOST_EVENTS)?;
-    let start = Instant::now(rt);
-    run(&mut store, commands);
-    let time = since(rt, start);
-    let (events, _) = store.close();
-    let follow = follow_once::<R, M>(rt, checked, objects, &events);
-    drop(events);
-    Ok(Followed {
-        run: time?,
-        follow: follow?,
-    })
-}
-
 /// The time in which a new store follows these events.
 fn follow_once<R: Clock + AllocGlobal, M: Fresh>(
     rt: &R,
@@ -240,5 +196,5 @@ fn time_to_follow<R: Clock, M: Recovery>(
     if told.is_err() {
         bail!("a store doesn't follow the events of another");
     }
-    Ok(time?)
+    time
 }

@@ -20,7 +20,7 @@ pub enum Command {
 }
 
 /// What else happens.
-#[derive(Clone, Copy, PartialEq, Eq)]
+#[derive(Clone, Copy)]
 pub enum Mode {
     /// Nothing.
     Plain,
@@ -138,7 +138,7 @@ impl<'a> Script<'a> {
             self.end(t)?;
             return self.begin();
         }
-        if left == 1 && self.workload.mode == Mode::Rollback {
+        if left == 1 && matches!(self.workload.mode, Mode::Rollback) {
             self.commands.push(Command::Rollback { t, n: ROLLED_BACK })?;
         }
         self.call(t)?;
@@ -159,7 +159,7 @@ impl<'a> Script<'a> {
 
     /// The transaction that never ends, where the mode has one.
     fn begin_old(&mut self) -> Result<(), AllocError> {
-        if self.workload.mode == Mode::Old {
+        if matches!(self.workload.mode, Mode::Old) {
             let old = self.begin()?;
             self.call(old.t)?;
         }
