@@ -28,9 +28,9 @@ pub fn contents(
     types.push(TypeText::new(text)).expect(rt, "no types");
     let objects = Vec::from_slice(alloc, lines).expect(rt, "no objects");
     let mut states = Vec::new(alloc);
-    for _ in lines {
-        states.push(FirstState { state }).expect(rt, "no states");
-    }
+    states
+        .resize(lines.len(), FirstState { state })
+        .expect(rt, "no states");
     FileContents {
         header: Header {
             format: 1,
@@ -56,6 +56,11 @@ pub const TWO: [ObjectLine; 2] = [
     },
 ];
 
+/// A new file of the two counters.
+pub fn two_counters(rt: &(impl Abort + AllocGlobal)) -> FileContents {
+    contents(rt, COUNTER, &TWO, 0)
+}
+
 /// Trees in memory, none yet.
 pub fn no_trees(rt: &(impl Abort + AllocGlobal)) -> MemStore {
     MemStore::new(rt.alloc(), &[]).expect(rt, "no trees")
@@ -66,10 +71,8 @@ pub fn created<S: Alter + Drop>(rt: &(impl Abort + AllocGlobal), trees: S, said:
     requires { IsClean (S.Store.view trees) → IsTrue (S.Store.view trees).is_numbered }
     ensures { IsClean (S.Store.view result) → IsTrue (S.Store.view result).is_numbered }
 {
-    match Journal::create(rt.alloc(), trees, said) {
-        Ok(journal) => journal.into_store(),
-        Err(_) => panic!(rt; "no file"),
-    }
+    let journal = Journal::create(rt.alloc(), trees, said).ok();
+    journal.expect(rt, "no file").into_store()
 }
 
 /// A new store of the two counters.
@@ -77,11 +80,9 @@ pub fn opened<S: Alter + Drop>(rt: &(impl Abort + AllocGlobal), trees: S) -> Dur
     requires { IsClean (S.Store.view trees) → IsTrue (S.Store.view trees).is_numbered }
     ensures { IsDurable S.Store result }
 {
-    let said = contents(rt, COUNTER, &TWO, 0);
-    match open(rt.alloc(), created(rt, trees, &said)) {
-        Ok(store) => store,
-        Err(_) => panic!(rt; "the file isn't opened"),
-    }
+    let trees = created(rt, trees, &two_counters(rt));
+    let store = open(rt.alloc(), trees).ok();
+    store.expect(rt, "the file isn't opened")
 }
 
 /// Begins the next transaction.
@@ -89,10 +90,8 @@ pub fn begun<S: Alter>(rt: &impl Abort, store: &mut Durable<S>) -> u32
     requires { IsDurable S.Store store.old }
     ensures { IsDurable S.Store store.new }
 {
-    match store.begin() {
-        Ok(Ok(t)) => t,
-        _ => panic!(rt; "no transaction"),
-    }
+    let begun = store.begin().expect(rt, "the file failed");
+    begun.expect(rt, "no transaction")
 }
 
 /// Counts up at an object.
@@ -100,10 +99,17 @@ pub fn counted<S: Alter>(rt: &impl Abort, store: &mut Durable<S>, t: u32, x: u32
     requires { IsDurable S.Store store.old }
     ensures { IsDurable S.Store store.new }
 {
-    match store.call(t, x, b"inc:1") {
-        Ok(Ok(Answer::Reply(0))) => {}
-        _ => panic!(rt; "another answer"),
-    }
+    let told = store.call(t, x, b"inc:1").expect(rt, "the file failed");
+    assert!(rt; told == Ok(Answer::Reply(0)));
+}
+
+/// Commits t.
+pub fn ended<S: Alter>(rt: &impl Abort, store: &mut Durable<S>, t: u32)
+    requires { IsDurable S.Store store.old }
+    ensures { IsDurable S.Store store.new }
+{
+    let told = store.commit(t).expect(rt, "the file failed");
+    told.expect(rt, "no commit");
 }
 
 /// One transaction counts up at each object and commits.
@@ -114,9 +120,7 @@ pub fn committed<S: Alter>(rt: &impl Abort, store: &mut Durable<S>)
     let t = begun(rt, store);
     counted(rt, store, t, 0);
     counted(rt, store, t, 1);
-    if store.commit(t) != Ok(Ok(())) {
-        panic!(rt; "no commit");
-    }
+    ended(rt, store, t);
 }
 
 /// Takes the last operation of t back and aborts it; to abort it once more is refused.
@@ -124,15 +128,12 @@ pub fn aborted<S: Alter>(rt: &impl Abort, store: &mut Durable<S>, t: u32)
     requires { IsDurable S.Store store.old }
     ensures { IsDurable S.Store store.new }
 {
-    if store.rollback(t, 1) != Ok(Ok(())) {
-        panic!(rt; "not rolled back");
-    }
-    if store.abort(t) != Ok(Ok(())) {
-        panic!(rt; "not aborted");
-    }
-    if store.abort(t) != Ok(Err(Refusal::NotOpen)) {
-        panic!(rt; "not refused");
-    }
+    let back = store.rollback(t, 1).expect(rt, "the file failed");
+    back.expect(rt, "not rolled back");
+    let ended = store.abort(t).expect(rt, "the file failed");
+    ended.expect(rt, "not aborted");
+    let again = store.abort(t).expect(rt, "the file failed");
+    assert!(rt; again == Err(Refusal::NotOpen));
 }
 
 /// What was written is settled.
@@ -140,9 +141,7 @@ pub fn settled<S: Alter>(rt: &impl Abort, store: &mut Durable<S>)
     requires { IsDurable S.Store store.old }
     ensures { IsDurable S.Store store.new }
 {
-    if store.settle().is_err() {
-        panic!(rt; "not settled");
-    }
+    store.settle().expect(rt, "not settled");
 }
 
 /// The machine stops, and the file is opened again.
@@ -153,17 +152,13 @@ pub fn restarted<S: Alter + Reopen + Drop>(
     requires { IsDurable S.Store store }
     ensures { IsDurable S.Store result }
 {
-    match restart(rt.alloc(), store) {
-        Some(store) => store,
-        None => panic!(rt; "nothing is found"),
-    }
+    restart(rt.alloc(), store).expect(rt, "nothing is found")
 }
 
 /// That so many events came, and that both objects have this state; the store is let go.
 pub fn has<S: Alter + Drop>(rt: &impl Abort, store: Durable<S>, events: u32, state: u16) {
-    let is_as_told = store.store().event_count() == events
-        && store.store().kept(0) == Some(state)
-        && store.store().kept(1) == Some(state);
+    let seen = store.store();
+    let told = (seen.event_count(), seen.kept(0), seen.kept(1));
     let _ = store.into_trees();
-    assert!(rt; is_as_told);
+    assert!(rt; told == (events, Some(state), Some(state)));
 }

@@ -2,7 +2,9 @@
 
 ghost use Rattle.durable_store.specs.Durable.{IsDurable};
 
-use super::counters::{begun, committed, counted, has, no_trees, opened, restarted, settled};
+use super::counters::{
+    begun, committed, counted, ended, has, no_trees, opened, restarted, settled,
+};
 use durable_store::Durable;
 use journal::{FirstState, Journal};
 use sqlite_trees::store::Alter;
@@ -14,13 +16,10 @@ pub fn renewed<S: Alter + Drop>(rt: &(impl Abort + AllocGlobal), store: Durable<
     requires { IsDurable S.Store store }
     ensures { IsDurable S.Store result }
 {
-    match store.renew(rt.alloc()) {
-        (store, Ok(Ok(()))) => store,
-        (store, _) => {
-            let _ = store.into_trees();
-            panic!(rt; "no other epoch")
-        }
-    }
+    let (store, told) = store.renew(rt.alloc());
+    let told = told.expect(rt, "the file failed");
+    told.expect(rt, "no other epoch");
+    store
 }
 
 /// Another epoch is refused, since a transaction is open.
@@ -28,13 +27,10 @@ fn still_open<S: Alter + Drop>(rt: &(impl Abort + AllocGlobal), store: Durable<S
     requires { IsDurable S.Store store }
     ensures { IsDurable S.Store result }
 {
-    match store.renew(rt.alloc()) {
-        (store, Ok(Err(RenewRefusal::StillOpen))) => store,
-        (store, _) => {
-            let _ = store.into_trees();
-            panic!(rt; "not refused")
-        }
-    }
+    let (store, told) = store.renew(rt.alloc());
+    let told = told.expect(rt, "the file failed");
+    assert!(rt; told == Err(RenewRefusal::StillOpen));
+    store
 }
 
 /// A store of one settled commit: the second life of its file.
@@ -57,16 +53,11 @@ fn has_no_event<S: Alter + Drop>(
 )
     requires { IsDurable S.Store store }
 {
-    match Journal::open(rt.alloc(), store.into_trees()) {
-        Ok((_, said)) => {
-            assert!(rt; said.events.is_empty() && said.header.life == life);
-            assert_eq!(rt;
-                said.states.as_slice(),
-                [FirstState { state }, FirstState { state }].as_slice()
-            );
-        }
-        Err(_) => panic!(rt; "the file isn't opened"),
-    }
+    let opened = Journal::open(rt.alloc(), store.into_trees()).ok();
+    let (_, said) = opened.expect(rt, "the file isn't opened");
+    let states = [FirstState { state }, FirstState { state }];
+    let is_at = said.states.as_slice() == states.as_slice();
+    assert!(rt; is_at && said.events.is_empty() && said.header.life == life);
 }
 
 /// The file has no event any more, but the states that were kept, in a higher life.
@@ -86,9 +77,7 @@ fn a_new_epoch_survives(rt: HostRuntime) {
     let first = begun(&rt, &mut store);
     counted(&rt, &mut store, first, 0);
     counted(&rt, &mut store, first, 1);
-    if store.commit(first) != Ok(Ok(())) {
-        panic!(&rt; "no commit");
-    }
+    ended(&rt, &mut store, first);
     settled(&rt, &mut store);
     let store = restarted(&rt, store);
     let life = store.life();

@@ -3,7 +3,7 @@
 ghost use Rattle.std.specs.Prelude.{IsTrue};
 ghost use Rattle.sqlite_trees.specs.View.{IsClean};
 
-use super::counters::{TWO, contents, created, no_trees};
+use super::counters::{TWO, contents, created, no_trees, two_counters};
 use durable_store::{OpenError, open};
 use journal::{Journal, JournalError};
 use object_trait::EventKind;
@@ -28,6 +28,20 @@ fn error_of<S: Alter + Drop>(rt: &(impl Abort + AllocGlobal), trees: S) -> Optio
     }
 }
 
+/// Why a new file of these isn't opened.
+fn error_of_new<S: Alter + Drop>(
+    rt: &(impl Abort + AllocGlobal),
+    trees: S,
+    text: &str,
+    lines: &[ObjectLine],
+    state: u16,
+) -> Option<OpenError>
+    requires { IsClean (S.Store.view trees) → IsTrue (S.Store.view trees).is_numbered }
+{
+    let said = contents(rt, text, lines, state);
+    error_of(rt, created(rt, trees, &said))
+}
+
 /// Trees with no table are no file of a store.
 #[test]
 fn no_tables_are_foreign(rt: HostRuntime) {
@@ -37,8 +51,8 @@ fn no_tables_are_foreign(rt: HostRuntime) {
 /// A text has a fault.
 #[test]
 fn a_text_with_a_fault_is_told(rt: HostRuntime) {
-    let said = contents(&rt, "type counter\nend\n", &TWO, 0);
-    assert!(rt; error_of(&rt, created(&rt, no_trees(&rt), &said)) == Some(OpenError::Text(0)));
+    let told = error_of_new(&rt, no_trees(&rt), "type counter\nend\n", &TWO, 0);
+    assert!(rt; told == Some(OpenError::Text(0)));
 }
 
 /// An object names a text that isn't there, or begins at a state that isn't its type's.
@@ -48,35 +62,33 @@ fn an_object_without_a_type_is_told(rt: HostRuntime) {
         kind: Kind::Undo,
         file: 1,
     };
-    let unplaced = contents(&rt, COUNTER, &[TWO[0], second], 0);
-    assert!(rt;
-        error_of(&rt, created(&rt, no_trees(&rt), &unplaced)) == Some(OpenError::Untyped(1))
-    );
-    let outside = contents(&rt, COUNTER, &TWO, 3);
-    assert!(rt;
-        error_of(&rt, created(&rt, no_trees(&rt), &outside)) == Some(OpenError::Untyped(0))
-    );
+    let unplaced = error_of_new(&rt, no_trees(&rt), COUNTER, &[TWO[0], second], 0);
+    let outside = error_of_new(&rt, no_trees(&rt), COUNTER, &TWO, 3);
+    let untyped = (Some(OpenError::Untyped(1)), Some(OpenError::Untyped(0)));
+    assert!(rt; (unplaced, outside) == untyped);
 }
 
-/// The second event isn't made: its transaction isn't there.
+/// Adds two events to the file in these trees, of which nothing makes the second: its transaction isn't there.
+fn with_a_stray<S: Alter + Drop>(rt: &(impl Abort + AllocGlobal), trees: S) -> S
+    requires { IsClean (S.Store.view trees) → IsTrue (S.Store.view trees).is_numbered }
+    ensures { IsClean (S.Store.view result) → IsTrue (S.Store.view result).is_numbered }
+{
+    let opened = Journal::open(rt.alloc(), trees).ok();
+    let (mut journal, _) = opened.expect(rt, "the file isn't opened");
+    let first = journal.append(EventKind::Begin { t: 0 });
+    first.expect(rt, "not written");
+    let second = journal.append(EventKind::Commit { t: 1 });
+    second.expect(rt, "not written");
+    journal.commit().expect(rt, "not committed");
+    journal.into_store()
+}
+
+/// The second event isn't made.
 #[test]
 fn an_event_that_nothing_makes_is_told(rt: HostRuntime) {
-    let said = contents(&rt, COUNTER, &TWO, 0);
-    let Ok((mut journal, _)) = Journal::open(rt.alloc(), created(&rt, no_trees(&rt), &said)) else {
-        panic!(&rt; "the file isn't opened");
-    };
-    let first = journal.append(EventKind::Begin { t: 0 });
-    if first.is_err() {
-        panic!(&rt; "not written");
-    }
-    let second = journal.append(EventKind::Commit { t: 1 });
-    if second.is_err() {
-        panic!(&rt; "not written");
-    }
-    if journal.commit().is_err() {
-        panic!(&rt; "not committed");
-    }
-    assert!(rt; error_of(&rt, journal.into_store()) == Some(OpenError::NotMade(1)));
+    let trees = created(&rt, no_trees(&rt), &two_counters(&rt));
+    let trees = with_a_stray(&rt, trees);
+    assert!(rt; error_of(&rt, trees) == Some(OpenError::NotMade(1)));
 }
 
 /// What each error says.

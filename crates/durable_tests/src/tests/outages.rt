@@ -52,14 +52,9 @@ fn what_was_open_is_aborted(rt: HostRuntime) {
 fn an_answered_settling_is_there(rt: HostRuntime) {
     let mut store = opened(&rt, no_trees(&rt));
     committed(&rt, &mut store);
-    match settle_and_restart(rt.alloc(), store) {
-        (true, Some(store)) => has(&rt, store, 4, 1),
-        (_, Some(store)) => {
-            let _ = store.into_trees();
-            panic!(&rt; "not settled")
-        }
-        _ => panic!(&rt; "nothing is found"),
-    }
+    let (is_settled, store) = settle_and_restart(rt.alloc(), store);
+    has(&rt, store.expect(&rt, "nothing is found"), 4, 1);
+    assert!(rt; is_settled);
 }
 
 /// A refusal is no event, and a rollback and an abort are.

@@ -1,6 +1,7 @@
 //! A client that asks a durable store of two counters by lines.
 
-ghost use Rattle.std.specs.Prelude.{◌≡◌, ◌<◌, ◌≤◌, None, OnOk};
+ghost use Rattle.std.specs.Prelude.{◌≡◌, ◌<◌, ◌≤◌, None, IsTrue, OnOk};
+ghost use Rattle.sqlite_trees.specs.View.{IsClean};
 ghost use Rattle.durable_store.specs.Durable.{IsDurable};
 ghost use Rattle.outputs.specs.Gathered.{under};
 ghost use Rattle.outputs.specs.Out.{sink_fault};
@@ -8,13 +9,13 @@ ghost use Rattle.outputs.specs.Out.{sink_fault};
 use super::counters::{has, no_trees, opened, restarted};
 use durable_store::Durable;
 use outputs::{Gathered, OutFault, Sink};
-use serving::{Client, ServeFault, Server};
-use sqlite_trees::store::Alter;
+use serving::{Client, ServeFault, Server, serve};
+use sqlite_trees::store::{Alter, Reopen};
 use std::process::Abort;
 use test_support::sinks::{AtEnd, Narrow, narrow_sink};
 
 /// What is asked, of the first life of a store.
-const ASKED: &str = "a begin
+static ASKED: &str = "a begin
 b call 1.0 0 inc:1
 c call 1.0 1 inc:1
 d would 1.0 0 dec:1
@@ -39,7 +40,7 @@ v begin
 ";
 
 /// What it is answered.
-const ANSWERED: &str = "a ok 1.0
+static ANSWERED: &str = "a ok 1.0
 b reply ok
 c reply ok
 d reply ok
@@ -84,10 +85,7 @@ fn output(rt: &(impl Abort + AllocGlobal), room: usize) -> Gathered<Sink<Narrow>
     ensures { sink_fault (under result) ≡ None }
 {
     let sink = narrow_sink(rt.alloc(), 3, room, AtEnd::Fails);
-    match Gathered::new(rt.alloc(), sink) {
-        Ok(out) => out,
-        Err(_) => panic!(rt; "no output"),
-    }
+    Gathered::new(rt.alloc(), sink).expect(rt, "no output")
 }
 
 /// What a client is told of these lines, read so many bytes at a time, where its output takes so many; how that ended,
@@ -114,26 +112,40 @@ fn told<S: Alter + Drop>(
 }
 
 /// Each line is answered in its order, read so many bytes at a time; nothing behind the end is done.
-fn are_answered(rt: &(impl Abort + AllocGlobal), piece: usize)
-    requires { 0 < piece × piece ≤ 4096 }
+fn are_answered<S: Alter + Drop>(rt: &(impl Abort + AllocGlobal), trees: S, piece: usize)
+    requires trees { IsClean (S.Store.view trees) → IsTrue (S.Store.view trees).is_numbered }
+    requires piece { 0 < piece × piece ≤ 4096 }
 {
-    let store = opened(rt, no_trees(rt));
-    let (said, served, store) = told(rt, store, ASKED.as_bytes(), piece, 10_000);
+    let (said, served, store) = told(rt, opened(rt, trees), ASKED.as_bytes(), piece, 10_000);
     let begun = store.store().begun();
     let _ = store.into_trees();
-    assert!(rt; said.as_slice() == ANSWERED.as_bytes() && served == Ok(()) && begun == 3);
+    assert!(rt; said.as_slice() == ANSWERED.as_bytes() && served.is_ok() && begun == 3);
 }
 
 #[test]
 fn lines_are_answered(rt: HostRuntime) {
-    are_answered(&rt, 4096);
+    are_answered(&rt, no_trees(&rt), 4096);
 }
 
 /// However they come.
 #[test]
 fn lines_are_answered_in_pieces(rt: HostRuntime) {
-    are_answered(&rt, 1);
-    are_answered(&rt, 7);
+    are_answered(&rt, no_trees(&rt), 1);
+    are_answered(&rt, no_trees(&rt), 7);
+}
+
+/// That lines without a request have these answers.
+fn have_no_request<S: Alter + Drop>(
+    rt: &(impl Abort + AllocGlobal),
+    trees: S,
+    lines: &[u8],
+    answers: &[u8],
+)
+    requires { IsClean (S.Store.view trees) → IsTrue (S.Store.view trees).is_numbered }
+{
+    let (said, served, store) = told(rt, opened(rt, trees), lines, 100, 10_000);
+    has(rt, store, 0, 0);
+    assert!(rt; said.as_slice() == answers && served.is_ok());
 }
 
 /// A line that is too long, one with a byte that isn't ASCII, and one that isn't whole.
@@ -144,33 +156,70 @@ fn lines_without_a_request(rt: HostRuntime) {
     lines
         .extend_from_slice(b"\na \xff\nA begin\na begin")
         .expect(&rt, "no lines");
-    let store = opened(&rt, no_trees(&rt));
-    let (said, served, store) = told(&rt, store, &lines, 100, 10_000);
-    has(&rt, store, 0, 0);
-    let answered = b"- fault TooLong\n- fault NotAscii\n- fault BadTag\n";
-    assert!(&rt; said.as_slice() == answered.as_slice() && served == Ok(()));
+    let answers = b"- fault TooLong\n- fault NotAscii\n- fault BadTag\n";
+    have_no_request(&rt, no_trees(&rt), &lines, answers.as_slice());
+}
+
+/// A commit that is answered, and a transaction that stays open.
+static COMMITTED: &[u8] =
+    b"a begin\nb call 1.0 0 inc:1\nc call 1.0 1 inc:1\nd begin\ne commit 1.0\n";
+
+/// That its answered commit is found behind a crash.
+fn is_found<S: Alter + Reopen + Drop>(rt: &(impl Abort + AllocGlobal), trees: S)
+    requires { IsClean (S.Store.view trees) → IsTrue (S.Store.view trees).is_numbered }
+{
+    let (_, served, store) = told(rt, opened(rt, trees), COMMITTED, 4096, 10_000);
+    match served {
+        Ok(()) => has(rt, restarted(rt, store), 6, 1),
+        Err(_) => {
+            let _ = store.into_trees();
+            panic!(rt; "it stopped");
+        }
+    }
 }
 
 /// What was answered is found behind a crash, and what was open is aborted.
 #[test]
 fn an_answered_commit_is_found(rt: HostRuntime) {
-    let lines = b"a begin\nb call 1.0 0 inc:1\nc call 1.0 1 inc:1\nd begin\ne commit 1.0\n";
-    let store = opened(&rt, no_trees(&rt));
-    match told(&rt, store, lines.as_slice(), 4096, 10_000) {
-        (_, Ok(()), store) => has(&rt, restarted(&rt, store), 6, 1),
-        (_, Err(_), store) => {
-            let _ = store.into_trees();
-            panic!(&rt; "it stopped");
-        }
-    }
+    is_found(&rt, no_trees(&rt));
+}
+
+/// That the client is told so many bytes of the answers.
+fn is_told_a_beginning<S: Alter + Drop>(rt: &(impl Abort + AllocGlobal), trees: S, room: usize)
+    requires { IsClean (S.Store.view trees) → IsTrue (S.Store.view trees).is_numbered }
+{
+    let (said, served, store) = told(rt, opened(rt, trees), ASKED.as_bytes(), 4096, room);
+    let _ = store.into_trees();
+    let is_beginning = ANSWERED.as_bytes().get(..room) == Some(said.as_slice());
+    assert!(rt; is_beginning && served == Err(ServeFault::Output(OutFault::Device)));
 }
 
 /// The client is told a beginning where its output stops.
 #[test]
 fn an_output_stops(rt: HostRuntime) {
-    let store = opened(&rt, no_trees(&rt));
-    let (said, served, store) = told(&rt, store, ASKED.as_bytes(), 4096, 20);
-    let _ = store.into_trees();
-    let is_beginning = said.as_slice() == &ANSWERED.as_bytes()[..20];
-    assert!(&rt; is_beginning && served == Err(ServeFault::Output(OutFault::Device)));
+    is_told_a_beginning(&rt, no_trees(&rt), 20);
+}
+
+/// What is told from the greeting to the end, where the client has asked for it.
+fn is_served<S: Alter + Drop>(rt: &(impl Abort + AllocGlobal), trees: S, lines: &[u8], end: &[u8])
+    requires { IsClean (S.Store.view trees) → IsTrue (S.Store.view trees).is_numbered }
+{
+    let alloc = rt.alloc();
+    let mut client = Client::new(output(rt, 10_000));
+    let (mut input, mut buffer) = (lines, [0; 4096]);
+    let store = opened(rt, trees);
+    let (store, served) = serve(alloc, store, &mut input, &mut buffer, &mut client);
+    let said = client.into_out().into_inner().into_inner().held;
+    let life = store.life();
+    has(rt, store, 0, 1);
+    let answers = said.strip_prefix(b"colock 1 1\n".as_slice());
+    let answers = answers.and_then(|rest| rest.strip_suffix(end));
+    let is_told = answers == Some(ANSWERED.as_bytes());
+    assert!(rt; (is_told, served, life) == (true, Ok(()), 2));
+}
+
+/// What was open is aborted, the file begins anew at the states that were kept, and then the end is told.
+#[test]
+fn a_client_is_served_to_the_end(rt: HostRuntime) {
+    is_served(&rt, no_trees(&rt), ASKED.as_bytes(), b"u ok\n");
 }

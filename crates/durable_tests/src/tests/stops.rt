@@ -1,12 +1,14 @@
 //! What is found after the disk stopped in the midst of a new epoch.
 
-ghost use Rattle.std.specs.Prelude.{IfOk, IfSome, OnOk, IsTrue};
+ghost use Rattle.std.specs.Prelude.{◌≡◌, IfSome, OnOk, IsTrue};
+ghost use Rattle.sqlite_pager.specs.Pager as below;
 ghost use Rattle.sqlite_trees.specs.View.{IsClean};
 ghost use Rattle.sqlite_store.specs.FileStore.{view};
 ghost use Rattle.sqlite_store.specs.Unopened.{AreUsable};
 ghost use Rattle.durable_store.specs.Durable.{IsDurable};
+ghost use Rattle.journal.specs.Journal.{IsJournal};
 
-use super::counters::{TWO, contents};
+use super::counters::two_counters;
 use durable_store::{Durable, open};
 use journal::{Journal, JournalError};
 use sqlite_disk::{Crash, Disk, Files, Fuse, Memory};
@@ -14,19 +16,29 @@ use sqlite_pager::{Options, PageSize, Pager};
 use sqlite_store::{FileStore, Unopened};
 use sqlite_trees::store::{Alter, Shape};
 use sqlite_value::row::Row;
-use std::alloc::{AllocError, Global};
+use std::alloc::Global;
 use std::process::Abort;
-use std::test::Fail;
-use test_support::type_texts::COUNTER;
 
 /// How far a store came before its disk stopped.
-#[derive(Clone, Copy, Debug, PartialEq, Eq, Drop)]
+#[derive(Clone, Copy)]
 enum Reached {
-    Nothing,
     /// A commit is settled.
     Commit,
     /// Another epoch has begun.
     Epoch,
+}
+
+/// Trees that are found again in their files after the machine stopped and came back.
+trait FoundAgain: Alter {
+    /// The trees that are listed there.
+    fn found_again<R: Abort + AllocGlobal>(self, rt: &R) -> Self
+        ensures { IsTrue (Self.Store.view result).is_numbered };
+}
+
+impl<D: Crash + Drop> FoundAgain for FileStore<D> {
+    fn found_again<R: Abort + AllocGlobal>(self, rt: &R) -> FileStore<D> {
+        trees_in(rt, unopened(rt, came_back(self.close())))
+    }
 }
 
 /// A pager of few pages.
@@ -37,75 +49,114 @@ fn few_pages() -> Options {
     }
 }
 
-/// The trees of new files in memory: so many calls on the log are passed on, and each one after fails. None where
-/// that were too few for new trees.
-fn trees_until(alloc: Global, calls: u64) -> Result<Option<FileStore<Fuse<Memory>>>, Fail>
-    ensures { IfOk result (λ r. IfSome r (λ it. IsTrue (view it).is_numbered)) }
+/// These files after the machine stopped and came back.
+fn came_back<D: Crash>(files: Files<D>) -> Files<D>
+    ensures log { IsTrue (D.Disk.is_usable result.log) }
+    ensures db { IsTrue (D.Disk.is_usable result.db) }
 {
-    let size = PageSize::new(512).ok_or("a page size")?;
-    let files = Files {
-        log: Fuse::new(Memory::new(alloc), calls),
-        db: Fuse::new(Memory::new(alloc), u64::MAX),
-    };
-    let pager = Pager::new(alloc, files, size, few_pages())?;
-    match Unopened::new(alloc, pager, &[])?.create() {
-        Ok(trees) => Ok(Some(trees)),
-        Err(_) => Ok(None),
-    }
-}
-
-/// The trees of these files after the machine stopped and came back.
-fn trees_after(alloc: Global, files: Files<Fuse<Memory>>) -> Result<FileStore<Fuse<Memory>>, Fail>
-    ensures { IfOk result (λ it. IsTrue (view it).is_numbered) }
-{
-    let size = PageSize::new(512).ok_or("a page size")?;
     let Files { mut log, mut db } = files;
     log.crash();
     db.crash();
-    let pager = Pager::new(alloc, Files { log, db }, size, few_pages())?;
-    trees_in(alloc, Unopened::new(alloc, pager, &[])?)
+    Files { log, db }
+}
+
+/// A pager over these files.
+fn pager_over<D: Disk + Drop>(rt: &(impl Abort + AllocGlobal), files: Files<D>) -> Pager<D>
+    ensures { below.files result ≡ (files.log, files.db) }
+{
+    let size = PageSize::new(512).expect(rt, "no page size");
+    let pager = Pager::new(rt.alloc(), files, size, few_pages()).ok();
+    pager.expect(rt, "no pager")
+}
+
+/// Files of which nothing is read yet.
+fn unopened<D: Disk + Drop>(rt: &(impl Abort + AllocGlobal), files: Files<D>) -> Unopened<D>
+    requires log { IsTrue (D.Disk.is_usable files.log) }
+    requires db { IsTrue (D.Disk.is_usable files.db) }
+    ensures { AreUsable result }
+{
+    let files = Unopened::new(rt.alloc(), pager_over(rt, files), &[]).ok();
+    files.expect(rt, "no files")
+}
+
+/// The trees of new files in memory: so many calls on the log are passed on, and each one after fails. None where
+/// that were too few for new trees.
+fn trees_until(rt: &(impl Abort + AllocGlobal), calls: u64) -> Option<FileStore<Fuse<Memory>>>
+    ensures { IfSome result (λ it. IsTrue (view it).is_numbered) }
+{
+    let files = Files {
+        log: Fuse::new(Memory::new(rt.alloc()), calls),
+        db: Fuse::new(Memory::new(rt.alloc()), u64::MAX),
+    };
+    unopened(rt, files).create().ok()
 }
 
 /// The trees that these files list.
-fn trees_in<D: Disk + Drop>(alloc: Global, files: Unopened<D>) -> Result<FileStore<D>, Fail>
+fn trees_in<D: Disk + Drop>(rt: &(impl Abort + AllocGlobal), files: Unopened<D>) -> FileStore<D>
     requires { AreUsable files }
-    ensures { IfOk result (λ it. IsTrue (view it).is_numbered) }
+    ensures { IsTrue (view result).is_numbered }
 {
     let mut files = files;
-    list_trees(alloc, &mut files)?;
-    match files.open_numbered() {
-        Ok(trees) => Ok(trees),
-        Err((error, _)) => Err(Fail::from(error)),
-    }
+    let listed = files.read_catalog().expect(rt, "no catalog");
+    list_trees(rt, &mut files, &listed);
+    files.open_numbered().ok().expect(rt, "no trees")
 }
 
-/// The files have the trees that they list.
-fn list_trees<D: Disk + Drop>(alloc: Global, files: &mut Unopened<D>) -> Result<(), Fail>
+/// The files have the trees that these rows list.
+fn list_trees<D: Disk + Drop>(
+    rt: &(impl Abort + AllocGlobal),
+    files: &mut Unopened<D>,
+    listed: &[Row],
+)
     requires { AreUsable files.old }
-    ensures { OnOk result (AreUsable files.new) }
+    ensures { AreUsable files.new }
 {
-    let listed = files.read_catalog()?;
-    let rows = without_roots(alloc, &listed)?;
-    let mut layouts = Vec::new(alloc);
-    layouts.resize(rows.len(), (Shape::Table, 0))?;
-    if files.list_schema(&rows, &layouts)? {
-        Ok(())
-    } else {
-        Err(Fail::from("another list"))
-    }
+    let rows = without_roots(rt, listed);
+    let mut layouts = Vec::new(rt.alloc());
+    layouts
+        .resize(rows.len(), (Shape::Table, 0))
+        .expect(rt, "no layouts");
+    let is_same = files.list_schema(&rows, &layouts);
+    assert!(rt; is_same.expect(rt, "no memory"));
 }
 
 /// What a file lists, without the pages where trees begin.
-fn without_roots(alloc: Global, listed: &[Row]) -> Result<Vec<Row>, AllocError> {
-    let mut rows = Vec::new(alloc);
+fn without_roots(rt: &(impl Abort + AllocGlobal), listed: &[Row]) -> Vec<Row> {
+    let mut rows = Vec::new(rt.alloc());
     for entry in listed {
-        let mut row = Row::new(alloc);
-        for column in [0, 1, 2, 3, 5] {
-            row.push(entry.get(column))?;
-        }
-        rows.push(row)?;
+        let row = without_root(rt, entry);
+        rows.push(row).ok().expect(rt, "no row");
     }
-    Ok(rows)
+    rows
+}
+
+/// One entry of them.
+fn without_root(rt: &(impl Abort + AllocGlobal), entry: &Row) -> Row {
+    let mut row = Row::new(rt.alloc());
+    for column in [0, 1, 2, 3, 5] {
+        row.push(entry.get(column)).expect(rt, "no column");
+    }
+    row
+}
+
+/// A transaction counts up at each object.
+fn counted<S: Alter>(store: &mut Durable<S>, t: u32) -> Result<(), JournalError>
+    requires { IsDurable S.Store store.old }
+    ensures { OnOk result (IsDurable S.Store store.new) }
+{
+    let _ = store.call(t, 0, b"inc:1")?;
+    let _ = store.call(t, 1, b"inc:1")?;
+    Ok(())
+}
+
+/// The same, where there is a transaction; it commits.
+fn committed<S: Alter>(store: &mut Durable<S>, t: u32) -> Result<(), JournalError>
+    requires { IsDurable S.Store store.old }
+    ensures { OnOk result (IsDurable S.Store store.new) }
+{
+    counted(store, t)?;
+    let _ = store.commit(t)?;
+    store.settle()
 }
 
 /// One transaction counts up at each object, and its commit is settled.
@@ -113,93 +164,105 @@ fn counted_once<S: Alter>(store: &mut Durable<S>) -> Result<(), JournalError>
     requires { IsDurable S.Store store.old }
     ensures { OnOk result (IsDurable S.Store store.new) }
 {
-    let Ok(t) = store.begin()? else {
-        return store.settle();
-    };
-    let _ = store.call(t, 0, b"inc:1")?;
-    let _ = store.call(t, 1, b"inc:1")?;
-    let _ = store.commit(t)?;
-    store.settle()
+    match store.begin()? {
+        Ok(t) => committed(store, t),
+        Err(_) => store.settle(),
+    }
 }
 
-/// A commit is settled and another epoch begun, until the disk stops.
-fn played<S: Alter + Drop>(rt: &(impl Abort + AllocGlobal), trees: S) -> (Reached, Option<S>)
+/// The journal of a new file of two counters, or none where the disk stopped.
+fn new_journal<S: Alter + Drop>(rt: &(impl Abort + AllocGlobal), trees: S) -> Option<Journal<S>>
+    requires { IsClean (S.Store.view trees) → IsTrue (S.Store.view trees).is_numbered }
+    ensures { IfSome result (λ j. IsJournal S.Store j) }
+{
+    let said = two_counters(rt);
+    match Journal::create(rt.alloc(), trees, &said) {
+        Ok(journal) => Some(journal),
+        Err(_) => None,
+    }
+}
+
+/// Another epoch is begun, or the disk stops.
+fn renewed<S: Alter>(alloc: Global, store: Durable<S>) -> (Reached, S)
+    requires { IsDurable S.Store store }
+{
+    let (store, told) = store.renew(alloc);
+    let reached = match told {
+        Ok(Ok(())) => Reached::Epoch,
+        _ => Reached::Commit,
+    };
+    (reached, store.into_trees())
+}
+
+/// A commit is settled and another epoch begun, until the disk stops. None where it stops before the commit is settled.
+fn played<S: Alter + Drop>(rt: &(impl Abort + AllocGlobal), trees: S) -> Option<(Reached, S)>
     requires { IsClean (S.Store.view trees) → IsTrue (S.Store.view trees).is_numbered }
 {
-    let said = contents(rt, COUNTER, &TWO, 0);
-    let Ok(journal) = Journal::create(rt.alloc(), trees, &said) else {
-        return (Reached::Nothing, None);
-    };
-    let Ok(mut store) = open(rt.alloc(), journal.into_store()) else {
-        return (Reached::Nothing, None);
-    };
+    let journal = new_journal(rt, trees)?;
+    let mut store = open(rt.alloc(), journal.into_store()).ok()?;
     if counted_once(&mut store).is_err() {
-        return (Reached::Nothing, Some(store.into_trees()));
+        let _ = store.into_trees();
+        return None;
     }
-    match store.renew(rt.alloc()) {
-        (store, Ok(Ok(()))) => (Reached::Epoch, Some(store.into_trees())),
-        (store, _) => (Reached::Commit, Some(store.into_trees())),
-    }
+    Some(renewed(rt.alloc(), store))
 }
 
 /// How many events are found, where both objects have counted up.
-fn events_found<S: Alter + Drop>(rt: &(impl Abort + AllocGlobal), trees: S) -> Option<u32>
+fn events_found<S: Alter + Drop>(rt: &(impl Abort + AllocGlobal), trees: S) -> u32
     requires { IsClean (S.Store.view trees) → IsTrue (S.Store.view trees).is_numbered }
 {
-    let Ok(store) = open(rt.alloc(), trees) else {
-        return None;
-    };
-    let has_counted = store.store().kept(0) == Some(1) && store.store().kept(1) == Some(1);
+    let store = open(rt.alloc(), trees).ok();
+    let store = store.expect(rt, "no store is found");
     let events = store.store().event_count();
+    let has_counted = store.store().kept(0) == Some(1) && store.store().kept(1) == Some(1);
     let _ = store.into_trees();
-    has_counted.then_some(events)
+    assert!(rt; has_counted);
+    events
 }
 
-/// How far a store comes whose disk stops after so many calls, and how many events are found behind that.
-fn found_after(
+/// How far a store in these trees comes until the disk stops, and how many events are found behind that.
+fn found_in<S: FoundAgain + Drop>(
     rt: &(impl Abort + AllocGlobal),
-    calls: u64,
-) -> Result<Option<(Reached, u32)>, Fail> {
-    let Some(trees) = trees_until(rt.alloc(), calls)? else {
-        return Ok(None);
-    };
-    match played(rt, trees) {
-        (Reached::Nothing, _) | (_, None) => Ok(None),
-        (reached, Some(trees)) => {
-            let trees = trees_after(rt.alloc(), trees.close())?;
-            let events = events_found(rt, trees).ok_or("no store is found")?;
-            Ok(Some((reached, events)))
-        }
-    }
+    trees: S,
+) -> Option<(Reached, u32)>
+    requires { IsClean (S.Store.view trees) → IsTrue (S.Store.view trees).is_numbered }
+{
+    let (reached, trees) = played(rt, trees)?;
+    Some((reached, events_found(rt, trees.found_again(rt))))
+}
+
+/// The same of a store whose disk stops after so many calls.
+fn found_after(rt: &(impl Abort + AllocGlobal), calls: u64) -> Option<(Reached, u32)> {
+    found_in(rt, trees_until(rt, calls)?)
 }
 
 /// The greatest number of calls, below 1,024, behind which no commit is settled.
-fn calls_too_few(rt: &(impl Abort + AllocGlobal)) -> Result<u64, Fail> {
+fn calls_too_few(rt: &(impl Abort + AllocGlobal)) -> u64 {
     let mut few = 0u64;
     for step in [512u64, 256, 128, 64, 32, 16, 8, 4, 2, 1] {
-        if found_after(rt, few | step)?.is_none() {
+        if found_after(rt, few | step).is_none() {
             few |= step;
         }
     }
-    Ok(few)
+    few
+}
+
+/// How many stops behind these calls leave the old file or the new one, until another epoch has begun.
+fn stops_behind(rt: &(impl Abort + AllocGlobal), few: u64) -> Option<u32> {
+    let mut stopped = 0u32;
+    for calls in few.saturating_add(1)..few.saturating_add(100) {
+        match found_after(rt, calls) {
+            Some((Reached::Commit, 4 | 0)) => stopped = stopped.saturating_add(1),
+            Some((Reached::Epoch, 0)) => return Some(stopped),
+            _ => panic!(rt; "neither the old file nor the new one"),
+        }
+    }
+    None
 }
 
 /// Wherever the disk stops, the old file is found or the new one; and the new one where the call had answered.
 #[test]
-fn a_stop_in_a_new_epoch_leaves_one_of_both(rt: HostRuntime) -> Result<(), Fail> {
-    let few = calls_too_few(&rt)?;
-    let mut stopped = 0u32;
-    let mut has_begun = false;
-    for calls in few.saturating_add(1)..few.saturating_add(100) {
-        match found_after(&rt, calls)? {
-            Some((Reached::Commit, 4 | 0)) => stopped = stopped.saturating_add(1),
-            Some((Reached::Epoch, 0)) => {
-                has_begun = true;
-                break;
-            }
-            _ => panic!(rt; "neither the old file nor the new one"),
-        }
-    }
-    assert!(rt; stopped > 3 && has_begun);
-    Ok(())
+fn a_stop_in_a_new_epoch_leaves_one_of_both(rt: HostRuntime) {
+    let few = calls_too_few(&rt);
+    assert!(rt; stops_behind(&rt, few) > Some(3));
 }

@@ -79,12 +79,10 @@ pub fn jobs_of(rt: &(impl Abort + AllocGlobal), text: &str, lists: u8) -> Vec<Ve
 /// That the receipts are the events of worker w from a place of a history on, in order.
 fn are_receipts(rt: &impl Abort, history: &[Event], from: usize, w: usize, receipts: &[Receipt]) {
     let mut told = receipts.iter();
-    for (position, event) in history.iter().enumerate().skip(from) {
+    for position in from..history.len() {
+        let event = history[position];
         if usize::from(event.worker) == w {
-            let receipt = Receipt {
-                position,
-                event: *event,
-            };
+            let receipt = Receipt { position, event };
             assert!(rt; told.next() == Some(&receipt));
         }
     }
