@@ -22,7 +22,7 @@ use Rattle.serving.proofs.Telling.{part-of-whole}
 
 -- ---- known bytes
 
-part-then : (a b c : Option (List ℕ)) (x y : List ℕ) → Appends a b x → AppendsPart b c y → AppendsPart a c (x ++ y)
+pub part-then : (a b c : Option (List ℕ)) (x y : List ℕ) → Appends a b x → AppendsPart b c y → AppendsPart a c (x ++ y)
 part-then a b c x y first (n, within, second) =
     (length x + n, omega (arith, length-append x y), subst (Appends a c) (sym (take-append-add x y n)) (Appends-trans a b c x (take n y) first second))
 

@@ -4,3 +4,4 @@ pub mod Serving
 pub mod Telling
 pub mod Listed
 pub mod Groups
+pub mod EndLemmas

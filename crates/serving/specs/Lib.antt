@@ -7,3 +7,5 @@ pub mod Lines
 pub mod Served
 pub mod Serving
 pub mod Group
+pub mod Ending
+pub mod Whole

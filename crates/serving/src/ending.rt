@@ -1,0 +1,89 @@
+//! How serving ends.
+
+ghost use Rattle.std.specs.Prelude.{◌≡◌, [], None, OnErr, OnOk};
+ghost use Rattle.std.specs.Result.{result_err};
+ghost use Rattle.std.specs.Io.KnownBytes.{Appends};
+ghost use Rattle.store.specs.Renews.{Renews};
+ghost use Rattle.outputs.specs.Gathered.{taken_by, under, waiting};
+ghost use Rattle.journal.specs.Journal.{Clean, durable, written};
+ghost use Rattle.durable_store.specs.Durable.{IsDurable};
+ghost use Rattle.durable_store.specs.Epochs.{renewed};
+ghost use Rattle.serving.specs.Told.{AppendsPart, answers_text};
+ghost use Rattle.serving.specs.Ending.{EndsEpoch, LeavesEnd, LeavesRenewed, end_answers};
+
+use crate::answer_line::{AnswerLine, Answered};
+use crate::client::Client;
+use crate::serve_fault::ServeFault;
+use durable_store::Durable;
+use outputs::{Out, OutFault};
+use request_text::Asked;
+use sqlite_trees::store::Alter;
+use std::alloc::Global;
+
+/// Aborts what is open and begins another epoch, all of it durable.
+///
+/// # Errors
+///
+/// The file failed, or memory was refused: who opens it again finds what was open aborted.
+pub(crate) fn end_epoch<S: Alter>(
+    alloc: Global,
+    mut store: Durable<S>,
+) -> (Durable<S>, Result<(), ServeFault>)
+    requires { IsDurable S.Store store }
+    ensures sound { OnOk result.1 (IsDurable S.Store result.0) }
+    ensures ends { OnOk result.1 (EndsEpoch S.Store store result.0) }
+    ensures clean { Clean S.Store result.0.journal → Clean S.Store store.journal }
+    ensures crash { LeavesEnd S.Store store result.0 }
+{
+    match store.abort_all() {
+        Ok(()) => renew(alloc, store),
+        Err(error) => (store, Err(ServeFault::Journal(error))),
+    }
+}
+
+/// Begins another epoch, where nothing is open.
+fn renew<S: Alter>(alloc: Global, store: Durable<S>) -> (Durable<S>, Result<(), ServeFault>)
+    requires { IsDurable S.Store store }
+    ensures sound { OnOk result.1 (IsDurable S.Store result.0) }
+    ensures store { OnOk result.1 (Renews store.store result.0.store) }
+    ensures durable { OnOk result.1 (Clean S.Store result.0.journal → durable S.Store result.0.journal ≡ renewed (written S.Store store.journal) result.0.store.types) }
+    ensures clean { Clean S.Store result.0.journal → Clean S.Store store.journal }
+    ensures crash { LeavesRenewed S.Store store result.0 }
+{
+    let (store, answer) = store.renew(alloc);
+    let ended = match answer {
+        Ok(Ok(())) => Ok(()),
+        Ok(Err(_)) => Err(ServeFault::NoMemory),
+        Err(error) => Err(ServeFault::Journal(error)),
+    };
+    (store, ended)
+}
+
+impl<W: Out> Client<W> {
+    /// Tells the client that the end is there, where a line asked for it.
+    ///
+    /// # Errors
+    ///
+    /// The fault that stopped the output.
+    pub(crate) fn tell_end<S: Alter>(
+        &mut self,
+        store: &Durable<S>,
+        end: Option<Asked>,
+    ) -> Result<(), OutFault>
+        requires { W.fault (under self.old.out) ≡ None }
+        ensures told { OnOk result (Appends (taken_by W.taken self.old.out) (taken_by W.taken self.new.out) (answers_text (end_answers end))) }
+        ensures part { OnErr result (AppendsPart (taken_by W.taken self.old.out) (taken_by W.taken self.new.out) (answers_text (end_answers end))) }
+        ensures fault { W.fault (under self.new.out) ≡ result_err result }
+    {
+        match end {
+            Some(asked) => {
+                let answered = Answered {
+                    tag: asked.tag,
+                    answer: AnswerLine::Done,
+                };
+                self.tell(store, &[answered])
+            }
+            None => Ok(()),
+        }
+    }
+}
