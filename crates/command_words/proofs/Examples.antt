@@ -1,10 +1,10 @@
 -- What words ask for, worked by hand, and the texts.
-use Rattle.std.proofs.Common.{◌≡◌, ◌≢◌, ◌++◌, arith, refl, inr, ℕ, [], ◌∷◌}
-use Rattle.std.specs.Prelude.{codes, Some, None}
+use Rattle.std.proofs.Common.{◌≡◌, ◌≢◌, ◌++◌, ap, arith, refl, sym, inr, ℕ, List, [], ◌∷◌}
+use Rattle.std.specs.Prelude.{codes, slice_index, Some, None}
 use Rattle.type_table.specs.declared.kind.Kind.TheVariants.{Undo}
 use Rattle.command_words.specs.Help.{EndsLine, text_of_topic, version_text}
-use Rattle.command_words.specs.Lines.{Audit, IsClear, IsGiven, IsNumber, IsWholeWork, Line, SaysAudit, Setting, Work, apart, dashes, done, following, joined, operand, seed, tries, values_of, workers}
-use Rattle.command_words.specs.Words.{AskFor, audit, order, check, make, run, work, help, version}
+use Rattle.command_words.specs.Lines.{Audit, IsClear, IsGiven, IsNumber, IsWholeWork, Line, SaysAudit, Setting, Work, apart, dashes, done, following, joined, line_words, operand, seed, tries, values_of, workers}
+use Rattle.command_words.specs.Words.{AskFor, Text, audit, audit_database, order, check, create, history, make, run, serve, work, help, version}
 use Rattle.command_words.specs.declared.task.Topic.{Topic}
 use Rattle.command_words.specs.declared.task.Topic.TheVariants as topic
 
@@ -25,6 +25,57 @@ runs = (omega arith, refl)
 -- a run without a type is none
 no_types : AskFor (codes "run" ∷ codes "a.script" ∷ []) (order (run (codes "a.script") [])) → ⊥
 no_types (some, are) = omega (arith, some)
+
+-- a new store over one type, where the first `--` is none of the operands
+creates : AskFor (codes "create" ∷ codes "--" ∷ codes "-a.db" ∷ codes "a.objects" ∷ codes "a.type" ∷ [])
+    (order (create (codes "-a.db") (codes "a.objects") (codes "a.type" ∷ [])))
+creates = (omega arith, refl)
+
+-- a new store without a type is none
+no_types_of_new : AskFor (codes "create" ∷ codes "a.db" ∷ codes "a.objects" ∷ []) (order (create (codes "a.db") (codes "a.objects") [])) → ⊥
+no_types_of_new (some, are) = omega (arith, some)
+
+-- a store is served, or its history written, by its path alone
+serves : AskFor (codes "serve" ∷ codes "a.db" ∷ []) (order (serve (codes "a.db")))
+serves = (tt, refl)
+
+writes : AskFor (codes "history" ∷ codes "a.db" ∷ []) (order (history (codes "a.db")))
+writes = (tt, refl)
+
+-- it is audited by three words, of which the last may be any
+audits_store : AskFor (codes "audit" ∷ codes "--database" ∷ codes "--then" ∷ []) (audit_database (codes "--then"))
+audits_store = refl
+
+-- and by no other words
+in_one_word : (path : Text) → AskFor (codes "audit" ∷ codes "--database=a.db" ∷ []) (audit_database path) → ⊥
+in_one_word path are = cc
+
+-- words of one form of `audit` are never those of the other: no option of a line is called so, by the first letter of its name
+abbrev letter : List Text → ℕ
+letter [] = 0
+letter (word ∷ rest) = slice_index word 2
+
+no_histories : (a : Audit) (path : Text) → AskFor (codes "audit" ∷ codes "--database" ∷ path ∷ []) (audit a) → ⊥
+no_histories a path (whole, (line, are, says)) = by_line line (ap behind are) says.clear
+  where
+    behind : List Text → List Text
+    behind [] = []
+    behind (word ∷ rest) = rest
+
+    by_line : (line : Line) → codes "--database" ∷ path ∷ [] ≡ line_words line → IsClear line → ⊥
+    by_line done is clear = omega (arith, ap letter is)
+    by_line (dashes operands) is clear = omega (arith, ap letter is)
+    by_line (operand word rest) is clear =
+        let word_is : codes "--database" ≡ word = cc in
+        clear.0 (ap (λ (w : Text). slice_index w 0) (sym word_is)) (ap (λ (w : Text). slice_index w 1) (sym word_is))
+    by_line (apart workers text rest) is clear = omega (arith, ap letter is)
+    by_line (apart tries text rest) is clear = omega (arith, ap letter is)
+    by_line (apart seed text rest) is clear = omega (arith, ap letter is)
+    by_line (apart following text rest) is clear = omega (arith, ap letter is)
+    by_line (joined workers text rest) is clear = omega (arith, ap letter is)
+    by_line (joined tries text rest) is clear = omega (arith, ap letter is)
+    by_line (joined seed text rest) is clear = omega (arith, ap letter is)
+    by_line (joined following text rest) is clear = omega (arith, ap letter is)
 
 -- the histories that follow are told from the types by `--then`, and may come in either form
 abbrev audit_line : Line
@@ -137,3 +188,6 @@ whole_lines topic.Run = refl
 whole_lines topic.Audit = refl
 whole_lines topic.Work = refl
 whole_lines topic.Stress = refl
+whole_lines topic.Create = refl
+whole_lines topic.Serve = refl
+whole_lines topic.History = refl

@@ -11,6 +11,8 @@ pub mod LineEnds
 pub mod LineAnswers
 pub mod LinePlain
 pub mod StoreLemmas
+pub mod FileLemmas
+pub mod CreateLemmas
 pub mod SubcommandLemmas
 pub mod WorkLeaf
 pub mod WorkAnswers

@@ -1,5 +1,5 @@
 -- What the clauses of `clap` say of the program's command.
-use Rattle.std.proofs.Common.{◌≡◌, ◌∙◌, ◌⊎◌, ap, refl, subst, sym, true, inl, inr, ⊎_elim, ℕ, List, [], ◌∷◌, Bor, IfOk, Result, Ok, Err}
+use Rattle.std.proofs.Common.{◌≡◌, ◌≢◌, ◌∙◌, ◌⊎◌, ap, refl, subst, sym, true, inl, inr, ⊎_elim, ℕ, List, [], ◌∷◌, Bor, IfOk, Result, Ok, Err}
 use Rattle.std.specs.Prelude.{codes, unwrap_or, Some, None, Option, IsSome, IfSome, option_map, ◌<◌, ◌^◌}
 use Rattle.clap.specs.Matches.{ReadsOne, first_value, found_of, matched_of, one_text, raw_values}
 use Rattle.clap.specs.Walk.{Row, all_of, first_of, rows_of, texts}
@@ -10,10 +10,12 @@ use Rattle.clap.specs.Faults.{fault_of, is_simple_and_free}
 use Rattle.clap.specs.declared.error.Error.{Error}
 use Rattle.clap.specs.declared.parser.matches.ArgMatches.{ArgMatches}
 use Rattle.clap.specs.declared.builder.value_parser.ValueParser.{ValueParser}
-use Rattle.command_words.specs.Program.{HasNumber, HasRows, HasStoreRows, HasWork, Parses, ReadsKinds, entry_of, program, store_rows}
-use Rattle.command_words.specs.Words.{Order, OnUsage, Text}
+use Rattle.command_words.specs.Program.{HasNumber, HasRows, HasStoreRows, HasWork, Parses, ReadsKinds, entry_of, program, row, store_rows}
+use Rattle.command_words.specs.Words.{Order, OnUsage, Text, help_words}
 use Rattle.command_words.specs.Lines.{Audit, Work}
 use Rattle.command_words.specs.Words as asked
+use Rattle.command_words.specs.declared.task.Topic.{Topic}
+use Rattle.command_words.specs.declared.task.Topic.TheVariants as topic
 use Rattle.command_words.specs.declared.task.WordFault.{WordFault}
 use Rattle.command_words.proofs.NumberLemmas.{Gives, number_read}
 use Rattle.command_words.specs.declared.task.WordFault.TheVariants.{Usage, NoMemory}
@@ -89,6 +91,23 @@ store_read values path types are = subst (λ (rows : List Row). HasStoreRows row
     listed [] = record { path = refl; types = refl }
     listed (type ∷ types) = record { path = refl; types = refl }
 
+-- and behind the path of a file that is to be made
+pub create_read : (values : ArgMatches) (database objects : Text) (types : List Text) → HasRows values (asked.create database objects types)
+    → HasStoreRows (rows_of (found_of values)) objects types
+create_read values database objects types are =
+    subst (λ (rows : List Row). HasStoreRows rows objects types) (sym are) (listed types)
+  where
+    listed : (types : List Text) → HasStoreRows (row (codes "database") database ∷ store_rows objects types) objects types
+    listed [] = record { path = refl; types = refl }
+    listed (type ∷ types) = record { path = refl; types = refl }
+
+-- what is to be made, by its parts
+pub create_is : (database objects : Text) (types : List Text) (given_database given_objects : Text) (given_types : List Text)
+    → given_database ≡ database → given_objects ≡ objects → given_types ≡ types
+    → asked.order (asked.create given_database given_objects given_types) ≡ asked.order (asked.create database objects types)
+create_is database objects types given_database given_objects given_types database_is objects_are types_are =
+    rw (database_is, objects_are, types_are) refl
+
 -- histories that are to be audited, by their parts
 pub audit_is : (a : Audit) (history : Text) (later types : List Text) → history ≡ a.history → later ≡ a.later → types ≡ a.types
     → asked.audit (record { history = history; later = later; types = types }) ≡ asked.audit a
@@ -130,3 +149,19 @@ seed_is values w r seed seeded has reads is = by_seed w.seed seeded has.whole.se
 pub usage_of : (fault : WordFault) (M P : Type 0) → M ⊎ P → (M → fault ≡ NoMemory) → OnUsage fault P
 usage_of NoMemory M P either memory = tt
 usage_of (Usage text) M P either memory = ⊎_elim (λ m. absurd (cc (memory m))) (λ p. p) either
+
+-- ---- words that aren't left to `clap`
+
+-- words that are neither `help` nor `help` and a name ask for no text of help
+pub no_topic : (words : List Text) → words ≢ codes "help" ∷ [] → ((name : Text) → words ≢ codes "help" ∷ name ∷ []) → (topic : Topic) → words ≢ help_words topic
+no_topic words alone named topic.Program are = alone are
+no_topic words alone named topic.Check are = named _ are
+no_topic words alone named topic.Make are = named _ are
+no_topic words alone named topic.Tables are = named _ are
+no_topic words alone named topic.Run are = named _ are
+no_topic words alone named topic.Audit are = named _ are
+no_topic words alone named topic.Work are = named _ are
+no_topic words alone named topic.Stress are = named _ are
+no_topic words alone named topic.Create are = named _ are
+no_topic words alone named topic.Serve are = named _ are
+no_topic words alone named topic.History are = named _ are

@@ -17,12 +17,12 @@ use Rattle.clap.specs.declared.parser.matches.ArgMatches.{ArgMatches}
 use Rattle.clap.proofs.FaultLemmas.{stopped_fault}
 use Rattle.clap.proofs.OnLiterals.{clap_on_literals}
 use Rattle.command_words.specs.Program.{Asks, IsEntryOf, Parses, kind_words, program}
-use Rattle.command_words.specs.Words.{AreFor, AreForNoText, AreNoTask, AskFor, Asked, AsksPlainly, IsPlainAudit, IsPlainOrder, IsPlainWork, Order, Text, without_dashes, order_words}
+use Rattle.command_words.specs.Words.{AreFor, AreLeftToClap, AreNoTask, AskFor, Asked, AsksPlainly, IsPlainAudit, IsPlainOrder, IsPlainWork, Order, Text, without_dashes, order_words}
 use Rattle.command_words.specs.Lines.{AreAuditWords, AreWorkWords, Audit, Work, line_words, work_name}
 use Rattle.command_words.specs.Words as asked
 use Rattle.command_words.proofs.AuditLemmas.{audit_answered, audit_leaf, audit_passes}
 use Rattle.command_words.proofs.OptionLemmas.{RefusesOptions, by_test, never, no_option, or_else_none, refuses}
-use Rattle.command_words.proofs.SubcommandLemmas.{Command, check, command_of, leaf, make, name_of, operands_of, plain_words, run, tables, words_answered}
+use Rattle.command_words.proofs.SubcommandLemmas.{Command, check, command_of, create, history, leaf, make, name_of, operands_of, plain_words, run, serve, tables, words_answered}
 use Rattle.command_words.proofs.WorkAnswers.{work_answered}
 use Rattle.command_words.proofs.WorkLeaf.{work_leaf}
 use Rattle.command_words.proofs.WorkPlain.{work_passes}
@@ -88,14 +88,17 @@ record IsNoName (word : Text) : Type 0 where
   pub audit : bytes_eq (codes "audit") word ≡ false
   pub work : bytes_eq (codes "work") word ≡ false
   pub stress : bytes_eq (codes "stress") word ≡ false
+  pub create : bytes_eq (codes "create") word ≡ false
+  pub serve : bytes_eq (codes "serve") word ≡ false
+  pub history : bytes_eq (codes "history") word ≡ false
 
 -- a first word that names no subcommand is refused
 other_first : (listed : Bor (List (Bor Text))) (word : Text) → bytes_eq word (codes "--") ≡ false → IsNoName word
     → turn_fault (top_of listed) (names listed) (walk_from nothing_held) word ≡ [] → ⊥
 other_first listed word no_dashes other_names none = by_test (bytes_eq (codes "help") word)
-    (λ helps. never DisplayHelp (InvalidSubcommand ∷ []) (simp (other_names.check, other_names.make, other_names.tables, other_names.run, other_names.audit, other_names.work, other_names.stress, helps) at none))
+    (λ helps. never DisplayHelp (InvalidSubcommand ∷ []) (simp (other_names.check, other_names.make, other_names.tables, other_names.run, other_names.audit, other_names.work, other_names.stress, other_names.create, other_names.serve, other_names.history, helps) at none))
     (λ other.
-    let parts = or_else_none _ _ (simp (other_names.check, other_names.make, other_names.tables, other_names.run, other_names.audit, other_names.work, other_names.stress, other, no_dashes) at none) in
+    let parts = or_else_none _ _ (simp (other_names.check, other_names.make, other_names.tables, other_names.run, other_names.audit, other_names.work, other_names.stress, other_names.create, other_names.serve, other_names.history, other, no_dashes) at none) in
     let met = no_option (top_of listed).rules (top_of listed).args_override_self (top_refuses listed) idle (λ _ _. refl) [] None word parts.0 in
     never UnknownArgument (InvalidSubcommand ∷ []) (simp met at parts.1))
 
@@ -113,7 +116,21 @@ named_or_not word =
     (λ no_run. by_test (bytes_eq (codes "audit") word) (λ is. inl (auditing, same_text (codes "audit") word (sym is)))
     (λ no_audit. by_test (bytes_eq (codes "work") word) (λ is. inl (working false, same_text (codes "work") word (sym is)))
     (λ no_work. by_test (bytes_eq (codes "stress") word) (λ is. inl (working true, same_text (codes "stress") word (sym is)))
-    (λ no_stress. inr (record { check = no_check; make = no_make; tables = no_tables; run = no_run; audit = no_audit; work = no_work; stress = no_stress }))))))))
+    (λ no_stress. by_test (bytes_eq (codes "create") word) (λ is. inl (plain create, same_text (codes "create") word (sym is)))
+    (λ no_create. by_test (bytes_eq (codes "serve") word) (λ is. inl (plain serve, same_text (codes "serve") word (sym is)))
+    (λ no_serve. by_test (bytes_eq (codes "history") word) (λ is. inl (plain history, same_text (codes "history") word (sym is)))
+    (λ no_history. inr (record {
+      check = no_check;
+      make = no_make;
+      tables = no_tables;
+      run = no_run;
+      audit = no_audit;
+      work = no_work;
+      stress = no_stress;
+      create = no_create;
+      serve = no_serve;
+      history = no_history;
+    })))))))))))
 
 -- the first word is the name of a subcommand
 first_word : (listed : Bor (List (Bor Text))) (word : Text) (rest : List Text) → fault_of (app listed) (word ∷ rest) ≡ [] → (sub : Sub) × (sub_name sub ≡ word)
@@ -145,6 +162,9 @@ command_walk listed (plain check) rest = stopped_walk (top_of listed).rules (nam
 command_walk listed (plain make) rest = stopped_walk (top_of listed).rules (names listed) (walk_from nothing_held) (codes "make") [] rest
 command_walk listed (plain tables) rest = stopped_walk (top_of listed).rules (names listed) (walk_from nothing_held) (codes "tables") [] rest
 command_walk listed (plain run) rest = stopped_walk (top_of listed).rules (names listed) (walk_from nothing_held) (codes "run") [] rest
+command_walk listed (plain create) rest = stopped_walk (top_of listed).rules (names listed) (walk_from nothing_held) (codes "create") [] rest
+command_walk listed (plain serve) rest = stopped_walk (top_of listed).rules (names listed) (walk_from nothing_held) (codes "serve") [] rest
+command_walk listed (plain history) rest = stopped_walk (top_of listed).rules (names listed) (walk_from nothing_held) (codes "history") [] rest
 command_walk listed auditing rest = stopped_walk (top_of listed).rules (names listed) (walk_from nothing_held) (codes "audit") [] rest
 command_walk listed (working false) rest = stopped_walk (top_of listed).rules (names listed) (walk_from nothing_held) (codes "work") [] rest
 command_walk listed (working true) rest = stopped_walk (top_of listed).rules (names listed) (walk_from nothing_held) (codes "stress") [] rest
@@ -156,6 +176,9 @@ command_entered listed (plain check) rest = refl
 command_entered listed (plain make) rest = refl
 command_entered listed (plain tables) rest = refl
 command_entered listed (plain run) rest = refl
+command_entered listed (plain create) rest = refl
+command_entered listed (plain serve) rest = refl
+command_entered listed (plain history) rest = refl
 command_entered listed auditing rest = refl
 command_entered listed (working false) rest = refl
 command_entered listed (working true) rest = refl
@@ -199,6 +222,15 @@ only_below listed (plain tables) rest =
 only_below listed (plain run) rest =
     ap (λ (k : Kinds). or_else k (or_else (below listed (plain run) rest) [])) (stopped_fault (top_of listed) (names listed) (walk_from nothing_held) (codes "run", []) rest)
     ∙ or_else-nil (below listed (plain run) rest)
+only_below listed (plain create) rest =
+    ap (λ (k : Kinds). or_else k (or_else (below listed (plain create) rest) [])) (stopped_fault (top_of listed) (names listed) (walk_from nothing_held) (codes "create", []) rest)
+    ∙ or_else-nil (below listed (plain create) rest)
+only_below listed (plain serve) rest =
+    ap (λ (k : Kinds). or_else k (or_else (below listed (plain serve) rest) [])) (stopped_fault (top_of listed) (names listed) (walk_from nothing_held) (codes "serve", []) rest)
+    ∙ or_else-nil (below listed (plain serve) rest)
+only_below listed (plain history) rest =
+    ap (λ (k : Kinds). or_else k (or_else (below listed (plain history) rest) [])) (stopped_fault (top_of listed) (names listed) (walk_from nothing_held) (codes "history", []) rest)
+    ∙ or_else-nil (below listed (plain history) rest)
 only_below listed auditing rest =
     ap (λ (k : Kinds). or_else k (or_else (below listed auditing rest) [])) (stopped_fault (top_of listed) (names listed) (walk_from nothing_held) (codes "audit", []) rest)
     ∙ or_else-nil (below listed auditing rest)
@@ -228,6 +260,9 @@ no_dashes_first check rest = refl
 no_dashes_first make rest = refl
 no_dashes_first tables rest = refl
 no_dashes_first run rest = refl
+no_dashes_first create rest = refl
+no_dashes_first serve rest = refl
+no_dashes_first history rest = refl
 
 -- the name of what workers are to do is that of its command
 named_by : (seed : Option ℕ) → work_title (is_some seed) ≡ work_name seed
@@ -280,6 +315,9 @@ named_first (asked.check kind path) = refl
 named_first (asked.make family size items) = refl
 named_first (asked.tables path) = refl
 named_first (asked.run script types) = refl
+named_first (asked.create database objects types) = refl
+named_first (asked.serve path) = refl
+named_first (asked.history path) = refl
 
 -- plain words come to no fault
 plain_taken : (listed : Bor (List (Bor Text))) → texts listed.now ≡ kind_words → (a : Order) → IsPlainOrder a → fault_of (app listed) (order_words a) ≡ []
@@ -310,18 +348,19 @@ matches_asked words m p =
     (gives.asked, subst (λ (entry : Option (Text × List Row)). IsEntryOf entry gives.asked) (sym same) gives.entry, gives.asks)
 
 -- words that come to no fault, where they are an order's, an audit's or say what workers are to do
-asked_passes : (listed : Bor (List (Bor Text))) → texts listed.now ≡ kind_words → (words : List Text) → AreForNoText words → (asked : Asked) → AsksPlainly asked → AreFor words asked
+asked_passes : (listed : Bor (List (Bor Text))) → texts listed.now ≡ kind_words → (words : List Text) → AreLeftToClap words → (asked : Asked) → AsksPlainly asked → AreFor words asked
     → fault_of (app listed) words ≡ []
-asked_passes listed are words textless (asked.order o) well are_for = ap (fault_of (app listed)) are_for ∙ plain_taken listed are o well
-asked_passes listed are words textless (asked.audit a) well are_for = audit_taken listed a words well are_for
-asked_passes listed are words textless (asked.work w) well are_for = work_taken listed w words well are_for
-asked_passes listed are words textless (asked.help topic) well are_for = absurd (textless.0 topic are_for)
-asked_passes listed are words textless asked.version well are_for = absurd (textless.1 are_for)
+asked_passes listed are words left (asked.order o) well are_for = ap (fault_of (app listed)) are_for ∙ plain_taken listed are o well
+asked_passes listed are words left (asked.audit a) well are_for = audit_taken listed a words well are_for
+asked_passes listed are words left (asked.work w) well are_for = work_taken listed w words well are_for
+asked_passes listed are words left (asked.audit_database path) well are_for = absurd (left.1 path are_for)
+asked_passes listed are words left (asked.help topic) well are_for = absurd (left.0 topic are_for)
+asked_passes listed are words left asked.version well are_for = absurd (left.2 are_for)
 
 -- an error comes of want of memory, or the words are no task's
-pub error_asked : (words : List Text) → AreForNoText words → (e : Error) → Parses words (Err e) → (kind_of e ≡ OutOfMemory) ⊎ AreNoTask words
-error_asked words textless e p = ⊎_elim (λ (memory : kind_of e ≡ OutOfMemory). inl memory) (λ q. inr (λ a well are_for.
+pub error_asked : (words : List Text) → AreLeftToClap words → (e : Error) → Parses words (Err e) → (kind_of e ≡ OutOfMemory) ⊎ AreNoTask words
+error_asked words left e p = ⊎_elim (λ (memory : kind_of e ≡ OutOfMemory). inl memory) (λ q. inr (λ a well are_for.
     let listed = q.1.0 in
     let P : ValueParser → Type 0 = λ k. fault_of (program k) words ≡ [] in
-    let none : fault_of (program (parser.Names listed)) words ≡ [] = asked_passes listed q.1.2 words textless a well are_for in
+    let none : fault_of (program (parser.Names listed)) words ≡ [] = asked_passes listed q.1.2 words left a well are_for in
     subst (IsAmong (kind_of e)) (subst P (sym q.1.1) none) q.2)) p

@@ -15,12 +15,14 @@ use Rattle.clap.proofs.WalkLemmas.{list_any-map}
 use Rattle.type_table.specs.Kind.{kind_word}
 use Rattle.type_table.specs.declared.kind.Kind.{Kind}
 use Rattle.type_table.specs.declared.kind.Kind.TheVariants.{Undo, Intentions}
-use Rattle.command_words.specs.Program.{check_app, entry_of, item_rows, kind_words, make_app, row, store_rows, tables_app}
+use Rattle.command_words.specs.Program.{check_app, entry_of, item_rows, kind_words, make_app, row, store_rows}
 use Rattle.command_words.specs.Words.{Order, IsPlainOrder, HasPlainWords, IsPlain, IsWhole, Text, without_dashes, order_words}
 use Rattle.command_words.specs.Words as asked
 use Rattle.command_words.proofs.Leaves.{last_added, last_joined, last_of, leaf_of, waits}
 use Rattle.command_words.proofs.OptionLemmas.{by_test, holding, never, or_else_none, refuses}
 use Rattle.command_words.proofs.LeafLemmas.{IsBetween, Passes, Place, Takes, at, both_none, end_of, ends, faults, held_at, operand_fault, operands_taken, plain_taken, start}
+use Rattle.command_words.proofs.FileLemmas.{AreFileWords, FileTook, file_answers, file_leaf, file_passes, file_place, file_takes}
+use Rattle.command_words.proofs.CreateLemmas.{AreCreateWords, CreateTook, create_answers, create_leaf, create_passes, create_place, create_takes}
 use Rattle.command_words.proofs.StoreLemmas.{AreStoreWords, StoreTook, store_answers, store_leaf, store_passes, store_place, store_takes}
 
 -- ---- `check KIND FILE`
@@ -77,55 +79,6 @@ check_takes listed = record {
   first = tt;
   next = check_next listed;
   moves = check_moves listed;
-}
-
--- ---- `tables FILE`
-
--- `tables` as it is built
-abbrev pub tables_leaf : Bor (List (Bor Text)) → Shape
-tables_leaf listed = leaf_of (parser.Names listed) tables_app
-
--- where its walk stands after these operands
-abbrev pub tables_place : List Text → Place
-tables_place [] = start
-tables_place (path ∷ rest) = record { rows = []; pending = waits (codes "path") path; position = 2; waiting = idle }
-
--- at most one operand
-abbrev pub TablesTook : List Text → Type 0
-TablesTook [] = Unit {0}
-TablesTook (path ∷ []) = Unit {0}
-TablesTook (path ∷ more ∷ rest) = ⊥
-
--- between two operands nothing waits for a value
-tables_between : (listed : Bor (List (Bor Text))) (operands : List Text) → IsBetween (tables_leaf listed) (tables_place operands)
-tables_between listed [] = record { free = λ _ _. refl; nameless = λ _. refl }
-tables_between listed (path ∷ rest) = record { free = λ _ _. refl; nameless = λ _. refl }
-
--- an operand that comes to no fault is taken
-tables_next : (listed : Bor (List (Bor Text))) (operands : List Text) (word : Text) → TablesTook operands
-    → operand_fault (tables_leaf listed) (tables_place operands) ≡ [] → TablesTook (operands ++ word ∷ [])
-tables_next listed [] word took none = tt
-tables_next listed (path ∷ []) word took none = never UnknownArgument [] none
-tables_next listed (path ∷ more ∷ rest) word took none = took
-
--- and moves the walk to the place after it
-tables_moves : (listed : Bor (List (Bor Text))) (operands : List Text) (word : Text) (t : Bool) → TablesTook operands
-    → operand_fault (tables_leaf listed) (tables_place operands) ≡ []
-    → to_positional (tables_leaf listed).rules (arg_by_index (tables_leaf listed).rules (tables_place operands).position) word (at t (tables_place operands)) (held_at (tables_place operands))
-    ≡ at t (tables_place (operands ++ word ∷ []))
-tables_moves listed [] word true took none = refl
-tables_moves listed [] word false took none = refl
-tables_moves listed (path ∷ []) word t took none = absurd (never UnknownArgument [] none)
-tables_moves listed (path ∷ more ∷ rest) word t took none = absurd took
-
--- `tables` by its operands
-tables_takes : (listed : Bor (List (Bor Text))) → Takes (tables_leaf listed) tables_place TablesTook
-tables_takes listed = record {
-  refuses = refuses _ _ (record { long = λ _. refl; short = λ _. refl });
-  between = tables_between listed;
-  first = tt;
-  next = tables_next listed;
-  moves = tables_moves listed;
 }
 
 -- ---- `make FAMILY SIZE ITEM...`
@@ -236,6 +189,9 @@ pub data Command : Type 0 where
   make : Command
   tables : Command
   run : Command
+  create : Command
+  serve : Command
+  history : Command
 
 -- its name
 abbrev pub name_of : Command → Text
@@ -243,34 +199,49 @@ name_of check = codes "check"
 name_of make = codes "make"
 name_of tables = codes "tables"
 name_of run = codes "run"
+name_of create = codes "create"
+name_of serve = codes "serve"
+name_of history = codes "history"
 
 -- the subcommand as it is built
 abbrev pub leaf : Bor (List (Bor Text)) → Command → Shape
 leaf listed check = check_leaf listed
 leaf listed make = make_leaf listed
-leaf listed tables = tables_leaf listed
+leaf listed tables = file_leaf listed (codes "tables")
 leaf listed run = store_leaf listed (codes "run")
+leaf listed create = create_leaf listed
+leaf listed serve = file_leaf listed (codes "serve")
+leaf listed history = file_leaf listed (codes "history")
 
 -- where its walk stands after these operands
 abbrev pub place : Command → List Text → Place
 place check = check_place
 place make = make_place
-place tables = tables_place
+place tables = file_place
 place run = store_place
+place create = create_place
+place serve = file_place
+place history = file_place
 
 -- what holds of operands that it took
 abbrev pub Took : Bor (List (Bor Text)) → Command → List Text → Type 0
 Took listed check = CheckTook listed
 Took listed make = MakeTook
-Took listed tables = TablesTook
+Took listed tables = FileTook
 Took listed run = StoreTook
+Took listed create = CreateTook
+Took listed serve = FileTook
+Took listed history = FileTook
 
 -- the subcommand by its operands
 takes : (listed : Bor (List (Bor Text))) (command : Command) → Takes (leaf listed command) (place command) (Took listed command)
 takes listed check = check_takes listed
 takes listed make = make_takes listed
-takes listed tables = tables_takes listed
+takes listed tables = file_takes listed (codes "tables")
 takes listed run = store_takes listed (codes "run")
+takes listed create = create_takes listed
+takes listed serve = file_takes listed (codes "serve")
+takes listed history = file_takes listed (codes "history")
 
 -- its walk begins where each walk does
 begins : (command : Command) → place command [] ≡ start
@@ -278,6 +249,9 @@ begins check = refl
 begins make = refl
 begins tables = refl
 begins run = refl
+begins create = refl
+begins serve = refl
+begins history = refl
 
 -- ---- what operands ask for
 
@@ -342,14 +316,6 @@ make_answers listed (family ∷ size ∷ item ∷ items) none = record {
   entry = ap (λ (rows : List Row). (codes "make", fold with_default rows (make_leaf listed).rules)) (items_settled listed family size item items);
 }
 
--- operands of `tables` that come to no fault are a path
-tables_answers : (listed : Bor (List (Bor Text))) (operands : List Text) → TablesTook operands
-    → ends (tables_leaf listed) (held_at (tables_place operands)) ≡ [] → Answers (codes "tables") (tables_leaf listed) (held_at (tables_place operands)) operands
-unfolding clap_on_literals
-tables_answers listed [] took none = absurd (never MissingRequiredArgument [] none)
-tables_answers listed (path ∷ []) took none = record { asked = asked.tables path; whole = tt; words = refl; entry = refl }
-tables_answers listed (path ∷ more ∷ rest) took none = absurd took
-
 -- there is a type where one stands before others
 some_types : (type : Text) (types : List Text) → 0 < length (type ∷ types)
 some_types type types = omega arith
@@ -367,14 +333,42 @@ store_asked name s h operands order whole words entry are = record {
   entry = ap (λ (rows : List Row). (name, rows)) are.entry ∙ sym (entry are.path (are.type ∷ are.types));
 }
 
+-- what a path asks for of a command over one file
+file_asked : (name : Text) (s : Shape) (h : Held) (operands : List Text) (order : Text → Order)
+    → ((path : Text) → IsWhole (order path))
+    → ((path : Text) → order_words (order path) ≡ name ∷ path ∷ [])
+    → ((path : Text) → entry_of (order path) ≡ (name, row (codes "path") path ∷ []))
+    → AreFileWords (finished s.rules h) operands → Answers name s h operands
+file_asked name s h operands order whole words entry are = record {
+  asked = order are.path;
+  whole = whole are.path;
+  words = ap (λ (os : List Text). name ∷ os) are.words ∙ sym (words are.path);
+  entry = ap (λ (rows : List Row). (name, rows)) are.entry ∙ sym (entry are.path);
+}
+
+-- what operands of `create` ask for
+create_asked : (s : Shape) (h : Held) (operands : List Text) → AreCreateWords (finished s.rules h) operands → Answers (codes "create") s h operands
+create_asked s h operands are = record {
+  asked = asked.create are.database are.objects (are.type ∷ are.types);
+  whole = some_types are.type are.types;
+  words = ap (λ (os : List Text). codes "create" ∷ os) are.words;
+  entry = ap (λ (rows : List Row). (codes "create", rows)) are.entry;
+}
+
 -- operands that come to no fault ask for something
 answers : (listed : Bor (List (Bor Text))) → texts listed.now ≡ kind_words → (command : Command) (operands : List Text) → Took listed command operands
     → ends (leaf listed command) (held_at (place command operands)) ≡ [] → Answers (name_of command) (leaf listed command) (held_at (place command operands)) operands
 answers listed are check operands took none = check_answers listed are operands took none
 answers listed are make operands took none = make_answers listed operands none
-answers listed are tables operands took none = tables_answers listed operands took none
+answers listed are tables operands took none =
+    file_asked (codes "tables") _ _ operands asked.tables (λ _. tt) (λ _. refl) (λ _. refl) (file_answers listed (codes "tables") operands took none)
 answers listed are run operands took none =
     store_asked (codes "run") _ _ operands asked.run (λ _. some_types) (λ _ _. refl) (λ _ _. refl) (store_answers listed (codes "run") operands none)
+answers listed are create operands took none = create_asked _ _ operands (create_answers listed operands none)
+answers listed are serve operands took none =
+    file_asked (codes "serve") _ _ operands asked.serve (λ _. tt) (λ _. refl) (λ _. refl) (file_answers listed (codes "serve") operands took none)
+answers listed are history operands took none =
+    file_asked (codes "history") _ _ operands asked.history (λ _. tt) (λ _. refl) (λ _. refl) (file_answers listed (codes "history") operands took none)
 
 -- words of a subcommand that come to no fault ask for something, and so do its rows
 pub words_answered : (listed : Bor (List (Bor Text))) → texts listed.now ≡ kind_words → (command : Command) (rest : List Text)
@@ -393,6 +387,9 @@ command_of (asked.check kind path) = check
 command_of (asked.make family size items) = make
 command_of (asked.tables path) = tables
 command_of (asked.run script types) = run
+command_of (asked.create database objects types) = create
+command_of (asked.serve path) = serve
+command_of (asked.history path) = history
 
 -- and its operands
 abbrev pub operands_of : Order → List Text
@@ -400,6 +397,9 @@ operands_of (asked.check kind path) = kind_word kind ∷ path ∷ []
 operands_of (asked.make family size items) = family ∷ size ∷ items
 operands_of (asked.tables path) = path ∷ []
 operands_of (asked.run script types) = script ∷ types
+operands_of (asked.create database objects types) = database ∷ objects ∷ types
+operands_of (asked.serve path) = path ∷ []
+operands_of (asked.history path) = path ∷ []
 
 -- the word of a kind begins with no hyphen
 plain_kind : (kind : Kind) → IsPlain (kind_word kind)
@@ -431,9 +431,13 @@ unfolding clap_on_literals
 all_pass listed are (asked.check kind path) whole =
     (refl, (both_none (value_kinds false (parser.Names listed) (kind_word kind)) [] (offered listed kind are) refl, refl))
 all_pass listed are (asked.make family size items) whole = (refl, (refl, items_pass listed family size [] items))
-all_pass listed are (asked.tables path) whole = (refl, refl)
+all_pass listed are (asked.tables path) whole = file_passes listed (codes "tables") path
 all_pass listed are (asked.run script []) whole = absurd (omega (arith, whole))
 all_pass listed are (asked.run script (type ∷ types)) whole = store_passes listed (codes "run") script type types
+all_pass listed are (asked.create database objects []) whole = absurd (omega (arith, whole))
+all_pass listed are (asked.create database objects (type ∷ types)) whole = create_passes listed database objects type types
+all_pass listed are (asked.serve path) whole = file_passes listed (codes "serve") path
+all_pass listed are (asked.history path) whole = file_passes listed (codes "history") path
 
 -- where plain words are asked for, the operands are plain
 all_plain : (a : Order) → HasPlainWords a → All IsPlain (operands_of a)
@@ -441,6 +445,9 @@ all_plain (asked.check kind path) plain = all_with IsPlain (kind_word kind) (pat
 all_plain (asked.make family size items) plain = all_with IsPlain family (size ∷ items) plain.0 (all_with IsPlain size items plain.1 plain.2)
 all_plain (asked.tables path) plain = all_with IsPlain path [] plain (all_of_none IsPlain)
 all_plain (asked.run script types) plain = all_with IsPlain script types plain.0 plain.1
+all_plain (asked.create database objects types) plain = all_with IsPlain database (objects ∷ types) plain.0 (all_with IsPlain objects types plain.1 plain.2)
+all_plain (asked.serve path) plain = all_with IsPlain path [] plain (all_of_none IsPlain)
+all_plain (asked.history path) plain = all_with IsPlain path [] plain (all_of_none IsPlain)
 
 -- plain words of a subcommand come to no fault
 pub plain_words : (listed : Bor (List (Bor Text))) → texts listed.now ≡ kind_words → (a : Order) → IsPlainOrder a

@@ -58,13 +58,18 @@ abbrev pub make_app : App
 make_app = with_rule (with_rule (with_rule (new_app (codes "make"))
     (wanted_rule (codes "family"))) (wanted_rule (codes "size"))) items_rule
 
--- `tables FILE`
-abbrev pub tables_app : App
-tables_app = with_rule (new_app (codes "tables")) (wanted_rule (codes "path"))
+-- a command over one file, as `tables FILE`
+abbrev pub file_app : Text → App
+file_app name = with_rule (new_app name) (wanted_rule (codes "path"))
 
 -- a command over a store's objects: a first file and the files of types, as `run SCRIPT TYPE...`
 abbrev pub store_app : Text → App
 store_app name = with_rule (with_rule (new_app name) (wanted_rule (codes "path"))) types_rule
+
+-- `create DATABASE OBJECTS TYPE...`
+abbrev pub create_app : App
+create_app = with_rule (with_rule (with_rule (new_app (codes "create"))
+    (wanted_rule (codes "database"))) (wanted_rule (codes "path"))) types_rule
 
 -- an option with a number
 abbrev pub option_rule : Setting → ValueParser → Rule
@@ -117,11 +122,20 @@ bare_program = on_top (λ top. record top {
   subcommand_required = true;
 }) (new_app (codes "colock"))
 
--- the program
+-- with its commands over types
+abbrev pub type_program : ValueParser → App
+type_program kinds = with_subcommand (with_subcommand (with_subcommand bare_program
+    (check_app kinds).top) make_app.top) (file_app (codes "tables")).top
+
+-- and with those over scripts, histories and jobs
+abbrev pub script_program : ValueParser → App
+script_program kinds = with_subcommand (with_subcommand (with_subcommand (with_subcommand (type_program kinds)
+    (store_app (codes "run")).top) audit_app.top) work_app.top) stress_app.top
+
+-- the program: with those over the file of a store too
 abbrev pub program : ValueParser → App
-program kinds =
-    with_subcommand (with_subcommand (with_subcommand (with_subcommand (with_subcommand (with_subcommand (with_subcommand bare_program
-    (check_app kinds).top) make_app.top) tables_app.top) (store_app (codes "run")).top) audit_app.top) work_app.top) stress_app.top
+program kinds = with_subcommand (with_subcommand (with_subcommand (script_program kinds)
+    create_app.top) (file_app (codes "serve")).top) (file_app (codes "history")).top
 
 -- the command is read as this one, and has no argument of the commands below it
 abbrev pub IsCommand : App → Command → Type 0
@@ -175,6 +189,9 @@ entry_of (asked.make family size items) =
     (codes "make", row (codes "family") family ∷ row (codes "size") size ∷ item_rows items)
 entry_of (asked.tables path) = (codes "tables", row (codes "path") path ∷ [])
 entry_of (asked.run script types) = (codes "run", store_rows script types)
+entry_of (asked.create database objects types) = (codes "create", row (codes "database") database ∷ store_rows objects types)
+entry_of (asked.serve database) = (codes "serve", row (codes "path") database ∷ [])
+entry_of (asked.history database) = (codes "history", row (codes "path") database ∷ [])
 
 -- an argument was given this number, or has it by default
 abbrev pub HasNumber : List Row → Text → ℕ → Type 0

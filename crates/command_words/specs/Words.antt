@@ -25,6 +25,12 @@ pub data Order : Type 0 where
   tables : Text → Order
   -- `run SCRIPT TYPE...`
   run : Text → List Text → Order
+  -- `create DATABASE OBJECTS TYPE...`
+  create : Text → Text → List Text → Order
+  -- `serve DATABASE`
+  serve : Text → Order
+  -- `history DATABASE`
+  history : Text → Order
 
 -- what the words ask for
 pub data Asked : Type 0 where
@@ -34,6 +40,8 @@ pub data Asked : Type 0 where
   audit : Audit → Asked
   -- what workers are to do: `work` or `stress`
   work : Work → Asked
+  -- the path of the store whose history is to be audited
+  audit_database : Text → Asked
   -- a text of help
   help : Topic → Asked
   -- the version
@@ -45,10 +53,14 @@ order_words (check kind path) = codes "check" ∷ kind_word kind ∷ path ∷ []
 order_words (make family size items) = codes "make" ∷ family ∷ size ∷ items
 order_words (tables path) = codes "tables" ∷ path ∷ []
 order_words (run script types) = codes "run" ∷ script ∷ types
+order_words (create database objects types) = codes "create" ∷ database ∷ objects ∷ types
+order_words (serve database) = codes "serve" ∷ database ∷ []
+order_words (history database) = codes "history" ∷ database ∷ []
 
 -- it has the operands that it can't be without: at least one TYPE
 abbrev pub IsWhole : Order → Type 0
 IsWhole (run script types) = 0 < length types
+IsWhole (create database objects types) = 0 < length types
 IsWhole o = ⊤
 
 -- the words of a call for help
@@ -61,12 +73,16 @@ help_words topic.Run = codes "help" ∷ codes "run" ∷ []
 help_words topic.Audit = codes "help" ∷ codes "audit" ∷ []
 help_words topic.Work = codes "help" ∷ codes "work" ∷ []
 help_words topic.Stress = codes "help" ∷ codes "stress" ∷ []
+help_words topic.Create = codes "help" ∷ codes "create" ∷ []
+help_words topic.Serve = codes "help" ∷ codes "serve" ∷ []
+help_words topic.History = codes "help" ∷ codes "history" ∷ []
 
 -- the words ask for it
 abbrev pub AreFor : List Text → Asked → Type 0
 AreFor words (order o) = words ≡ order_words o
 AreFor words (audit a) = AreAuditWords words a
 AreFor words (work w) = AreWorkWords words w
+AreFor words (audit_database path) = words ≡ codes "audit" ∷ codes "--database" ∷ path ∷ []
 AreFor words (help topic) = words ≡ help_words topic
 AreFor words version = (words ≡ codes "--version" ∷ []) ⊎ (words ≡ codes "-V" ∷ [])
 
@@ -76,12 +92,16 @@ asked_of (task.Check kind path) = order (check kind path.now)
 asked_of (task.Make family size items) = order (make family.now size.now (texts items.items))
 asked_of (task.Tables path) = order (tables path.now)
 asked_of (task.Run script types) = order (run script.now (texts types.items))
-asked_of (task.Audit history later types) =
-    audit (record { history = history.now; later = texts later.items; types = texts types.items })
+asked_of (task.Audit first later types) =
+    audit (record { history = first.now; later = texts later.items; types = texts types.items })
 asked_of (task.Work jobs types workers tries) =
     work (record { jobs = jobs.now; types = texts types.items; workers = workers; tries = tries; seed = None })
 asked_of (task.Stress jobs types workers tries seed) =
     work (record { jobs = jobs.now; types = texts types.items; workers = workers; tries = tries; seed = Some seed })
+asked_of (task.Create database objects types) = order (create database.now objects.now (texts types.items))
+asked_of (task.Serve database) = order (serve database.now)
+asked_of (task.History database) = order (history database.now)
+asked_of (task.AuditDatabase database) = audit_database database.now
 asked_of (task.Help topic) = help topic
 asked_of task.Version = version
 
@@ -112,6 +132,9 @@ HasPlainWords (check kind path) = IsPlain path
 HasPlainWords (make family size items) = IsPlain family × IsPlain size × All IsPlain items
 HasPlainWords (tables path) = IsPlain path
 HasPlainWords (run script types) = IsPlain script × All IsPlain types
+HasPlainWords (create database objects types) = IsPlain database × IsPlain objects × All IsPlain types
+HasPlainWords (serve database) = IsPlain database
+HasPlainWords (history database) = IsPlain database
 
 -- the same, and it is whole
 abbrev pub IsPlainOrder : Order → Type 0
@@ -125,16 +148,17 @@ IsPlainAudit a = IsWholeAudit a × IsPlain a.history × All IsPlain a.later × A
 abbrev pub IsPlainWork : Work → Type 0
 IsPlainWork w = IsWholeWork w × IsPlain w.jobs × All IsPlain w.types
 
--- the same, of all that may be asked for
+-- the same, of all that may be asked for: what isn't left to `clap` may have any words
 abbrev pub AsksPlainly : Asked → Type 0
 AsksPlainly (order o) = IsPlainOrder o
 AsksPlainly (audit a) = IsPlainAudit a
 AsksPlainly (work w) = IsPlainWork w
 AsksPlainly asked = ⊤
 
--- the words ask for neither help nor version
-abbrev pub AreForNoText : List Text → Type 0
-AreForNoText words = ((topic : Topic) → words ≢ help_words topic) × ¬ (AreFor words version)
+-- the words ask for neither help nor version, nor for the audit of a store: what else they ask for is read by `clap`
+abbrev pub AreLeftToClap : List Text → Type 0
+AreLeftToClap words =
+    ((topic : Topic) → words ≢ help_words topic) × ((path : Text) → ¬ (AreFor words (audit_database path))) × ¬ (AreFor words version)
 
 -- the words are no task's that has plain words
 abbrev pub AreNoTask : List Text → Type 0

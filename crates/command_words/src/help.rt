@@ -9,8 +9,8 @@ pub const VERSION: &str = "colock 0.1.0\n";
 
 pub(crate) const PROGRAM: &str = "\
 colock checks and makes conflict tables, by which a store locks the operations
-of shared objects, runs scripts and workers at such a store and audits its
-histories.
+of shared objects, runs scripts and workers at such a store, keeps a store in a
+file, and audits histories.
 
 Usage: colock COMMAND
 
@@ -21,11 +21,16 @@ Commands:
   run SCRIPT TYPE...         Run a script at a store, and audit its history.
   audit HISTORY [--then HISTORY]... TYPE...
                              Audit a history, and those that follow it.
+  audit --database DATABASE  Audit the history of the store in a file.
   work --workers N [--tries K] JOBS TYPE...
                              Run jobs in threads, and audit their history.
   stress --seed S --workers N [--tries K] JOBS TYPE...
                              Run jobs in turns that are drawn, and audit their
                              history.
+  create DATABASE OBJECTS TYPE...
+                             Make the file of a new store.
+  serve DATABASE             Answer requests at the store in a file.
+  history DATABASE           Write the history of the store in a file.
   help [COMMAND]             Write this text, or the text on a command.
 
 Options, in place of a command:
@@ -35,7 +40,8 @@ Status:
   0   yes, or done
   1   no
   2   a fault of the command line or of a text
-  3   a file that can't be read, want of memory, or an output that failed
+  3   a file that can't be read, made or kept, want of memory, or an output that
+      failed
 
 Answers and texts go to standard output, faults to standard error. With --help
 or -h among the words, the text goes to standard error and the status is 2.
@@ -153,6 +159,7 @@ Say whether the committed transactions of a history, run one after another in
 the order of their commits, give the same replies.
 
 Usage: colock audit HISTORY [--then HISTORY]... TYPE...
+       colock audit --database DATABASE
 
 HISTORY is the path of a history, as colock run writes it, and each TYPE that
 of a type file. The history names the type of an object by its place among the
@@ -162,6 +169,10 @@ Options, anywhere behind audit and before any --:
   --then HISTORY   A history that follows, of the same objects, and begins at
                    the states that the ones before it end in. It may come any
                    number of times, and they follow in this order.
+
+DATABASE is the path of the file of a store. Its history is that which colock
+history writes, and is audited with the file's own types, from the states where
+the epoch began. The words stand in this order, and DATABASE may be any word.
 
   # audit yes, # commit T, # serial X S
       They do, in this order, and object X is in state S behind them.
@@ -177,8 +188,9 @@ are counted from 0. The audit is one, and # serial X S is where the last ends.
 
 Example: colock audit out.history ctr2.type
 
-Status: 0 yes, 1 no, 2 a fault of the command line or of a text, or no TYPE at
-a place, 3 a file that can't be read, want of memory, or an output that failed.
+Status: 0 yes, 1 no, 2 a fault of the command line or of a text, no TYPE at a
+place, or a file that is no store's, 3 a file that can't be read, want of memory,
+or an output that failed.
 ";
 
 pub(crate) const WORK: &str = "\
@@ -246,6 +258,58 @@ fault of the command line or of a text, or no TYPE at a place, 3 a file that
 can't be read, want of memory, or an output that failed.
 ";
 
+pub(crate) const CREATE: &str = "\
+Make the file of a new store.
+
+Usage: colock create DATABASE OBJECTS TYPE...
+
+DATABASE is the path of the file, where nothing is yet. OBJECTS is the path of a
+text that names the objects: a line object KIND F for each, as a script's, and
+end. Each TYPE is the path of a type file, and F is the place of the object's
+type among the TYPEs, from 0. The type of each object is checked for its kind,
+as colock check does. Where the answer is no, the first line says why, and no
+file is made.
+
+Example: colock create bank.db bank.objects ctr2.type
+
+Status: 0 made, 1 a type that isn't accepted, 2 a fault of the command line or
+of a text, or no TYPE at a place, 3 a file that can't be read or made, something
+that is at DATABASE already, want of memory, or an output that failed.
+";
+
+pub(crate) const SERVE: &str = "\
+Answer requests at the store in a file.
+
+Usage: colock serve DATABASE
+
+DATABASE is the path of the file of a store, as colock create makes it. The
+store is opened, and what was open in it is aborted. Then the requests on
+standard input are answered, a line each, until the request end or the end of
+the input. A commit is answered when it is durable. docs/formats.md has the
+requests.
+
+Example: colock serve bank.db
+
+Status: 0 ended, 2 a fault of the command line, or a file that is no store's, 3 a
+file that can't be opened or that failed, an input or an output that failed, or
+want of memory.
+";
+
+pub(crate) const HISTORY: &str = "\
+Write the present epoch of the store in a file, as the text of a history.
+
+Usage: colock history DATABASE
+
+DATABASE is the path of the file of a store, as colock create makes it. The text
+names the types by their numbers in the file. The states where the epoch began
+aren't in it: colock audit --database audits this history from them.
+
+Example: colock history bank.db
+
+Status: 0 done, 2 a fault of the command line, or a file that is no store's, 3 a
+file that can't be opened or read, want of memory, or an output that failed.
+";
+
 impl Topic {
     /// The text of help on it, in whole lines.
     pub const fn text(self) -> &'static str
@@ -261,6 +325,9 @@ impl Topic {
             Topic::Audit => AUDIT,
             Topic::Work => WORK,
             Topic::Stress => STRESS,
+            Topic::Create => CREATE,
+            Topic::Serve => SERVE,
+            Topic::History => HISTORY,
         }
     }
 }

@@ -2,7 +2,7 @@
 ghost use Rattle.std.specs.Prelude.{◌≡◌, IfOk};
 ghost use Rattle.clap.specs.Simple.{App, app_of, with_rule, with_subcommand};
 ghost use Rattle.clap.specs.Walk.{Rule};
-ghost use Rattle.command_words.specs.Program.{IsCommand, IsWord, ReadsKinds, audit_app, check_app, items_rule, kind_rule, make_app, program, seed_rule, store_app, stress_app, tables_app, then_rule, tries_rule, types_rule, wanted_rule, work_app, workers_app, workers_rule};
+ghost use Rattle.command_words.specs.Program.{IsCommand, IsWord, ReadsKinds, audit_app, check_app, create_app, file_app, items_rule, kind_rule, make_app, program, script_program, seed_rule, store_app, stress_app, then_rule, tries_rule, type_program, types_rule, wanted_rule, work_app, workers_app, workers_rule};
 
 use crate::Topic;
 use clap::{Arg, ArgAction, Command, value_parser};
@@ -11,9 +11,31 @@ use std::alloc::{AllocError, Global};
 /// The words of the kinds of recovery.
 static KINDS: [&str; 2] = ["undo", "intentions"];
 
-/// The program with its seven commands.
+/// The program with its ten commands.
 pub(crate) fn program<'a>(alloc: Global) -> Result<Command<'a>, AllocError>
     ensures { (kinds : _) × ReadsKinds kinds × IfOk result (λ command. app_of command ≡ program kinds) }
+{
+    let with_create = with_command(script_program(alloc), create_command(alloc));
+    let serve = file_command(alloc, "serve", Topic::Serve, "DATABASE");
+    let with_serve = with_command(with_create, serve);
+    let history = file_command(alloc, "history", Topic::History, "DATABASE");
+    with_command(with_serve, history)
+}
+
+/// The program without its commands over the file of a store.
+fn script_program<'a>(alloc: Global) -> Result<Command<'a>, AllocError>
+    ensures { (kinds : _) × ReadsKinds kinds × IfOk result (λ command. app_of command ≡ script_program kinds) }
+{
+    let run = store_command(alloc, "run", Topic::Run, "SCRIPT");
+    let with_run = with_command(type_program(alloc), run);
+    let with_audit = with_command(with_run, audit_command(alloc));
+    let with_work = with_command(with_audit, work_command(alloc));
+    with_command(with_work, stress_command(alloc))
+}
+
+/// The program with its commands over types alone.
+fn type_program<'a>(alloc: Global) -> Result<Command<'a>, AllocError>
+    ensures { (kinds : _) × ReadsKinds kinds × IfOk result (λ command. app_of command ≡ type_program kinds) }
 {
     let bare = Command::new(alloc, "colock")
         .override_help(Topic::Program.text())
@@ -22,12 +44,8 @@ pub(crate) fn program<'a>(alloc: Global) -> Result<Command<'a>, AllocError>
         .bin_name("colock");
     let with_check = with_command(bare, check_command(alloc));
     let with_make = with_command(with_check, make_command(alloc));
-    let with_tables = with_command(with_make, tables_command(alloc));
-    let run = store_command(alloc, "run", Topic::Run, "SCRIPT");
-    let with_run = with_command(with_tables, run);
-    let with_audit = with_command(with_run, audit_command(alloc));
-    let with_work = with_command(with_audit, work_command(alloc));
-    with_command(with_work, stress_command(alloc))
+    let tables = file_command(alloc, "tables", Topic::Tables, "FILE");
+    with_command(with_make, tables)
 }
 
 fn check_command<'a>(alloc: Global) -> Result<Command<'a>, AllocError>
@@ -47,11 +65,17 @@ fn make_command<'a>(alloc: Global) -> Result<Command<'a>, AllocError>
     with_word(with_size, items_arg(alloc))
 }
 
-fn tables_command<'a>(alloc: Global) -> Result<Command<'a>, AllocError>
-    ensures { IfOk result (IsCommand tables_app) }
+/// A command over one file.
+fn file_command<'a>(
+    alloc: Global,
+    name: &'a str,
+    topic: Topic,
+    shown: &'a str,
+) -> Result<Command<'a>, AllocError>
+    ensures { IfOk result (IsCommand (file_app name.entry.now)) }
 {
-    let bare = Command::new(alloc, "tables").override_help(Topic::Tables.text());
-    with_word(Ok(bare), wanted(alloc, "path", "FILE"))
+    let bare = Command::new(alloc, name).override_help(topic.text());
+    with_word(Ok(bare), wanted(alloc, "path", shown))
 }
 
 /// A command over a store's objects: a first file, and the files of their types.
@@ -65,6 +89,15 @@ fn store_command<'a>(
 {
     let bare = Command::new(alloc, name).override_help(topic.text());
     let with_path = with_word(Ok(bare), wanted(alloc, "path", shown));
+    with_word(with_path, types_arg(alloc))
+}
+
+fn create_command<'a>(alloc: Global) -> Result<Command<'a>, AllocError>
+    ensures { IfOk result (IsCommand create_app) }
+{
+    let bare = Command::new(alloc, "create").override_help(Topic::Create.text());
+    let with_database = with_word(Ok(bare), wanted(alloc, "database", "DATABASE"));
+    let with_path = with_word(with_database, wanted(alloc, "path", "OBJECTS"));
     with_word(with_path, types_arg(alloc))
 }
 

@@ -4,7 +4,7 @@ use thiserror::Error as FaultText;
 use type_table::Kind;
 
 /// What the command line asks for.
-#[derive(Debug, Drop)]
+#[derive(Drop)]
 pub enum Task<'a> {
     /// Is the type file good for this kind of recovery?
     Check {
@@ -67,6 +67,30 @@ pub enum Task<'a> {
         /// The seed of the schedule.
         seed: u64,
     },
+    /// Is the file of a new store made, and of which objects?
+    Create {
+        /// The path at which it is made.
+        database: &'a str,
+        /// The path of the objects.
+        objects: &'a str,
+        /// The paths of the type files, by whose places the objects' types are named.
+        types: Vec<&'a str>,
+    },
+    /// What does the store in a file answer to the requests on standard input?
+    Serve {
+        /// The path of the store.
+        database: &'a str,
+    },
+    /// What is the history of the present epoch of the store in a file?
+    History {
+        /// The path of the store.
+        database: &'a str,
+    },
+    /// Is that history serial, from the states where the epoch began?
+    AuditDatabase {
+        /// The path of the store.
+        database: &'a str,
+    },
     /// How is the program used, or one of its commands?
     Help {
         /// The program or the command.
@@ -95,6 +119,12 @@ pub enum Topic {
     Work,
     /// The command `stress`.
     Stress,
+    /// The command `create`.
+    Create,
+    /// The command `serve`.
+    Serve,
+    /// The command `history`.
+    History,
 }
 
 /// Why the words name no task.

@@ -1,11 +1,12 @@
 //! The words of the command line.
-ghost use Rattle.std.specs.Prelude.{◌≡◌, ◌<◌, ℕ, List, None, IfOk, IfErr, IfNone, IfSome, IsSome};
+ghost use Rattle.std.specs.Prelude.{◌≡◌, ◌≢◌, ◌<◌, ℕ, List, [], ◌∷◌, None, Some, IfOk, IfErr, IfNone, IfSome, IsSome, codes};
 ghost use Rattle.clap.specs.Words.{found_of, kind_of, rows_of};
-ghost use Rattle.clap.specs.Walk.{texts};
+ghost use Rattle.clap.specs.Walk.{first_of, texts};
 ghost use Rattle.clap.specs.declared.parser.matches.ArgMatches.{ArgMatches};
 ghost use Rattle.command_words.specs.Program.{AskSomething, Asks, HasAudit, HasNumber, HasRows, HasStoreRows, HasWork, Parses};
+ghost use Rattle.command_words.specs.declared.task.Topic.{Topic};
 ghost use Rattle.type_table.specs.declared.kind.Kind.{Kind};
-ghost use Rattle.command_words.specs.Words.{AreForNoText, AreNoTask, AreWordsOf, Asked, OnUsage, Text, asked_of};
+ghost use Rattle.command_words.specs.Words.{AreLeftToClap, AreNoTask, AreWordsOf, Asked, OnUsage, Text, asked_of, help_words};
 ghost use Rattle.command_words.specs.Words as asked;
 ghost use Rattle.command_words.specs.Lines.{Audit, Work};
 
@@ -20,32 +21,48 @@ use type_table::Kind;
 /// have one `--` among them. The options of `audit`, `work` and `stress` stand anywhere before it, in
 /// either form. A fault of the command line comes of no words of a task, where none of the paths,
 /// FAMILY, SIZE and the ITEMs begins with a hyphen; `--help` among the words is such a fault. Which
-/// of the two faults comes is `clap`'s.
+/// of the two faults comes is `clap`'s. Behind `audit --database` stands one word, which is the path
+/// whatever it is.
 pub fn read_words<'a>(alloc: Global, words: &'a [&'a str]) -> Result<Task<'a>, WordFault>
     ensures taken { IfOk result (AreWordsOf (texts words.now)) }
     ensures refused { IfErr result (λ fault. OnUsage fault (AreNoTask (texts words.now))) }
 {
-    match text_task(words) {
+    match direct_task(words) {
         Some(task) => Ok(task),
         None => read_order(alloc, words),
     }
 }
 
-/// The task of words that ask for a text.
-fn text_task<'a>(words: &[&str]) -> Option<Task<'a>>
+/// The task of words that aren't left to `clap`.
+fn direct_task<'a>(words: &[&'a str]) -> Option<Task<'a>>
     ensures taken { IfSome result (AreWordsOf (texts words.now)) }
-    ensures other { IfNone result (AreForNoText (texts words.now)) }
+    ensures other { IfNone result (AreLeftToClap (texts words.now)) }
 {
     match *words {
         ["help"] => Some(help_on(Topic::Program)),
-        ["help", "check"] => Some(help_on(Topic::Check)),
-        ["help", "make"] => Some(help_on(Topic::Make)),
-        ["help", "tables"] => Some(help_on(Topic::Tables)),
-        ["help", "run"] => Some(help_on(Topic::Run)),
-        ["help", "audit"] => Some(help_on(Topic::Audit)),
-        ["help", "work"] => Some(help_on(Topic::Work)),
-        ["help", "stress"] => Some(help_on(Topic::Stress)),
+        ["help", name] => Some(help_on(topic_of(name)?)),
+        ["audit", "--database", database] => Some(Task::AuditDatabase { database }),
         ["--version"] | ["-V"] => Some(Task::Version),
+        _ => None,
+    }
+}
+
+/// The command of this name, as a topic.
+fn topic_of(name: &str) -> Option<Topic>
+    ensures named { IfSome result (λ topic. codes "help" ∷ name.now ∷ [] ≡ help_words topic) }
+    ensures other { IfNone result ((topic : Topic) → codes "help" ∷ name.now ∷ [] ≢ help_words topic) }
+{
+    match name {
+        "check" => Some(Topic::Check),
+        "make" => Some(Topic::Make),
+        "tables" => Some(Topic::Tables),
+        "run" => Some(Topic::Run),
+        "audit" => Some(Topic::Audit),
+        "work" => Some(Topic::Work),
+        "stress" => Some(Topic::Stress),
+        "create" => Some(Topic::Create),
+        "serve" => Some(Topic::Serve),
+        "history" => Some(Topic::History),
         _ => None,
     }
 }
@@ -56,9 +73,9 @@ fn help_on<'a>(topic: Topic) -> Task<'a>
     Task::Help { topic }
 }
 
-/// The task of words that ask for no text.
+/// The task of words that are left to `clap`.
 fn read_order<'a>(alloc: Global, words: &'a [&'a str]) -> Result<Task<'a>, WordFault>
-    requires { AreForNoText (texts words.now) }
+    requires { AreLeftToClap (texts words.now) }
     ensures taken { IfOk result (AreWordsOf (texts words.now)) }
     ensures refused { IfErr result (λ fault. OnUsage fault (AreNoTask (texts words.now))) }
 {
@@ -91,7 +108,10 @@ fn task_of<'a>(alloc: Global, matches: &ArgMatches<'a>) -> Result<Task<'a>, Allo
         "run" => run_task(alloc, values),
         "audit" => audit_task(alloc, values),
         "work" => work_task(alloc, values),
-        _ => stress_task(alloc, values),
+        "stress" => stress_task(alloc, values),
+        "create" => create_task(alloc, values),
+        "serve" => Ok(serve_task(values)),
+        _ => Ok(history_task(values)),
     }
 }
 
@@ -124,8 +144,39 @@ fn tables_task<'a>(values: &ArgMatches<'a>) -> Task<'a>
     ensures { (path : Text) → HasRows values.now (asked.tables path) → asked_of result ≡ asked.order (asked.tables path) }
 {
     Task::Tables {
-        path: values.get_str("path").unwrap(),
+        path: file_word(values),
     }
+}
+
+fn serve_task<'a>(values: &ArgMatches<'a>) -> Task<'a>
+    requires { (path : Text) × HasRows values.now (asked.serve path) }
+    ensures { (path : Text) → HasRows values.now (asked.serve path) → asked_of result ≡ asked.order (asked.serve path) }
+{
+    Task::Serve {
+        database: file_word(values),
+    }
+}
+
+fn history_task<'a>(values: &ArgMatches<'a>) -> Task<'a>
+    requires { (path : Text) × HasRows values.now (asked.history path) }
+    ensures { (path : Text) → HasRows values.now (asked.history path) → asked_of result ≡ asked.order (asked.history path) }
+{
+    Task::History {
+        database: file_word(values),
+    }
+}
+
+fn create_task<'a>(alloc: Global, values: &ArgMatches<'a>) -> Result<Task<'a>, AllocError>
+    requires { (database : Text) × (objects : Text) × (types : List Text) × HasRows values.now (asked.create database objects types) }
+    ensures { (database objects : Text) (types : List Text) → HasRows values.now (asked.create database objects types)
+        → IfOk result (λ task. asked_of task ≡ asked.order (asked.create database objects types)) }
+{
+    let (objects, types) = store_words(alloc, values)?;
+    Ok(Task::Create {
+        database: values.get_str("database").unwrap(),
+        objects,
+        types,
+    })
 }
 
 fn run_task<'a>(alloc: Global, values: &ArgMatches<'a>) -> Result<Task<'a>, AllocError>
@@ -183,6 +234,14 @@ fn small_number(values: &ArgMatches<'_>, id: &str) -> u8
     ensures { (n : ℕ) → HasNumber (rows_of (found_of values.now)) id.now n → result ≡ n }
 {
     values.get_one(id).unwrap()
+}
+
+/// The first file of a command.
+fn file_word<'a>(values: &ArgMatches<'a>) -> &'a str
+    requires { (path : Text) × (first_of (codes "path") (rows_of (found_of values.now)) ≡ Some path) }
+    ensures { (path : Text) → first_of (codes "path") (rows_of (found_of values.now)) ≡ Some path → result.now ≡ path }
+{
+    values.get_str("path").unwrap()
 }
 
 /// The words of a command over a store's objects: the first file, and those of the types.

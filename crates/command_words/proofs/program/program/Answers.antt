@@ -1,18 +1,8 @@
-use Rattle.std.proofs.Common.{◌≡◌, ◌∙◌, rules, ap}
-use Rattle.std.specs.Prelude.{codes, true}
-use Rattle.std.proofs.lemmas.Result.{IfOk-weaker}
-use Rattle.clap.specs.Simple.{app_of, app_of_fields, new_app, on_top}
 use Rattle.command_words.proofs.program.program.Goals as goal
 
 pub returns : goal.returns
 returns c =
-    let checks = c.check_command.ensures in
-    let set_is : app_of c.subcommand_required.result ≡ on_top (λ top. record top { no_binary_name = true; subcommand_required = true }) (new_app (codes "colock")) = search rules in
-    let bare_is = IfOk-weaker c.bin_name-bare.result _ _ (λ command named. ap app_of_fields named.0 ∙ set_is) c.bin_name-bare.ensures in
-    let check_added = c.with_command-with_check.ensures _ _ bare_is checks.2 in
-    let make_added = c.with_command-with_make.ensures _ _ check_added c.make_command.ensures in
-    let tables_added = c.with_command-with_tables.ensures _ _ make_added c.tables_command.ensures in
-    let run_added = c.with_command-with_run.ensures _ _ tables_added c.store_command-run.ensures in
-    let audit_added = c.with_command-with_audit.ensures _ _ run_added c.audit_command.ensures in
-    let work_added = c.with_command-with_work.ensures _ _ audit_added c.work_command.ensures in
-    (checks.0, checks.1, c.with_command.ensures _ _ work_added c.stress_command.ensures)
+    let scripts = c.script_program.ensures in
+    let create_added = c.with_command-with_create.ensures _ _ scripts.2 c.create_command.ensures in
+    let serve_added = c.with_command-with_serve.ensures _ _ create_added c.file_command-serve.ensures in
+    (scripts.0, scripts.1, c.with_command.ensures _ _ serve_added c.file_command-history.ensures)
