@@ -2,7 +2,8 @@
 #![tactic(auto)]
 
 use command_files::{Fault, FileSource, say_fault};
-use commands::{Console, do_words, given_words};
+use commands::{Console, Given, do_words, given_words};
+use database_files::FileDatabases;
 use outputs::{Gathered, Sink};
 use std::process::ExitCode;
 
@@ -10,8 +11,13 @@ fn main(rt: HostRuntime) -> ExitCode {
     let mut err = Sink::new(rt.stderr());
     let status = match Gathered::new(rt.alloc(), Sink::new(rt.stdout())) {
         Ok(out) => {
-            let source = &mut FileSource { runtime: &rt };
-            do_words(&rt, given_words(&rt), source, &mut Console { out, err })
+            let mut given = Given {
+                source: FileSource { runtime: &rt },
+                databases: FileDatabases { runtime: &rt },
+                input: rt.stdin(),
+            };
+            let (status, _) = do_words(&rt, given_words(&rt), &mut given, Console { out, err });
+            status
         }
         Err(_) => say_fault(rt.alloc(), &Fault::NoMemory, &mut err),
     };

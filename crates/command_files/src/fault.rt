@@ -1,9 +1,11 @@
 //! Why a command comes to no answer.
 
 ghost use Rattle.std.specs.Prelude.{◌≡◌};
+ghost use Rattle.command_files.specs.Answers.{Refuses};
 ghost use Rattle.command_files.specs.Status.{status_of};
 ghost use Rattle.command_files.specs.declared.fault.Fault.TheVariants.{NoMemory, Output};
 
+use crate::database_fault::DatabaseFault;
 use crate::status::Status;
 use line_text::TextFault;
 use outputs::OutFault;
@@ -33,6 +35,10 @@ pub enum Fault<'a> {
         path: &'a str,
         first: &'a str,
     },
+    /// The text at a path has events, where there may be none.
+    HasEvents {
+        path: &'a str,
+    },
     /// The parameters of a family are none.
     BadParameter,
     /// A family is too large at its parameters.
@@ -41,13 +47,32 @@ pub enum Fault<'a> {
     CannotRead {
         path: &'a str,
     },
+    /// The database at a path isn't opened, made or used, which isn't that memory was refused.
+    Database {
+        path: &'a str,
+        fault: DatabaseFault,
+    },
+    /// The database at a path isn't one of a store.
+    NoStore {
+        path: &'a str,
+    },
     /// Memory was refused.
     NoMemory,
     /// The output failed.
     Output,
 }
 
-impl Fault<'_> {
+impl<'a> Fault<'a> {
+    /// Of the database at a path.
+    pub fn of_database(path: &'a str, fault: DatabaseFault) -> Fault<'a>
+        ensures { Refuses ⊥ result }
+    {
+        match fault {
+            DatabaseFault::NoMemory => Fault::NoMemory,
+            _ => Fault::Database { path, fault },
+        }
+    }
+
     /// The status with which the program ends.
     pub fn status(&self) -> Status
         ensures { result ≡ status_of self.now }
@@ -57,9 +82,12 @@ impl Fault<'_> {
             | Fault::Text { .. }
             | Fault::NoType { .. }
             | Fault::OtherObjects { .. }
+            | Fault::HasEvents { .. }
             | Fault::BadParameter
-            | Fault::TooLarge => Status::BadInput,
-            Fault::CannotRead { .. } | Fault::NoMemory | Fault::Output => Status::Failed,
+            | Fault::TooLarge
+            | Fault::NoStore { .. } => Status::BadInput,
+            Fault::CannotRead { .. } | Fault::Database { .. } | Fault::NoMemory | Fault::Output =>
+                Status::Failed,
         }
     }
 
@@ -74,9 +102,12 @@ impl Fault<'_> {
             Fault::OtherObjects { path, first } => {
                 format!(in alloc; "colock: {path}: not the objects of {first}\n")
             }
+            Fault::HasEvents { path } => format!(in alloc; "colock: {path}: has events\n"),
             Fault::BadParameter => String::from_str(alloc, "colock: BadParameter\n"),
             Fault::TooLarge => String::from_str(alloc, "colock: TooLarge\n"),
             Fault::CannotRead { path } => format!(in alloc; "colock: {path}: cannot read\n"),
+            Fault::Database { path, fault } => format!(in alloc; "colock: {path}: {fault}\n"),
+            Fault::NoStore { path } => format!(in alloc; "colock: {path}: not a store\n"),
             Fault::NoMemory => String::from_str(alloc, "colock: no memory\n"),
             Fault::Output => String::from_str(alloc, ""),
         }

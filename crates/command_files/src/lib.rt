@@ -3,6 +3,7 @@
 #![tactic(auto)]
 
 mod answering;
+mod database_fault;
 mod fault;
 mod format;
 mod refusal_line;
@@ -11,6 +12,7 @@ mod status;
 mod type_format;
 
 pub use answering::{put_answer, say_fault};
+pub use database_fault::DatabaseFault;
 pub use fault::Fault;
 pub use format::{Format, read_file};
 pub use refusal_line::no_line;

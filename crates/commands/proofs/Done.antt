@@ -1,20 +1,19 @@
 -- How a task ends, from what came of it and what was handed on.
-use Rattle.std.proofs.Common.{◌≡◌, ◌∙◌, ◌⊎◌, ℕ, zero, suc, List, [], ◌∷◌, ◌++◌, length, take, Option, Some, None, IfSome, Result, Ok, Err, refl, sym, ap, subst, inl, inr, ⊎_elim, append-nil, take_at}
+use Rattle.std.proofs.Common.{◌≡◌, ◌∙◌, ◌⊎◌, ℕ, zero, suc, List, [], ◌∷◌, ◌++◌, length, take, Option, Some, None, IfErr, IfSome, Result, Ok, Err, refl, sym, ap, subst, inl, inr, ⊎_elim, append-nil, take_at}
 use Rattle.std.proofs.Math.Seq.{take-length}
 use Rattle.std.specs.Io.KnownBytes.{Appends, Keeps, append_known}
 use Rattle.command_files.specs.Answers.{ComesOr, Refuses}
 use Rattle.command_files.specs.Status.{status_of}
 use Rattle.command_files.specs.declared.fault.Fault.{Fault}
-use Rattle.command_files.specs.declared.fault.Fault.TheVariants.{Usage, Text, NoType, OtherObjects, BadParameter, TooLarge, CannotRead, NoMemory, Output}
+use Rattle.command_files.specs.declared.fault.Fault.TheVariants.{Usage, Text, NoType, OtherObjects, HasEvents, BadParameter, TooLarge, CannotRead, Database, NoStore, NoMemory, Output}
 use Rattle.command_files.specs.declared.status.Status.{Status}
 use Rattle.command_files.specs.declared.status.Status.TheVariants.{Yes, No, BadInput, Failed}
 use Rattle.command_files.specs.declared.status.Verdict.{Verdict}
 use Rattle.command_files.specs.declared.status.Verdict.TheVariants as verdict
-use Rattle.command_words.specs.Words.{AreNoTask}
+use Rattle.command_words.specs.Words.{AreNoTask, AreWordsOf}
 use Rattle.command_words.specs.declared.task.Task.{Task}
 use Rattle.commands.specs.Concluded.{Concludes, IsBegun, IsHandedOn}
-use Rattle.commands.specs.Doing.{Answer, AnswersWords, Begun, Does, DoesNothing, DoesWords, IsAmiss, Started, Written}
-use Rattle.store_files.specs.Types.{Held}
+use Rattle.commands.specs.Doing.{Answer, Begun, Does, DoesNothing, DoesTask, DoesWords, IsAmiss, Shown, Started, Written}
 
 -- ---- bytes
 
@@ -79,9 +78,12 @@ module _ (old gathered new err new_err : Option (List ℕ)) (status : Status) (n
   amiss_or_failed bad (Text path fault) refused which = ⊎_elim (λ is. inl (is, refused)) (λ is. inr is) which
   amiss_or_failed bad (NoType path x place) refused which = ⊎_elim (λ is. inl (is, refused)) (λ is. inr is) which
   amiss_or_failed bad (OtherObjects path first) refused which = ⊎_elim (λ is. inl (is, refused)) (λ is. inr is) which
+  amiss_or_failed bad (HasEvents path) refused which = ⊎_elim (λ is. inl (is, refused)) (λ is. inr is) which
   amiss_or_failed bad BadParameter refused which = ⊎_elim (λ is. inl (is, refused)) (λ is. inr is) which
   amiss_or_failed bad TooLarge refused which = ⊎_elim (λ is. inl (is, refused)) (λ is. inr is) which
   amiss_or_failed bad (CannotRead path) refused which = ⊎_elim (λ is. inr is) (λ is. inr is) which
+  amiss_or_failed bad (Database path fault) refused which = ⊎_elim (λ is. inr is) (λ is. inr is) which
+  amiss_or_failed bad (NoStore path) refused which = ⊎_elim (λ is. inl (is, refused)) (λ is. inr is) which
   amiss_or_failed bad NoMemory refused which = ⊎_elim (λ is. inr is) (λ is. inr is) which
   amiss_or_failed bad Output refused which = absurd refused
 
@@ -91,18 +93,18 @@ module _ (old gathered new err new_err : Option (List ℕ)) (status : Status) (n
       let none = does_nothing fault same ended in
       (amiss_or_failed bad fault refused none.0, none.1)
 
-  module _ (holds : Held) (task : Task) where
+  module _ (given : Shown) (task : Task) where
     abbrev Ends : Status → Type 0
-    Ends s = Does holds task s old new err new_err
+    Ends s = Does given task s old new err new_err
 
     abbrev Comes : Result Verdict Fault → Type 0
-    Comes answer = ComesOr (Written holds task) (Begun holds task) (Answer holds task) (IsAmiss holds task) answer (append_known old []) gathered
+    Comes answer = ComesOr (Written given task) (Begun given task) (Answer given task) (IsAmiss given task) answer (append_known old []) gathered
 
     -- the program failed behind a text, of which the output took a beginning or the whole
-    failed_behind : (text : List ℕ) → Started holds task text → Appends (append_known old []) gathered text → IsBegun gathered new → Ends Failed
+    failed_behind : (text : List ℕ) → Started given task text → Appends (append_known old []) gathered text → IsBegun gathered new → Ends Failed
     failed_behind text started more part = let b = begun old gathered new text nothing more part in inr (text, b.0, started, b.1)
 
-    failed_whole : (text : List ℕ) → Started holds task text → Appends (append_known old []) gathered text → IsHandedOn gathered new → Ends Failed
+    failed_whole : (text : List ℕ) → Started given task text → Appends (append_known old []) gathered text → IsHandedOn gathered new → Ends Failed
     failed_whole text started more all =
         inr (text, length text, started, subst (λ (bytes : List ℕ). Appends old new bytes) (sym (take-length text)) (handed_on old gathered new text more all))
 
@@ -116,7 +118,7 @@ module _ (old gathered new err new_err : Option (List ℕ)) (status : Status) (n
         (λ part. subst Ends (sym part.0) (failed_behind c.0 (inl (verdict.No, c.1)) c.2 part.1)) ended
 
     -- of a fault of what the user gave
-    amiss : (fault : Fault) → (status_of fault ≡ BadInput) → IsAmiss holds task × (gathered ≡ append_known old []) → Concludes (Err fault) gathered status new err new_err → Ends status
+    amiss : (fault : Fault) → (status_of fault ≡ BadInput) → IsAmiss given task × (gathered ≡ append_known old []) → Concludes (Err fault) gathered status new err new_err → Ends status
     amiss fault input c ended =
         let none = does_nothing fault c.1 ended in
         ⊎_elim (λ is. subst Ends (sym (is ∙ input)) (c.0, none.1)) (λ is. subst Ends (sym is) (inl none.1)) none.0
@@ -128,19 +130,19 @@ module _ (old gathered new err new_err : Option (List ℕ)) (status : Status) (n
         ⊎_elim (λ is. subst Ends (sym (is ∙ is_failed)) (inl none.1)) (λ is. subst Ends (sym is) (inl none.1)) none.0
 
     -- of one behind a text
-    failed_text : (fault : Fault) → (status_of fault ≡ Failed) → (text : List ℕ) → Started holds task text → Appends (append_known old []) gathered text
+    failed_text : (fault : Fault) → (status_of fault ≡ Failed) → (text : List ℕ) → Started given task text → Appends (append_known old []) gathered text
         → Concludes (Err fault) gathered status new err new_err → Ends status
     failed_text fault is_failed text started more ended =
         ⊎_elim (λ all. subst Ends (sym (all.0 ∙ is_failed)) (failed_whole text started more all.1))
         (λ part. subst Ends (sym part.0) (failed_behind text started more part.1)) ended
 
     -- a beginning of a beginning of a text
-    shorter : (text : List ℕ) (n : ℕ) → Started holds task text → (b : (k : ℕ) × Appends old new (take k (take n text))) → Ends Failed
+    shorter : (text : List ℕ) (n : ℕ) → Started given task text → (b : (k : ℕ) × Appends old new (take k (take n text))) → Ends Failed
     shorter text n started b =
         let k = take_again text b.0 n in
         inr (text, k.0, started, subst (λ (bytes : List ℕ). Appends old new bytes) k.1 b.1)
 
-    failed_output : (text : List ℕ) (n : ℕ) → Started holds task text → Appends (append_known old []) gathered (take n text)
+    failed_output : (text : List ℕ) (n : ℕ) → Started given task text → Appends (append_known old []) gathered (take n text)
         → Concludes (Err Output) gathered status new err new_err → Ends status
     failed_output text n started more ended =
         ⊎_elim (λ all. subst Ends (sym all.0) (inr (text, n, started, handed_on old gathered new (take n text) more all.1)))
@@ -152,33 +154,41 @@ module _ (old gathered new err new_err : Option (List ℕ)) (status : Status) (n
     does (Err (Text path fault)) c ended = amiss (Text path fault) refl c ended
     does (Err (NoType path x place)) c ended = amiss (NoType path x place) refl c ended
     does (Err (OtherObjects path first)) c ended = amiss (OtherObjects path first) refl c ended
+    does (Err (HasEvents path)) c ended = amiss (HasEvents path) refl c ended
     does (Err BadParameter) c ended = amiss BadParameter refl c ended
     does (Err TooLarge) c ended = amiss TooLarge refl c ended
     does (Err (CannotRead path)) c ended = failed (CannotRead path) refl c ended
+    does (Err (Database path fault)) c ended = failed (Database path fault) refl c ended
+    does (Err (NoStore path)) c ended = amiss (NoStore path) refl c ended
     does (Err NoMemory) c ended =
         ⊎_elim (λ same. failed NoMemory refl same ended) (λ b. failed_text NoMemory refl b.0 (inr (inr b.1)) b.2 ended) c
     does (Err Output) c ended = failed_output c.0 c.1 (inr (inl c.2)) c.3 ended
 
-  -- what the words ask for is done, or the words are no task's
-  pub does_words : (holds : Held) (words given : List (List ℕ)) (waits : List ℕ) (answer : Result Verdict Fault) → given ≡ words → waits ≡ []
-      → AnswersWords holds given answer (append_known old waits) gathered → Concludes answer gathered status new err new_err → DoesWords holds words status old new err new_err
-  does_words holds words given waits answer same none answers ended =
-      let here = subst (λ (ws : List (List ℕ)). AnswersWords holds ws answer (append_known old []) gathered) same
-      (subst (λ (b : List ℕ). AnswersWords holds given answer (append_known old b) gathered) none answers) in
-      ⊎_elim (λ done. inl (done.0, done.1, does holds done.0 answer done.2 ended))
-      (λ refused. inr (refuses_words (AreNoTask words) refused.0 refused.2 refused.3
-      (subst (λ (a : Result Verdict Fault). Concludes a gathered status new err new_err) refused.1 ended))) here
+  -- a task is done, where standard error was passed on as it was
+  pub does_task : (given : Shown) (words : List (List ℕ)) (waits : List ℕ) (task : Task) (answer : Result Verdict Fault) (passed : Option (List ℕ)) → waits ≡ [] → passed ≡ err
+      → AreWordsOf words task → DoesTask given task answer (append_known old waits) gathered → Concludes answer gathered status new passed new_err
+      → DoesWords given words status old new err new_err
+  does_task given words waits task answer passed none same are comes ended =
+      let here = subst (λ (b : List ℕ). DoesTask given task answer (append_known old b) gathered) none comes in
+      let over = subst (λ (e : Option (List ℕ)). Concludes answer gathered status new e new_err) same ended in
+      ⊎_elim (λ serve. inl (task, are, serve)) (λ done. inr (inl (task, are, does given task answer done over))) here
 
--- memory was refused for the words
-pub no_memory : (old new err new_err : Option (List ℕ)) (status : Status) (waits : List ℕ) (holds : Held) (words : List (List ℕ)) → IfSome old (λ xs. xs ≡ []) → waits ≡ []
-    → Concludes (Err NoMemory) (append_known old waits) status new err new_err → DoesWords holds words status old new err new_err
-no_memory old new err new_err status waits holds words nothing none ended =
-    inr (refuses_words old (append_known old []) new err new_err status nothing (AreNoTask words) NoMemory tt refl
-    (subst (λ (b : List ℕ). Concludes (Err NoMemory) (append_known old b) status new err new_err) none ended))
+-- what is done of words is done of the same words
+pub same_words : (old new err new_err : Option (List ℕ)) (status : Status) (given : Shown) (words words' : List (List ℕ)) → words ≡ words' → DoesWords given words status old new err new_err
+    → DoesWords given words' status old new err new_err
+same_words old new err new_err status given words words' same done = subst (λ (ws : List (List ℕ)). DoesWords given ws status old new err new_err) same done
+
+-- the words are no task's, or memory was refused for them
+pub refused_words : (old new err new_err : Option (List ℕ)) (status : Status) (waits : List ℕ) (given : Shown) (words : List (List ℕ)) (fault : Fault) → IfSome old (λ xs. xs ≡ []) → waits ≡ []
+    → Refuses (AreNoTask words) fault → Concludes (Err fault) (append_known old waits) status new err new_err → DoesWords given words status old new err new_err
+refused_words old new err new_err status waits given words fault nothing none refused ended =
+    inr (inr (refuses_words old (append_known old []) new err new_err status nothing (AreNoTask words) fault refused refl
+    (subst (λ (b : List ℕ). Concludes (Err fault) (append_known old b) status new err new_err) none ended)))
 
 -- there are no words
-pub no_words : (old new err new_err : Option (List ℕ)) (status : Status) (waits : List ℕ) (fault : Fault) → IfSome old (λ xs. xs ≡ []) → waits ≡ []
-    → Concludes (Err fault) (append_known old waits) status new err new_err → DoesNothing fault status old new
-no_words old new err new_err status waits fault nothing none ended =
-    does_nothing old (append_known old []) new err new_err status nothing fault refl
-    (subst (λ (b : List ℕ). Concludes (Err fault) (append_known old b) status new err new_err) none ended)
+pub no_words : {T : Type 0} (words : Result T Fault) (fault : Fault) (old new err new_err : Option (List ℕ)) (status : Status) (waits : List ℕ) → words ≡ Err fault
+    → IfSome old (λ xs. xs ≡ []) → waits ≡ [] → Concludes (Err fault) (append_known old waits) status new err new_err → IfErr words (λ f. DoesNothing f status old new)
+no_words {T} words fault old new err new_err status waits are nothing none ended =
+    subst (λ (r : Result T Fault). IfErr r (λ f. DoesNothing f status old new)) (sym are)
+    (does_nothing old (append_known old []) new err new_err status nothing fault refl
+    (subst (λ (b : List ℕ). Concludes (Err fault) (append_known old b) status new err new_err) none ended))

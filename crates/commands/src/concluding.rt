@@ -14,16 +14,18 @@ use std::alloc::Global;
 pub(crate) fn conclude<W: Out, E: Out>(
     alloc: Global,
     answer: Result<Verdict, Fault<'_>>,
-    console: &mut Console<W, E>,
-) -> Status
-    requires err_takes { E.fault console.old.err ≡ None }
-    ensures { Concludes answer.entry (taken_by W.taken console.old.out) result (W.taken (under console.new.out)) (E.taken console.old.err) (E.taken console.new.err) }
+    console: Console<W, E>,
+) -> (Status, Console<W, E>)
+    requires err_takes { E.fault console.err ≡ None }
+    ensures { Concludes answer.entry (taken_by W.taken console.out) result.0 (W.taken (under result.1.out)) (E.taken console.err) (E.taken result.1.err) }
 {
-    match (hand_on(&mut console.out), answer) {
+    let mut console = console;
+    let status = match (hand_on(&mut console.out), answer) {
         (Err(_), _) => Status::Failed,
         (Ok(()), Ok(verdict)) => verdict.status(),
         (Ok(()), Err(fault)) => say_fault(alloc, &fault, &mut console.err),
-    }
+    };
+    (status, console)
 }
 
 /// Hands on what is gathered.

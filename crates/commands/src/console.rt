@@ -6,3 +6,11 @@ pub struct Console<W, E> {
     pub out: Gathered<W>,
     pub err: E,
 }
+
+/// What the program is given beside its words: files, databases, and what a client asks.
+#[derive(Drop)]
+pub struct Given<S, D, I> {
+    pub source: S,
+    pub databases: D,
+    pub input: I,
+}

@@ -1,115 +1,179 @@
 //! The program, between the words and the status.
 
 ghost use Rattle.std.specs.Prelude.{◌≡◌, [], None, map, IfOk, IfErr, IfSome};
-ghost use Rattle.command_files.specs.Answers.{ComesOr};
-ghost use Rattle.commands.specs.Doing.{Answer, AnswersWords, Begun, DoesNothing, DoesWords, IsAmiss, Written};
-ghost use Rattle.outputs.specs.Gathered.{under, waiting};
+ghost use Rattle.command_files.specs.Answers.{Refuses};
+ghost use Rattle.command_words.specs.Words.{AreNoTask, AreWordsOf};
+ghost use Rattle.commands.specs.Doing.{DoesNothing, DoesTask, DoesWords, shown};
+ghost use Rattle.outputs.specs.Gathered.{taken_by, under, waiting};
 
 use crate::concluding::conclude;
-use crate::console::Console;
+use crate::console::{Console, Given};
 use crate::words::borrowed;
 use command_files::{Fault, Source, Status, Verdict, put_answer};
 use command_words::{Task, VERSION, WordFault, read_words};
+use database_commands::{NewStore, audit_database, create_store, tell_history};
+use database_files::Databases;
 use outputs::Out;
+use serve_command::serve_database;
+use std::alloc::Global;
+use std::io::Read;
 use std::sync::Wait;
 use std::thread::Threads;
 use store_commands::{Schedule, Work, audit_histories, run_file, work_file};
 use type_commands::{check_file, make_family, make_tables_of};
 
-/// Does what the words after the program's name ask for, with the files that the source holds, and answers
-/// the status; or says why there are no words.
+/// Does what the words after the program's name ask for, with what is given, and answers the status; or says
+/// why there are no words.
 ///
 /// Standard error takes the line of a fault, and nothing where there is an answer. What the status says of
-/// the words, of the files and of what the output took is `DoesWords`.
-pub fn do_words<R: AllocGlobal + Threads + Wait + Sync, S: Source, W: Out, E: Out>(
+/// the words, of what is given and of what the output took is `DoesWords`.
+pub fn do_words<
+    R: AllocGlobal + Threads + Wait + Sync,
+    S: Source,
+    D: Databases,
+    I: Read,
+    W: Out,
+    E: Out,
+>(
     rt: &R,
     words: Result<Vec<String>, Fault<'static>>,
-    source: &mut S,
-    console: &mut Console<W, E>,
-) -> Status
-    requires out_takes { W.fault (under console.old.out) ≡ None }
-    requires nothing_waits { waiting console.old.out ≡ [] }
-    requires nothing_taken { IfSome (W.taken (under console.old.out)) (λ bytes. bytes ≡ []) }
-    requires err_takes { E.fault console.old.err ≡ None }
-    ensures does { IfOk words.entry (λ given. DoesWords (S.holds source.old) (map (λ w. w.bytes.items) given.items) result (W.taken (under console.old.out))
-        (W.taken (under console.new.out)) (E.taken console.old.err) (E.taken console.new.err)) }
-    ensures no_words { IfErr words.entry (λ fault. DoesNothing fault result (W.taken (under console.old.out)) (W.taken (under console.new.out))) }
+    given: &mut Given<S, D, I>,
+    console: Console<W, E>,
+) -> (Status, Console<W, E>)
+    requires out_takes { W.fault (under console.out) ≡ None }
+    requires nothing_waits { waiting console.out ≡ [] }
+    requires nothing_taken { IfSome (W.taken (under console.out)) (λ bytes. bytes ≡ []) }
+    requires err_takes { E.fault console.err ≡ None }
+    ensures does { IfOk words.entry (λ all. DoesWords (shown (S.holds given.old.source) (D.holds given.old.databases) (D.holds given.new.databases) (D.is_clean given.new.databases))
+        (map (λ w. w.bytes.items) all.items) result.0 (W.taken (under console.out)) (W.taken (under result.1.out)) (E.taken console.err) (E.taken result.1.err)) }
+    ensures no_words { IfErr words.entry (λ fault. DoesNothing fault result.0 (W.taken (under console.out)) (W.taken (under result.1.out))) }
 {
     match words {
-        Ok(words) => do_given(rt, &words, source, console),
+        Ok(words) => do_given(rt, &words, given, console),
         Err(fault) => conclude(rt.alloc(), Err(fault), console),
     }
 }
 
 /// Does what these words ask for.
-fn do_given<R: AllocGlobal + Threads + Wait + Sync, S: Source, W: Out, E: Out>(
+fn do_given<
+    R: AllocGlobal + Threads + Wait + Sync,
+    S: Source,
+    D: Databases,
+    I: Read,
+    W: Out,
+    E: Out,
+>(
     rt: &R,
     words: &[String],
-    source: &mut S,
-    console: &mut Console<W, E>,
-) -> Status
-    requires out_takes { W.fault (under console.old.out) ≡ None }
-    requires nothing_waits { waiting console.old.out ≡ [] }
-    requires nothing_taken { IfSome (W.taken (under console.old.out)) (λ bytes. bytes ≡ []) }
-    requires err_takes { E.fault console.old.err ≡ None }
-    ensures { DoesWords (S.holds source.old) (map (λ w. w.bytes.items) words.now) result (W.taken (under console.old.out)) (W.taken (under console.new.out)) (E.taken console.old.err) (E.taken console.new.err) }
+    given: &mut Given<S, D, I>,
+    console: Console<W, E>,
+) -> (Status, Console<W, E>)
+    requires out_takes { W.fault (under console.out) ≡ None }
+    requires nothing_waits { waiting console.out ≡ [] }
+    requires nothing_taken { IfSome (W.taken (under console.out)) (λ bytes. bytes ≡ []) }
+    requires err_takes { E.fault console.err ≡ None }
+    ensures { DoesWords (shown (S.holds given.old.source) (D.holds given.old.databases) (D.holds given.new.databases) (D.is_clean given.new.databases))
+        (map (λ w. w.bytes.items) words.now) result.0 (W.taken (under console.out)) (W.taken (under result.1.out)) (E.taken console.err) (E.taken result.1.err) }
 {
     let alloc = rt.alloc();
     match borrowed(alloc, words) {
-        Ok(words) => {
-            let answer = answer_words(rt, &words, source, &mut console.out);
-            conclude(alloc, answer, console)
-        }
+        Ok(words) => do_read(rt, &words, given, console),
         Err(_) => conclude(alloc, Err(Fault::NoMemory), console),
     }
 }
 
 /// Reads the words and does their task.
+fn do_read<
+    R: AllocGlobal + Threads + Wait + Sync,
+    S: Source,
+    D: Databases,
+    I: Read,
+    W: Out,
+    E: Out,
+>(
+    rt: &R,
+    words: &[&str],
+    given: &mut Given<S, D, I>,
+    console: Console<W, E>,
+) -> (Status, Console<W, E>)
+    requires out_takes { W.fault (under console.out) ≡ None }
+    requires nothing_waits { waiting console.out ≡ [] }
+    requires nothing_taken { IfSome (W.taken (under console.out)) (λ bytes. bytes ≡ []) }
+    requires err_takes { E.fault console.err ≡ None }
+    ensures { DoesWords (shown (S.holds given.old.source) (D.holds given.old.databases) (D.holds given.new.databases) (D.is_clean given.new.databases))
+        (map (λ w. w.now) words.now) result.0 (W.taken (under console.out)) (W.taken (under result.1.out)) (E.taken console.err) (E.taken result.1.err) }
+{
+    let alloc = rt.alloc();
+    match task_of(alloc, words) {
+        Ok(task) => {
+            let (answer, console) = do_task(rt, task, given, console);
+            conclude(alloc, answer, console)
+        }
+        Err(fault) => conclude(alloc, Err(fault), console),
+    }
+}
+
+/// The task of words.
 ///
 /// # Errors
 ///
-/// The words name no task, or why the task has no answer.
-fn answer_words<'a, R: AllocGlobal + Threads + Wait + Sync, S: Source, W: Out>(
-    rt: &R,
-    words: &'a [&'a str],
-    source: &mut S,
-    out: &mut W,
-) -> Result<Verdict, Fault<'a>>
-    requires { W.fault out.old ≡ None }
-    ensures { AnswersWords (S.holds source.old) (map (λ w. w.now) words.now) result (W.taken out.old) (W.taken out.new) }
+/// They name none, or memory was refused.
+fn task_of<'a>(alloc: Global, words: &'a [&'a str]) -> Result<Task<'a>, Fault<'a>>
+    ensures taken { IfOk result (AreWordsOf (map (λ w. w.now) words.now)) }
+    ensures refused { IfErr result (Refuses (AreNoTask (map (λ w. w.now) words.now))) }
 {
-    match read_words(rt.alloc(), words) {
-        Ok(task) => do_task(rt, task, source, out),
+    match read_words(alloc, words) {
+        Ok(task) => Ok(task),
         Err(WordFault::Usage { text }) => Err(Fault::Usage { text }),
         Err(WordFault::NoMemory) => Err(Fault::NoMemory),
     }
 }
 
-/// Does a task: writes its answer.
-///
-/// # Errors
-///
-/// Why there is none.
-fn do_task<'a, R: AllocGlobal + Threads + Wait + Sync, S: Source, W: Out>(
+/// Serves the store in the database at a path: its client is told by the console's output.
+fn do_serve<'a, S, D: Databases, I: Read, W: Out, E>(
+    alloc: Global,
+    database: &'a str,
+    given: &mut Given<S, D, I>,
+    console: Console<W, E>,
+) -> (Result<Verdict, Fault<'a>>, Console<W, E>)
+    requires { W.fault (under console.out) ≡ None }
+    ensures { result.1.err ≡ console.err }
+{
+    let Console { out, err } = console;
+    let (answer, out) = serve_database(
+        alloc,
+        database,
+        &mut given.databases,
+        &mut given.input,
+        out,
+    );
+    (answer, Console { out, err })
+}
+
+/// Does a task: writes its answer. Where there is none, says why.
+fn do_task<'a, R: AllocGlobal + Threads + Wait + Sync, S: Source, D: Databases, I: Read, W: Out, E>(
     rt: &R,
     task: Task<'a>,
-    source: &mut S,
-    out: &mut W,
-) -> Result<Verdict, Fault<'a>>
-    requires { W.fault out.old ≡ None }
-    ensures { let holds = S.holds source.old in
-        ComesOr (Written holds task.entry) (Begun holds task.entry) (Answer holds task.entry) (IsAmiss holds task.entry) result (W.taken out.old) (W.taken out.new) }
+    given: &mut Given<S, D, I>,
+    mut console: Console<W, E>,
+) -> (Result<Verdict, Fault<'a>>, Console<W, E>)
+    requires { W.fault (under console.out) ≡ None }
+    ensures does { DoesTask (shown (S.holds given.old.source) (D.holds given.old.databases) (D.holds given.new.databases) (D.is_clean given.new.databases))
+        task.entry result.0 (taken_by W.taken console.out) (taken_by W.taken result.1.out) }
+    ensures err { result.1.err ≡ console.err }
 {
     let alloc = rt.alloc();
+    let source = &mut given.source;
+    let out = &mut console.out;
     match task {
-        Task::Check { kind, path } => check_file(rt, kind, path, source, out),
+        Task::Check { kind, path } => (check_file(rt, kind, path, source, out), console),
         Task::Make {
             family,
             size,
             items,
-        } => make_family(alloc, family, size, &items, out),
-        Task::Tables { path } => make_tables_of(alloc, path, source, out),
-        Task::Run { script, types } => run_file(alloc, script, &types, source, out),
+        } => (make_family(alloc, family, size, &items, out), console),
+        Task::Tables { path } => (make_tables_of(alloc, path, source, out), console),
+        Task::Run { script, types } => (run_file(alloc, script, &types, source, out), console),
         Task::Work {
             jobs,
             types,
@@ -121,7 +185,7 @@ fn do_task<'a, R: AllocGlobal + Threads + Wait + Sync, S: Source, W: Out>(
                 tries,
                 schedule: Schedule::SideBySide,
             };
-            work_file(rt, work, jobs, &types, source, out)
+            (work_file(rt, work, jobs, &types, source, out), console)
         }
         Task::Stress {
             jobs,
@@ -135,14 +199,50 @@ fn do_task<'a, R: AllocGlobal + Threads + Wait + Sync, S: Source, W: Out>(
                 tries,
                 schedule: Schedule::Drawn { seed },
             };
-            work_file(rt, work, jobs, &types, source, out)
+            (work_file(rt, work, jobs, &types, source, out), console)
         }
         Task::Audit {
             history,
             later,
             types,
-        } => audit_histories(alloc, history, &later, &types, source, out),
-        Task::Help { topic } => put_answer(Verdict::Yes, topic.text().as_bytes(), out),
-        Task::Version => put_answer(Verdict::Yes, VERSION.as_bytes(), out),
+        } => (
+            audit_histories(alloc, history, &later, &types, source, out),
+            console,
+        ),
+        Task::Create {
+            database,
+            objects,
+            types,
+        } => {
+            let asked = NewStore {
+                database,
+                objects,
+                types: &types,
+            };
+            (
+                create_store(alloc, asked, source, &mut given.databases, out),
+                console,
+            )
+        }
+        Task::History { database } => {
+            (
+                tell_history(alloc, database, &mut given.databases, out),
+                console,
+            )
+        }
+        Task::AuditDatabase { database } => {
+            (
+                audit_database(alloc, database, &mut given.databases, out),
+                console,
+            )
+        }
+        Task::Serve { database } => do_serve(alloc, database, given, console),
+        Task::Help { topic } => {
+            (
+                put_answer(Verdict::Yes, topic.text().as_bytes(), out),
+                console,
+            )
+        }
+        Task::Version => (put_answer(Verdict::Yes, VERSION.as_bytes(), out), console),
     }
 }

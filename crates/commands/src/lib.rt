@@ -6,6 +6,6 @@ mod console;
 mod doing;
 mod words;
 
-pub use console::Console;
+pub use console::{Console, Given};
 pub use doing::do_words;
 pub use words::given_words;

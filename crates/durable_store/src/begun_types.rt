@@ -29,11 +29,23 @@ pub(crate) fn objects_of(alloc: Global, said: &FileContents) -> Result<Vec<Objec
     ensures fresh { IfOk result (λ objects. AreFresh (map meaning_of objects.items)) }
     ensures types { IfOk result (λ objects. HasTypes (contents said.now) (types_of (map meaning_of objects.items))) }
 {
+    let begun = file_types(alloc, said)?;
+    Ok(new_objects(alloc, &begun)?)
+}
+
+/// The types of a file's objects, at the states where its history begins.
+///
+/// # Errors
+///
+/// `Text`, `Untyped` or `NoMemory`, or `Journal` where there aren't as many states as objects.
+pub fn file_types(alloc: Global, said: &FileContents) -> Result<Vec<Arc<CheckedType>>, OpenError>
+    ensures { IfOk result (λ types. HasTypes (contents said.now) (map arc_value types.items)) }
+{
     let files = files_of(alloc, &said.types)?;
     let lines: &[ObjectLine] = &said.objects;
     let types = accept_types(alloc, &files, lines)?;
     let begun = types_at(alloc, &types, lines, &said.states)?;
-    Ok(new_objects(alloc, &begun)?)
+    Ok(begun)
 }
 
 /// The files that the texts describe, in their order.

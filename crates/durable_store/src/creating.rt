@@ -36,6 +36,7 @@ pub fn create<S: Alter>(
 ) -> Result<S, (OpenError, S)>
     requires { IsClean (S.Store.view trees) → IsTrue (S.Store.view trees).is_numbered }
     ensures created { IfOk result (λ trees. IsClean (S.Store.view trees) → IsNew id texts.items lines.items (contents_of (S.Store.view trees).committed)) }
+    ensures is_open { IfOk result (λ trees. IsClean (S.Store.view trees) → IsTrue (S.Store.view trees).is_open) }
     ensures left { IfErr result (λ e. IsLeft e.0 trees e.1) }
     ensures numbered { IfOk result (λ trees. IsClean (S.Store.view trees) → IsTrue (S.Store.view trees).is_numbered) }
 {

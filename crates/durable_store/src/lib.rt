@@ -14,6 +14,7 @@ mod outage;
 mod settling;
 mod writing;
 
+pub use begun_types::file_types;
 pub use creating::create;
 pub use durable::Durable;
 pub use open_error::OpenError;

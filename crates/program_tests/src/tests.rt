@@ -2,6 +2,7 @@
 
 mod audit_words;
 mod gathered;
+mod memory_databases;
 mod memory_source;
 mod programs;
 mod source;

@@ -61,7 +61,7 @@ fn audit_one<'a, W: Out>(
 {
     let tables = tables_of(alloc, path, files, &history.objects)?;
     let outcome = audit(alloc, &history.events, &tables);
-    let text = text_of(alloc, &outcome)?;
+    let text = audit_lines(alloc, &outcome)?;
     match outcome {
         Ok(_) => put_answer(Verdict::Yes, &text, out),
         Err(AuditFault::NoMemory) => Err(Fault::NoMemory),
@@ -70,7 +70,10 @@ fn audit_one<'a, W: Out>(
 }
 
 /// The lines of an audit, put together in memory, so that a growth that is refused leaves nothing written.
-fn text_of<'a>(alloc: Global, outcome: &Result<Audit, AuditFault>) -> Result<Vec<u8>, Fault<'a>>
+pub fn audit_lines<'a>(
+    alloc: Global,
+    outcome: &Result<Audit, AuditFault>,
+) -> Result<Vec<u8>, Fault<'a>>
     ensures text { IfOk result (λ text. text.items ≡ audit_text outcome.now) }
     ensures failed { IfErr result (λ fault. fault ≡ NoMemory) }
 {

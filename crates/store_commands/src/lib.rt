@@ -9,8 +9,9 @@ mod schedule;
 mod several;
 mod work;
 
-pub use audit::audit_histories;
+pub use audit::{audit_histories, audit_lines};
 pub use laws::{run_is_read, works_are_read};
+pub use passing::audit_types;
 pub use run::run_file;
 pub use schedule::Schedule;
 pub use work::{Work, work_file};

@@ -58,7 +58,7 @@ pub(crate) fn audit_of<R: Recovery>(
 }
 
 /// Audits events with the tables of these types.
-fn audit_types(
+pub fn audit_types(
     alloc: Global,
     types: &[Arc<CheckedType>],
     events: &[Event],

@@ -5,6 +5,7 @@ ghost use Rattle.outputs.specs.Out.{sink_fault};
 
 mod audits;
 mod checks;
+mod database_processes;
 mod deferred;
 mod faults;
 mod first_faults;
@@ -12,16 +13,20 @@ mod in_place;
 mod jobs;
 mod many;
 mod memory;
+mod one_database;
 mod processes;
 mod rollbacks;
 mod seeds;
 mod stopped;
 mod texts;
 
+use crate::tests::memory_databases::MemoryDatabases;
 use command_files::{Fault, Source, SourceFault, Status, say_fault};
-use commands::{Console, do_words};
+use commands::{Console, Given, do_words};
+use database_files::Databases;
 use outputs::{Gathered, Sink};
 use std::alloc::Global;
+use std::io::Read;
 use std::process::Abort;
 use std::sync::Wait;
 use std::test::Fail;
@@ -132,11 +137,11 @@ fn owned(alloc: Global, words: &[&str]) -> Result<Vec<String>, Fault<'static>> {
     Ok(owned)
 }
 
-/// What the program does with these words over these files, with these two outputs.
-fn play_over<R: AllocGlobal + Threads + Wait + Sync, S: Source>(
+/// What the program does with these words and what it is given, with these two outputs.
+fn play_given<R: AllocGlobal + Threads + Wait + Sync, S: Source, D: Databases, I: Read>(
     rt: &R,
     words: &[&str],
-    source: &mut S,
+    given: &mut Given<S, D, I>,
     out: Held,
     mut err: Held,
 ) -> Played
@@ -149,12 +154,31 @@ fn play_over<R: AllocGlobal + Threads + Wait + Sync, S: Source>(
         let err = err.into_inner().held;
         return Played { status, out, err };
     };
-    let mut console = Console { out, err };
-    let status = do_words(rt, owned(rt.alloc(), words), source, &mut console);
+    let console = Console { out, err };
+    let (status, console) = do_words(rt, owned(rt.alloc(), words), given, console);
     let Console { out, err } = console;
     let out = out.into_inner().into_inner().held;
     let err = err.into_inner().held;
     Played { status, out, err }
+}
+
+/// What it does with these words over these files and no database, with these two outputs.
+fn play_over<R: AllocGlobal + Threads + Wait + Sync, S: Source + Drop>(
+    rt: &R,
+    words: &[&str],
+    source: S,
+    out: Held,
+    err: Held,
+) -> Played
+    requires out_takes { sink_fault out ≡ None }
+    requires err_takes { sink_fault err ≡ None }
+{
+    let mut given = Given {
+        source,
+        databases: MemoryDatabases::new(rt.alloc()),
+        input: b"".as_slice(),
+    };
+    play_given(rt, words, &mut given, out, err)
 }
 
 /// What it does with a case's words over its files, with these two outputs.
@@ -167,18 +191,18 @@ fn play_on<R: AllocGlobal + Threads + Wait + Sync>(
     requires out_takes { sink_fault out ≡ None }
     requires err_takes { sink_fault err ≡ None }
 {
-    let mut source = CaseFiles {
+    let source = CaseFiles {
         alloc: rt.alloc(),
         files: case.files,
     };
-    play_over(rt, case.words, &mut source, out, err)
+    play_over(rt, case.words, source, out, err)
 }
 
 /// What it does with words over files, with outputs that take all.
-pub fn outcome_of<R: Abort + AllocGlobal + Threads + Wait + Sync, S: Source>(
+pub fn outcome_of<R: Abort + AllocGlobal + Threads + Wait + Sync, S: Source + Drop>(
     rt: &R,
     words: &[&str],
-    source: &mut S,
+    source: S,
 ) -> Played {
     let out = held_output(rt, usize::MAX, AtEnd::Fails);
     let err = held_output(rt, usize::MAX, AtEnd::Fails);
@@ -187,11 +211,11 @@ pub fn outcome_of<R: Abort + AllocGlobal + Threads + Wait + Sync, S: Source>(
 
 /// The same of a case.
 fn play<R: Abort + AllocGlobal + Threads + Wait + Sync>(rt: &R, case: &Case<'_>) -> Played {
-    let mut source = CaseFiles {
+    let source = CaseFiles {
         alloc: rt.alloc(),
         files: case.files,
     };
-    outcome_of(rt, case.words, &mut source)
+    outcome_of(rt, case.words, source)
 }
 
 /// That the program does what a case says. Where one allocation is refused, that is said, and the next
@@ -229,4 +253,5 @@ fn runs_and_audits(rt: HostRuntime) {
 #[test]
 fn processes_over_memory(rt: HostRuntime) {
     all_play(&rt, &processes::CASES);
+    all_play(&rt, &database_processes::CASES);
 }

@@ -23,11 +23,11 @@ fn run<R: Abort + AllocGlobal + Threads + Wait + Sync>(
     text: &[u8],
 ) -> Played {
     let files = [("ctr2.type", text)];
-    let mut source = MemorySource {
+    let source = MemorySource {
         alloc: rt.alloc(),
         files: files.as_slice(),
     };
-    outcome_of(rt, words, &mut source)
+    outcome_of(rt, words, source)
 }
 
 /// That these words over this text write this, and no fault.
@@ -176,7 +176,7 @@ fn answers_faults(rt: HostRuntime) {
 }
 
 /// The words that ask for the text on a topic.
-static HELP: [(&[&str], Topic); 8] = [
+static HELP: [(&[&str], Topic); 11] = [
     (&["help"], Topic::Program),
     (&["help", "check"], Topic::Check),
     (&["help", "make"], Topic::Make),
@@ -185,6 +185,9 @@ static HELP: [(&[&str], Topic); 8] = [
     (&["help", "audit"], Topic::Audit),
     (&["help", "work"], Topic::Work),
     (&["help", "stress"], Topic::Stress),
+    (&["help", "create"], Topic::Create),
+    (&["help", "serve"], Topic::Serve),
+    (&["help", "history"], Topic::History),
 ];
 
 /// That each of these words are answered with the text on their topic.

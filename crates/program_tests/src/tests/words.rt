@@ -32,6 +32,19 @@ fn has_parts(task: &Task<'_>, parts: &Parts) -> bool {
         Task::Run { script, types } => {
             (command == "run") & (first == *script) & (types.as_slice() == rest)
         }
+        Task::Create {
+            database,
+            objects,
+            types,
+        } => {
+            (command == "create")
+                & (first == *database)
+                & (second == *objects)
+                & (types.as_slice() == rest)
+        }
+        Task::Serve { database } => (command == "serve") & (first == *database),
+        Task::History { database } => (command == "history") & (first == *database),
+        Task::AuditDatabase { database } => (command == "audit") & (first == *database),
         Task::Audit { .. } | Task::Work { .. } | Task::Stress { .. } => false,
         Task::Help { topic } => (command == "help") & (first == word_of(*topic)),
         Task::Version => (command == "version") & (first == VERSION),
@@ -48,11 +61,14 @@ fn word_of(topic: Topic) -> &'static str {
         Topic::Audit => "audit",
         Topic::Work => "work",
         Topic::Stress => "stress",
+        Topic::Create => "create",
+        Topic::Serve => "serve",
+        Topic::History => "history",
     }
 }
 
 /// Words, and the task that they ask for.
-static TASKS: [(&[&str], Parts); 21] = [
+static TASKS: [(&[&str], Parts); 32] = [
     (
         &["check", "undo", "ctr2.type"],
         ("check", "undo", "ctr2.type", &[]),
@@ -79,6 +95,22 @@ static TASKS: [(&[&str], Parts); 21] = [
         &["run", "a.script", "a.type", "b.type", "a.type"],
         ("run", "a.script", "", &["a.type", "b.type", "a.type"]),
     ),
+    (
+        &["create", "a.db", "a.objects", "a.type"],
+        ("create", "a.db", "a.objects", &["a.type"]),
+    ),
+    (
+        &["create", "a.db", "a.objects", "a.type", "b.type", "a.type"],
+        (
+            "create",
+            "a.db",
+            "a.objects",
+            &["a.type", "b.type", "a.type"],
+        ),
+    ),
+    (&["serve", "a.db"], ("serve", "a.db", "", &[])),
+    (&["history", "a.db"], ("history", "a.db", "", &[])),
+    (&["audit", "--database", "a.db"], ("audit", "a.db", "", &[])),
     // Words with hyphens behind two.
     (
         &["run", "a.script", "--", "-x", "--"],
@@ -92,6 +124,15 @@ static TASKS: [(&[&str], Parts); 21] = [
         &["check", "intentions", "--", "-x"],
         ("check", "intentions", "-x", &[]),
     ),
+    (
+        &["create", "--", "-a.db", "--", "-x"],
+        ("create", "-a.db", "--", &["-x"]),
+    ),
+    (&["serve", "--", "-a.db"], ("serve", "-a.db", "", &[])),
+    (
+        &["audit", "--database", "--help"],
+        ("audit", "--help", "", &[]),
+    ),
     (&["help"], ("help", "colock", "", &[])),
     (&["help", "check"], ("help", "check", "", &[])),
     (&["help", "make"], ("help", "make", "", &[])),
@@ -100,6 +141,9 @@ static TASKS: [(&[&str], Parts); 21] = [
     (&["help", "audit"], ("help", "audit", "", &[])),
     (&["help", "work"], ("help", "work", "", &[])),
     (&["help", "stress"], ("help", "stress", "", &[])),
+    (&["help", "create"], ("help", "create", "", &[])),
+    (&["help", "serve"], ("help", "serve", "", &[])),
+    (&["help", "history"], ("help", "history", "", &[])),
     (&["--version"], ("version", "colock 0.1.0\n", "", &[])),
     (&["-V"], ("version", "colock 0.1.0\n", "", &[])),
 ];
@@ -376,7 +420,7 @@ fn refuses_other_words_of_workers(rt: HostRuntime) {
 }
 
 /// Words that ask for no task.
-static REFUSED: [&[&str]; 33] = [
+static REFUSED: [&[&str]; 49] = [
     &[],
     &["prove"],
     &["check"],
@@ -403,6 +447,22 @@ static REFUSED: [&[&str]; 33] = [
     &["audit"],
     &["audit", "a.history"],
     &["--", "audit", "a.history", "a.type"],
+    &["audit", "--database"],
+    &["audit", "--database=a.db"],
+    &["audit", "--database", "a.db", "a.type"],
+    &["audit", "a.db", "--database"],
+    &["create"],
+    &["create", "a.db"],
+    &["create", "a.db", "a.objects"],
+    &["create", "a.db", "a.objects", "-x"],
+    &["create", "--database", "a.db", "a.objects", "a.type"],
+    &["serve"],
+    &["serve", "a.db", "b.db"],
+    &["serve", "-x"],
+    &["serve", "--database", "a.db"],
+    &["history"],
+    &["history", "a.db", "a.type"],
+    &["history", "--then", "a.db"],
     &["help", "nosuch"],
     &["help", "check", "more"],
     &["help", "--", "check"],
@@ -439,7 +499,7 @@ fn usage_names_what_is_missing(rt: HostRuntime) {
 }
 
 /// Options that ask for a text of help.
-static HELP: [(&[&str], Topic); 12] = [
+static HELP: [(&[&str], Topic); 15] = [
     (&["--help"], Topic::Program),
     (&["-h"], Topic::Program),
     (&["check", "--help"], Topic::Check),
@@ -452,6 +512,9 @@ static HELP: [(&[&str], Topic); 12] = [
     (&["work", "--workers", "2", "-h"], Topic::Work),
     (&["stress", "-h"], Topic::Stress),
     (&["stress", "--seed=2", "a.jobs", "--help"], Topic::Stress),
+    (&["create", "a.db", "-h"], Topic::Create),
+    (&["serve", "--help"], Topic::Serve),
+    (&["history", "-h"], Topic::History),
 ];
 
 /// That each of these words are answered with their text.

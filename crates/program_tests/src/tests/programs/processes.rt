@@ -1,5 +1,6 @@
 //! The program as a process: each command with each status that it can have over files. `tools/run_processes`
 //! reads this table, and runs the built program over real files and pipes: so a case has plain strings alone.
+//! The commands over databases have a table of their own.
 
 use super::Case;
 use command_files::Status;

@@ -1,0 +1,2 @@
+mod NewStores
+mod Told

@@ -1,0 +1,51 @@
+//! What an error of a store says of the database at its path.
+
+ghost use Rattle.std.specs.Prelude.{⊤};
+ghost use Rattle.command_files.specs.Answers.{Refuses};
+
+use command_files::{DatabaseFault, Fault};
+use durable_store::OpenError;
+use journal::JournalError;
+use sqlite_trees::error::StoreError;
+
+/// Why a database isn't opened as that of a store.
+pub fn fault_of_open<'a>(path: &'a str, error: OpenError) -> Fault<'a>
+    ensures { Refuses ⊤ result }
+{
+    match error {
+        OpenError::NoMemory => Fault::NoMemory,
+        OpenError::Journal(error) => fault_of_journal(path, error),
+        _ => Fault::NoStore { path },
+    }
+}
+
+/// Why a journal isn't opened.
+pub fn fault_of_journal<'a>(path: &'a str, error: JournalError) -> Fault<'a>
+    ensures { Refuses ⊤ result }
+{
+    match error {
+        JournalError::Store(error) => fault_of_trees(path, error),
+        JournalError::Full | JournalError::Foreign => Fault::NoStore { path },
+    }
+}
+
+/// Why a new store isn't made of what was tested before.
+pub(crate) fn fault_of_making<'a>(path: &'a str, error: OpenError) -> Fault<'a>
+    ensures { Refuses ⊥ result }
+{
+    match error {
+        OpenError::NoMemory => Fault::NoMemory,
+        OpenError::Journal(JournalError::Store(error)) => fault_of_trees(path, error),
+        _ => Fault::of_database(path, DatabaseFault::Failed),
+    }
+}
+
+/// Why trees fail.
+fn fault_of_trees<'a>(path: &'a str, error: StoreError) -> Fault<'a>
+    ensures { Refuses ⊥ result }
+{
+    match error {
+        StoreError::OutOfMemory => Fault::NoMemory,
+        _ => Fault::of_database(path, DatabaseFault::Failed),
+    }
+}

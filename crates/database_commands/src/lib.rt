@@ -1,0 +1,12 @@
+//! The commands over the file of a durable store: `create`, `history`, and `audit --database`.
+#![tactic(auto)]
+
+mod auditing;
+mod creating;
+mod faults;
+mod history;
+
+pub use auditing::audit_database;
+pub use creating::{NewStore, create_store};
+pub use faults::{fault_of_journal, fault_of_open};
+pub use history::tell_history;

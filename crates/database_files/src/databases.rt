@@ -1,0 +1,38 @@
+//! Where the databases of the commands come from.
+
+ghost use Rattle.std.specs.Prelude.{◌≡◌, ℕ, List, Option, IfOk, IfSome, IsTrue};
+ghost use Rattle.sqlite_trees.specs.Tree.{Trees};
+ghost use Rattle.sqlite_trees.specs.View.{IsClean};
+
+use command_files::DatabaseFault;
+use sqlite::Alter;
+
+/// What gives the trees of a database by its path.
+pub trait Databases {
+    /// The trees of one database.
+    type Opened: Alter + Drop;
+
+    /// The last commit of the database at a path, where this tells it; over the system's files it doesn't.
+    ghost holds: { Self → List ℕ → Option Trees };
+
+    /// No wrong answer of a disk was taken as true; over the system's files nothing says so.
+    ghost is_clean: { Self → Type 0 };
+
+    /// The trees of the database at a path, as its last commit left them.
+    fn open(&mut self, path: &str) -> Result<Self::Opened, DatabaseFault>
+        ensures numbered { IfOk result (λ trees. IsClean (Self.Opened.Store.view trees) → IsTrue (Self.Opened.Store.view trees).is_numbered) }
+        ensures held { IfOk result (λ trees. IsClean (Self.Opened.Store.view trees) → IsTrue (Self.Opened.Store.view trees).is_open
+            → IfSome (holds self.old path.now) (λ db. (Self.Opened.Store.view trees).committed ≡ db)) };
+
+    /// The trees of a new database at a path, of which there are none yet.
+    fn create(&mut self, path: &str) -> Result<Self::Opened, DatabaseFault>
+        ensures numbered { IfOk result (λ trees. IsClean (Self.Opened.Store.view trees) → IsTrue (Self.Opened.Store.view trees).is_numbered) };
+
+    /// Bytes that tell a new database from every other.
+    fn id(&mut self) -> Result<[u8; 16], DatabaseFault>;
+
+    /// Lets go of the trees of the database at a path.
+    fn close(&mut self, path: &str, trees: Self::Opened)
+        ensures clean { is_clean self.new → IsClean (Self.Opened.Store.view trees) }
+        ensures held { IsClean (Self.Opened.Store.view trees) → IfSome (holds self.new path.now) (λ db. (Self.Opened.Store.view trees).committed ≡ db) };
+}

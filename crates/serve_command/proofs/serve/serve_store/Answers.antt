@@ -1,0 +1,10 @@
+use Rattle.std.proofs.Common.{inr}
+use Rattle.serve_command.proofs.ServedLemmas.{of-err, of-ok}
+use Rattle.serve_command.proofs.serve.serve_store.Goals as goal
+
+pub returns-in-Ok-served-clause-told : goal.returns-in-Ok-served-clause-told
+returns-in-Ok-served-clause-told g c = record { now = c.serve-store.result.0; are = c.into_trees-trees.ensures; clean = c.serve-store.ensures.clean; serves = of-ok c.serve-store.result.1 c.in-Ok-served.field-0 c.in-Ok-served.is c.serve-store.ensures.told }
+
+pub returns-clause-cut : goal.returns-clause-cut
+returns-clause-cut g c =
+    inr (record { now = c.serve-store.result.0; are = c.into_trees-trees.ensures; clean = c.serve-store.ensures.clean; stops = of-err c.serve-store.result.1 c.in-Err.fault c.in-Err.is c.serve-store.ensures.stops })

@@ -1,0 +1,90 @@
+-- What `serve DATABASE` tells its client, and what it leaves.
+use Rattle.std.specs.Prelude.{◌≡◌, ◌⊎◌, ℕ, List, [], ◌++◌, Option, None, IfSome, IsTrue}
+use Rattle.std.specs.Io.KnownBytes.{Appends, Consumes, IsAtEnd}
+use Rattle.sqlite_trees.specs.declared.store.Store.{Ghosts}
+use Rattle.sqlite_trees.specs.Tree.{Trees}
+use Rattle.sqlite_trees.specs.View.{IsClean, View}
+use Rattle.store_laws.specs.Stored.{Stored}
+use Rattle.store.specs.Ends.{closing}
+use Rattle.store.specs.Renews.{Renews}
+use Rattle.journal.specs.Contents.{Contents, contents_of}
+use Rattle.journal.specs.Journal.{Clean}
+use Rattle.durable_store.specs.declared.durable.Durable.{Durable}
+use Rattle.durable_store.specs.Durable.{events}
+use Rattle.durable_store.specs.Epochs.{firsts}
+use Rattle.durable_store.specs.Recovered.{recovered}
+use Rattle.durable_store.specs.Types.{HasTypes}
+use Rattle.request_text.specs.declared.request.Asked.{Asked}
+use Rattle.serving.specs.declared.answer_line.Answered.{Answered}
+use Rattle.serving.specs.Ending.{aborted, end_answers}
+use Rattle.serving.specs.Lines.{AreLines}
+use Rattle.serving.specs.Served.{Serves}
+use Rattle.serving.specs.Told.{AppendsPart, answers_text, greeting}
+use Rattle.serving.specs.Whole.{ServesClient, StopsServing}
+
+-- the store that was opened of what a file said, and the file as it was left then
+pub record IsOpened (said file : Contents) (began : Stored) : Type 0 where
+  pub types : HasTypes said began.types
+  pub history : began.history ≡ events said.events ++ closing (events said.events)
+  pub left : file ≡ recovered said
+
+-- lines of a client that were done, in their order, by the store of what a file said, and so they were answered; all of it if no wrong
+-- answer of a disk was taken as true
+pub record Work (clean : Type 0) (held : Option Trees) : Type 0 where
+  pub life : ℕ
+  pub file : Contents
+  pub began : Stored
+  pub lines : List (List ℕ)
+  pub told : List Answered
+  pub reached : Stored
+  pub ended : Option Asked
+  pub opened : clean → IfSome held (λ db. IsOpened (contents_of db) file began)
+  pub serves : clean → Serves life file lines began told reached ended
+
+-- the lines that a client is told of it
+abbrev pub told_text : {clean : Type 0} {held : Option Trees} → Work clean held → List ℕ
+told_text w = (greeting w.life ++ answers_text w.told) ++ answers_text (end_answers w.ended)
+
+-- the file begins a new epoch at the states of this store
+pub record Begins (db : Trees) (s : Stored) : Type 0 where
+  pub events : (contents_of db).events ≡ []
+  pub states : (contents_of db).states ≡ firsts s.types
+
+-- of the input these bytes were taken, which are those lines and behind them a half one, or what stands behind the end; the output took the
+-- greeting, the answers and that of the end; what was open is aborted, and the file begins a new epoch
+pub record IsServed (clean : Type 0) (held left : Option Trees) (given taken given_now taken_now : Option (List ℕ)) : Type 0 where
+  pub work : Work clean held
+  pub seen : List ℕ
+  pub half : List ℕ
+  pub rest : List ℕ
+  pub consumed : Consumes given given_now (seen ++ rest)
+  pub asked : AreLines seen work.lines half
+  pub all : work.ended ≡ None → (rest ≡ []) × IsAtEnd given_now
+  pub appended : Appends taken taken_now (told_text work)
+  pub now : Stored
+  pub renews : Renews (aborted work.reached) now
+  pub left_is : clean → IfSome left (λ db. Begins db now)
+
+-- the output took nothing; or a beginning of the greeting, of the answers to lines that were done, and of that of the end
+abbrev pub IsCut : Type 0 → Option Trees → Option (List ℕ) → Option (List ℕ) → Type 0
+IsCut clean held taken taken_now = (taken_now ≡ taken) ⊎ ((work : Work clean held) × AppendsPart taken taken_now (told_text work))
+
+-- ---- inside the command
+
+-- what is held at the path of these trees is their last commit
+abbrev pub IsHeld : View → Option Trees → Type 0
+IsHeld v held = IsClean v → IsTrue v.is_open → IfSome held (λ db. v.committed ≡ db)
+
+-- a client was served, and these are the trees
+pub record ServesIn {S : Type 0} (g : Ghosts S) (began : Durable S) (given taken : Option (List ℕ)) (trees : S) (given_now taken_now : Option (List ℕ)) : Type 0 where
+  pub now : Durable S
+  pub are : trees ≡ now.journal.store
+  pub clean : Clean g now.journal → Clean g began.journal
+  pub serves : ServesClient g began given taken now given_now taken_now
+
+-- serving stopped, and these are the trees
+pub record StopsIn {S : Type 0} (g : Ghosts S) (began : Durable S) (taken : Option (List ℕ)) (trees : S) (taken_now : Option (List ℕ)) : Type 0 where
+  pub now : Durable S
+  pub are : trees ≡ now.journal.store
+  pub clean : Clean g now.journal → Clean g began.journal
+  pub stops : StopsServing g began taken now taken_now
