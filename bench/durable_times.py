@@ -1,0 +1,98 @@
+"""Times of `colock serve` beside a loop of writes and syncs, SQLite's C library, and PostgreSQL where it is."""
+import os
+import re
+import shutil
+import subprocess
+import tempfile
+
+import store_times
+
+HERE = os.path.dirname(os.path.abspath(__file__))
+WINDOWS = (1, 16, 64)
+COUNT = 2_000
+
+
+def driver(folder):
+    """The program that asks, waits and times."""
+    program = os.path.join(folder, "durable")
+    subprocess.run(["rustc", "-O", "--edition", "2024", "-o", program, os.path.join(HERE, "durable.rs")], check=True)
+    return program
+
+
+def seconds(program, *words):
+    return [float(word) for word in subprocess.run([program, *map(str, words)], check=True, capture_output=True, text=True).stdout.split()]
+
+
+def database(colock, folder, name):
+    """A new database of one counter that nothing conflicts at."""
+    path = os.path.join(folder, name)
+    subprocess.run([colock, "create", path, os.path.join(folder, "one.objects"), os.path.join(folder, "modulo.type")], check=True)
+    return path
+
+
+def syncs(colock, program, folder, window):
+    """How often `serve` asks for a sync, of which a commit of its log takes two."""
+    path, log = database(colock, folder, f"traced{window}.db"), os.path.join(folder, "trace")
+    words = ["strace", "-f", "-qq", "-e", "trace=fsync,fdatasync", "-o", log, program, "serve", colock, path, str(window), str(COUNT)]
+    subprocess.run(words, check=True, capture_output=True)
+    with open(log, encoding="ascii") as file:
+        return len(re.findall("fdatasync|fsync", file.read()))
+
+
+def postgres(folder):
+    """Commits a second at one row with so many clients, where PostgreSQL is on the machine."""
+    if not all(map(shutil.which, ("initdb", "pg_ctl", "pgbench", "runuser"))):
+        return {}
+    room = os.path.join(folder, "postgres")
+    os.mkdir(room)
+    shutil.chown(room, "nobody")
+    os.chmod(folder, 0o755)
+    script = os.path.join(room, "hot.sql")
+    with open(script, "w", encoding="ascii") as file:
+        file.write("begin; update stock set n = n + 1 where id = 0; commit;\n")
+
+    def run(*words):
+        return subprocess.run(["runuser", "-u", "nobody", "--", *words], check=True, capture_output=True, text=True, cwd=room).stdout
+
+    data = os.path.join(room, "data")
+    run("initdb", "-D", data, "-A", "trust", "-U", "nobody")
+    run("pg_ctl", "-D", data, "-w", "-o", f"-k {room} -c listen_addresses=''", "-l", os.path.join(room, "log"), "start")
+    try:
+        run("psql", "-h", room, "-d", "postgres", "-c", "create table stock(id int primary key, n int); insert into stock values(0, 0)")
+        found = {}
+        for clients in (1, 16):
+            told = run("pgbench", "-h", room, "-n", "-c", str(clients), "-j", "2", "-T", "5", "-f", script, "postgres")
+            found[clients] = float(re.search(r"tps = ([0-9.]+)", told)[1])
+        return found
+    finally:
+        run("pg_ctl", "-D", data, "-m", "immediate", "stop")
+
+
+def opening(colock, program, folder):
+    """The seconds that it takes to open a million events and end: less those of a new file."""
+    path = database(colock, folder, "million.db")
+    child = subprocess.Popen([program, "fill", colock, path, "333333"], stdout=subprocess.PIPE)
+    child.wait()
+    return seconds(program, "open", colock, path)[0]
+
+
+def time_durable():
+    """One run on one disk: the folder is beside this file's repository, and not in /tmp, which may be memory."""
+    with tempfile.TemporaryDirectory(dir=os.path.join(HERE, "..", "crates", "colock", "out")) as folder:
+        colock, program = store_times.built("colock"), driver(folder)
+        with open(os.path.join(folder, "one.objects"), "w", encoding="ascii") as file:
+            file.write("object undo 0\nend\n")
+        with open(os.path.join(folder, "modulo.type"), "w", encoding="ascii") as file:
+            file.write("\n".join(store_times.modulo()) + "\n")
+        once = COUNT / seconds(program, "sqlite", os.path.join(folder, "sqlite.db"), COUNT)[0]
+        print(f"SQLite, an UPDATE each: {once:.0f} commits a second")
+        for window in WINDOWS:
+            took = seconds(program, "serve", colock, database(colock, folder, f"{window}.db"), window, COUNT)[0]
+            loop = COUNT / seconds(program, "loop", os.path.join(folder, "loop"), window, COUNT)[0]
+            groups = syncs(colock, program, folder, window) / 2
+            rate, groups_rate = COUNT / took, groups / took
+            print(f"{window} in flight: {rate:.0f} commits a second, {COUNT / groups:.1f} a group, {groups_rate:.0f} groups a second,"
+                  f" {groups_rate / loop:.2f} of the loop's {loop:.0f} syncs, {rate / once:.1f} of SQLite")
+        for clients, rate in postgres(folder).items():
+            print(f"PostgreSQL, one row, {clients} clients: {rate:.0f} commits a second")
+        print(f"a million events are opened in {opening(colock, program, folder):.2f} s")
