@@ -77,9 +77,9 @@ def opening(colock, program, folder):
 
 
 def time_durable():
-    """One run on one disk: the folder is beside this file's repository, and not in /tmp, which may be memory."""
-    with tempfile.TemporaryDirectory(dir=os.path.join(HERE, "..", "crates", "colock", "out")) as folder:
-        colock, program = store_times.built("colock"), driver(folder)
+    """One run on one disk: the folder is beside this file, and not in /tmp, which may be memory. COLOCK names another program."""
+    with tempfile.TemporaryDirectory(dir=HERE) as folder:
+        colock, program = os.environ.get("COLOCK") or store_times.built("colock"), driver(folder)
         with open(os.path.join(folder, "one.objects"), "w", encoding="ascii") as file:
             file.write("object undo 0\nend\n")
         with open(os.path.join(folder, "modulo.type"), "w", encoding="ascii") as file:
