@@ -7,6 +7,7 @@ ghost use Rattle.line_text.specs.Spelling.{spaced, text_of};
 ghost use Rattle.type_table.specs.Name.{is_name};
 ghost use Rattle.type_table.specs.Table.{IsTable};
 ghost use Rattle.outputs.specs.Out.{Puts};
+ghost use Rattle.type_text.specs.declared.type_line.TypeLine.TheVariants.{Conflict};
 ghost use Rattle.type_text.specs.Canonical.{words_of, is_whole, rows, columns, line_at, lines_of_row, lines_of_entries, canonical_text, line_where, IsNamed, IsTypeFile, IsReadBack};
 
 use crate::entries::Entries;
@@ -228,38 +229,34 @@ fn write_line<W: Out>(out: &mut W, line: TypeLine) -> Result<(), OutFault>
     ensures writes { Puts (W.taken out.old) (W.taken out.new) (W.fault out.new) (spaced (words_of line) ++ 10 ∷ []) result }
     ensures named { OnOk result (IsNamed line) }
 {
-    let (mut first, mut second, mut third) = (Buffer::new(), Buffer::new(), Buffer::new());
     match line {
         TypeLine::TypeName(name) => put_line(out, b"type", &[name.as_bytes()]),
-        TypeLine::States(states) => put_line(out, b"states", &[first.format(states).as_bytes()]),
-        TypeLine::Initial(s) => put_line(out, b"initial", &[first.format(s).as_bytes()]),
+        TypeLine::States(states) => out.put_numbers(b"states", &[states]),
+        TypeLine::Initial(s) => out.put_numbers(b"initial", &[s]),
         TypeLine::Operation(op) => {
             put_line(out, b"op", &[op.call.as_bytes(), op.reply.as_bytes()])
         }
-        TypeLine::Step { s, k, t } => put_line(
-            out,
-            b"step",
-            &[
-                first.format(s).as_bytes(),
-                second.format(k).as_bytes(),
-                third.format(t).as_bytes(),
-            ],
-        ),
-        TypeLine::Reach(s) => put_line(out, b"reach", &[first.format(s).as_bytes()]),
-        TypeLine::Equi { s, t } => put_line(
-            out,
-            b"equi",
-            &[first.format(s).as_bytes(), second.format(t).as_bytes()],
-        ),
-        TypeLine::Conflict { kind, p, q } => put_line(
-            out,
-            b"conflict",
-            &[
-                kind.word().as_bytes(),
-                first.format(p).as_bytes(),
-                second.format(q).as_bytes(),
-            ],
-        ),
+        TypeLine::Step { s, k, t } => out.put_numbers(b"step", &[s, k, t]),
+        TypeLine::Reach(s) => out.put_numbers(b"reach", &[s]),
+        TypeLine::Equi { s, t } => out.put_numbers(b"equi", &[s, t]),
+        TypeLine::Conflict { kind, p, q } => write_conflict(out, kind, p, q),
         TypeLine::End => put_line(out, b"end", &[]),
     }
+}
+
+/// Writes the line of a conflicting pair.
+fn write_conflict<W: Out>(out: &mut W, kind: Kind, p: u32, q: u32) -> Result<(), OutFault>
+    requires { W.fault out.old ≡ None }
+    ensures { Puts (W.taken out.old) (W.taken out.new) (W.fault out.new) (spaced (words_of (Conflict kind p q)) ++ 10 ∷ []) result }
+{
+    let (mut first, mut second) = (Buffer::new(), Buffer::new());
+    put_line(
+        out,
+        b"conflict",
+        &[
+            kind.word().as_bytes(),
+            first.format(p).as_bytes(),
+            second.format(q).as_bytes(),
+        ],
+    )
 }
