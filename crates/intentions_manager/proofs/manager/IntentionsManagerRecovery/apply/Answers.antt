@@ -1,9 +1,9 @@
-use Rattle.std.proofs.Common.{rules, ◌≡◌, ◌+◌, ◌<◌, ◌≤◌, false, not, [], ◌∷◌, ◌++◌, length, sym, ap, subst, ◌∙◌, refl, arith}
+use Rattle.std.proofs.Common.{rules, ◌≡◌, ◌+◌, ◌<◌, ◌≤◌, false, not, List, [], ◌∷◌, ◌++◌, length, sym, ap, subst, ◌∙◌, refl, arith}
 use Rattle.std.proofs.lemmas.List.Filters.{length-filter_both}
 use Rattle.type_table.specs.Table.{Table}
 use Rattle.table_checker.specs.Checked.{Checked}
 use Rattle.object_trait.specs.Meaning.{Meaning, is_open_of}
-use Rattle.object_trait.specs.Steps.{MayApply}
+use Rattle.object_trait.specs.Steps.{MayApply, applied}
 use Rattle.object_trait.specs.declared.log_entry.LogEntry.{LogEntry}
 use Rattle.intentions_manager.specs.Views.{seen_by, with_view}
 use Rattle.intentions_manager.specs.Walk.{stepped}
@@ -43,3 +43,10 @@ invariant_of-self-2 c =
     let made : c.put_view.new.views.items ≡ with_view (next_view (meant inside) views t k) views = c.put_view.ensures ∙ ap (λ w. with_view w c.reserve-2.new.self.items) put ∙ ap (with_view (next_view (meant inside) views t k)) c.in_ok-reserve-2.ensures.items in
     subst (λ L. IsKept (record { checked = inside.checked.value; base = inside.base; log = L }) c.put_view.new.views.items) (sym log)
     (applied-kept c.runs_along.ensures c.equi_extends.ensures c.steps_within.ensures c.sound_after_apply.ensures c.put_view.new.views.items t k c.self.invariant may made)
+
+pub returns-clause-applied : goal.returns-clause-applied
+returns-clause-applied c =
+    let inside = c.self.inside in
+    let entry : LogEntry = record { by = c.args.t; op = c.args.k; done = false } in
+    ap (λ (log : List LogEntry). record { checked = inside.checked.value; base = inside.base; log = log }) (c.push_reserved.ensures.items ∙ ap (λ log. log ++ entry ∷ []) c.in_ok-reserve.ensures.items)
+    ∙ ap (λ (m : Meaning). applied m c.args.t c.args.k) c.self.view_is
