@@ -1,4 +1,5 @@
 pub mod Entries
+pub mod Pieces
 pub mod NameBytes
 pub mod Distinct
 pub mod Twins

@@ -1,7 +1,12 @@
-use Rattle.std.proofs.Common.{arith}
+use Rattle.std.proofs.Common.{◌∙◌, ap, false, List, [], ◌∷◌, arith}
+use Rattle.object_trait.specs.Meaning.{Meaning}
+use Rattle.object_trait.specs.Steps.{applied}
+use Rattle.object_trait.specs.declared.log_entry.LogEntry.{LogEntry}
 use Rattle.undo_manager.specs.Log.{entries}
+use Rattle.undo_manager.specs.declared.undo_entry.UndoEntry.{UndoEntry}
 use Rattle.undo_manager.proofs.Applying.{applied-kept}
 use Rattle.undo_manager.proofs.Keeping.{legal-next, count-length}
+use Rattle.undo_manager.proofs.Running.{entries-append}
 use Rattle.undo_manager.proofs.recovery.UndoManagerRecovery.apply.Goals as goal
 
 pub next_state-state-requires-clause-legal : goal.next_state-state-requires-clause-legal
@@ -24,3 +29,10 @@ invariant_of-self-2 c =
     rw c.in_ok-append.ensures.log
     (applied-kept c.steps_within.ensures c.sound_after_apply.ensures m.checked.value m.base m.state m.log.items m.opened.items c.append.new.counts.items c.args.t c.args.k c.next_state-state.result
     c.self.invariant may step c.in_ok-append.ensures.counts)
+
+pub returns-clause-applied : goal.returns-clause-applied
+returns-clause-applied c =
+    let m = c.self.inside in
+    let one : UndoEntry = record { entry = record { by = c.args.t; op = c.args.k; done = false }; before = m.state } in
+    ap (λ (log : List LogEntry). record { checked = m.checked.value; base = m.base; log = log }) (ap entries c.in_ok-append.ensures.log ∙ entries-append m.log.items (one ∷ []))
+    ∙ ap (λ (k : Meaning). applied k c.args.t c.args.k) c.self.view_is
