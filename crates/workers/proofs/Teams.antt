@@ -1,14 +1,17 @@
 -- A team with the store of an opening.
-use Rattle.std.proofs.Common.{◌≡◌, ℕ, ◌<◌, ◌≤◌, true, List, length, sym, ap, ◌∙◌, rules, tests, arith}
+use Rattle.std.proofs.Common.{◌≡◌, ℕ, ◌<◌, ◌≤◌, true, List, [], length, Some, sym, ap, ◌∙◌, inl, rules, tests, arith}
 use Rattle.std.proofs.lemmas.Bool.Decides.{nat_tests}
 use Rattle.std.proofs.lemmas.List.{length-map}
 use Rattle.jobs_text.specs.Jobs.{Call}
 use Rattle.store_laws.specs.Stored.{Stored}
 use Rattle.worker_turns.specs.Progress.{Progress}
+use Rattle.worker_turns.specs.declared.outcome.Report.{Report}
+use Rattle.workers.specs.declared.fault.WorkFault.{WorkFault}
+use Rattle.workers.specs.declared.fault.WorkFault.TheVariants.{BadWorkers, BadTries, NoMemory}
 use Rattle.workers.specs.declared.team.Team.{Team}
 use Rattle.workers.specs.Standing.{Opening}
-use Rattle.workers.specs.Worked.{are_workers, are_tries}
-use Rattle.workers.specs.Doing.{IsTeam, IsOpened}
+use Rattle.workers.specs.Worked.{DidNothing, Works, are_workers, are_tries}
+use Rattle.workers.specs.Doing.{IsNoTeam, IsTeam, IsOpened}
 
 -- so many workers are 1 to 16
 workers-few : (n : ℕ) → are_workers n ≡ true → n ≤ 16
@@ -32,3 +35,24 @@ opened o store jobs tries team is its =
       some_tries = rw its_tries (tries-some tries its.some_tries);
       few = omega (arith, as_many, few);
     }
+
+-- nothing was done at the store of an opening
+pub untouched : (o : Opening) (store : Stored) (jobs : List (List (List Call))) (tries : ℕ) (reports : List Report) → o ≡ record { store = store; jobs = jobs; tries = tries }
+    → reports ≡ [] → DidNothing o.store store reports
+untouched o store jobs tries reports is none = record { store = sym (ap (λ (z : Opening). z.store) is); no_reports = none }
+
+-- where there is no team, nothing was done
+pub no-team : (o : Opening) (store : Stored) (jobs : List (List (List Call))) (n tries : ℕ) (fault : WorkFault) (reports : List Report)
+    → o ≡ record { store = store; jobs = jobs; tries = tries } → length jobs ≡ n → IsNoTeam n tries fault → reports ≡ [] → Works o (Some fault) store reports
+no-team o store jobs n tries BadWorkers reports is many why none =
+    (ap (λ (z : Opening). are_workers (length z.jobs)) is ∙ (ap are_workers many ∙ why), untouched o store jobs tries reports is none)
+no-team o store jobs n tries BadTries reports is many why none = (
+  ap (λ (z : Opening). are_workers (length z.jobs)) is ∙ (ap are_workers many ∙ why.0),
+  ap (λ (z : Opening). are_tries z.tries) is ∙ why.1,
+  untouched o store jobs tries reports is none,
+)
+no-team o store jobs n tries NoMemory reports is many why none = (
+  ap (λ (z : Opening). are_workers (length z.jobs)) is ∙ (ap are_workers many ∙ why.0),
+  ap (λ (z : Opening). are_tries z.tries) is ∙ why.1,
+  inl (untouched o store jobs tries reports is none),
+)
