@@ -93,3 +93,43 @@ returns-in-Create-clause-does g c =
     Comes (CreatesStore clean made holds c.in-Create.objects.now words) (HasCreateFault holds c.in-Create.objects.now words) c.create_store.result old new in
     let done = subst Of c.deref-in-Create.ensures.value c.create_store.ensures in
     subst Does (sym c.in-Create.is) (inr (comes_or _ _ _ _ _ _ _ _ c.create_store.result old new (λ text whole. whole) (λ text begun. begun) (λ v text answer. answer) (λ bad. bad) done))
+
+pub returns-in-Check-clause-does : goal.returns-in-Check-clause-does
+returns-in-Check-clause-does g c =
+    let holds = g.S.Source.holds c.args.given.now.source in
+    let databases = c.args.given.now.databases in
+    let given = shown holds (g.D.Databases.holds c.args.given.now.databases) (g.D.Databases.holds databases) (g.D.Databases.is_clean databases) in
+    let old = taken_by g.W.Out.taken c.args.console.out in
+    let new = taken_by g.W.Out.taken c.check_file.new.out in
+    let Does : Task → Type 0 = λ t. DoesTask given t c.check_file.result old new in
+    subst Does (sym c.in-Check.is) (inr (comes_or _ _ _ _ _ _ _ _ c.check_file.result old new (λ text whole. whole) (λ text begun. begun) (λ v text answer. answer) (λ bad. bad) c.check_file.ensures))
+
+pub returns-in-Tables-clause-does : goal.returns-in-Tables-clause-does
+returns-in-Tables-clause-does g c =
+    let holds = g.S.Source.holds c.args.given.now.source in
+    let databases = c.args.given.now.databases in
+    let given = shown holds (g.D.Databases.holds c.args.given.now.databases) (g.D.Databases.holds databases) (g.D.Databases.is_clean databases) in
+    let old = taken_by g.W.Out.taken c.args.console.out in
+    let new = taken_by g.W.Out.taken c.make_tables_of.new.out in
+    let Does : Task → Type 0 = λ t. DoesTask given t c.make_tables_of.result old new in
+    subst Does (sym c.in-Tables.is) (inr (comes_or _ _ _ _ _ _ _ _ c.make_tables_of.result old new (λ text whole. whole) (λ text begun. begun) (λ v text answer. answer) (λ bad. bad) c.make_tables_of.ensures))
+
+pub returns-in-History-clause-does : goal.returns-in-History-clause-does
+returns-in-History-clause-does g c =
+    let holds = g.S.Source.holds c.args.given.now.source in
+    let databases = c.tell_history.new.databases in
+    let given = shown holds (g.D.Databases.holds c.args.given.now.databases) (g.D.Databases.holds databases) (g.D.Databases.is_clean databases) in
+    let old = taken_by g.W.Out.taken c.args.console.out in
+    let new = taken_by g.W.Out.taken c.tell_history.new.out in
+    let Does : Task → Type 0 = λ t. DoesTask given t c.tell_history.result old new in
+    subst Does (sym c.in-History.is) (inr (comes_or _ _ _ _ _ _ _ _ c.tell_history.result old new (λ text whole. whole) (λ text begun. begun) (λ v text answer. answer) (λ bad. bad) c.tell_history.ensures))
+
+pub returns-in-AuditDatabase-clause-does : goal.returns-in-AuditDatabase-clause-does
+returns-in-AuditDatabase-clause-does g c =
+    let holds = g.S.Source.holds c.args.given.now.source in
+    let databases = c.audit_database.new.databases in
+    let given = shown holds (g.D.Databases.holds c.args.given.now.databases) (g.D.Databases.holds databases) (g.D.Databases.is_clean databases) in
+    let old = taken_by g.W.Out.taken c.args.console.out in
+    let new = taken_by g.W.Out.taken c.audit_database.new.out in
+    let Does : Task → Type 0 = λ t. DoesTask given t c.audit_database.result old new in
+    subst Does (sym c.in-AuditDatabase.is) (inr (comes_or _ _ _ _ _ _ _ _ c.audit_database.result old new (λ text whole. whole) (λ text begun. begun) (λ v text answer. answer) (λ bad. bad) c.audit_database.ensures))
