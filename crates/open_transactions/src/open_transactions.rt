@@ -57,6 +57,7 @@ impl OpenTransactions {
     }
 
     /// How many began, which is the number of the next.
+    #[inline(always)]
     pub fn begun(&self) -> u32
         ensures { result ≡ length self.now.rows }
     {
@@ -73,6 +74,7 @@ impl OpenTransactions {
     }
 
     /// How many are open.
+    #[inline(always)]
     pub fn open_count(&self) -> u32
         ensures exact { result ≡ count_open self.now.rows }
         ensures few { result ≤ 1024 }
@@ -81,6 +83,7 @@ impl OpenTransactions {
     }
 
     /// Whether t began and hasn't ended.
+    #[inline(always)]
     pub fn is_open(&self, t: u32) -> bool
         ensures { result ≡ is_open self.now.rows t }
     {
@@ -97,6 +100,7 @@ impl OpenTransactions {
     }
 
     /// The places of the operations of t that live, in order of execution.
+    #[inline(always)]
     pub fn places(&self, t: u32) -> &[u8]
         requires { is_open self.now.rows t ≡ true }
         ensures { result.now ≡ places_of (row self.now.rows t) }
@@ -106,6 +110,7 @@ impl OpenTransactions {
     }
 
     /// Makes room for one more begin.
+    #[inline(always)]
     pub fn reserve_begin(&mut self) -> Result<(), AllocError>
         ensures rows { self.new.rows ≡ self.old.rows }
         ensures room { OnOk result (0 < self.new.room_to_begin) }
@@ -115,6 +120,7 @@ impl OpenTransactions {
     }
 
     /// Begins a transaction of this worker, and answers its number. It takes no memory.
+    #[inline(always)]
     pub fn begin(&mut self, worker: u8) -> u32
         requires room { 0 < self.old.room_to_begin }
         requires few { count_open self.old.rows < 1024 }
@@ -147,6 +153,7 @@ impl OpenTransactions {
     }
 
     /// One more operation of t, at the place x. It takes no memory.
+    #[inline(always)]
     pub fn push_place(&mut self, t: u32, x: u8)
         requires still_open { is_open self.old.rows t ≡ true }
         requires room { 0 < slice_index self.old.room_to_push t }
@@ -166,6 +173,7 @@ impl OpenTransactions {
     }
 
     /// Ends t. It takes no memory.
+    #[inline(always)]
     pub fn end(&mut self, t: u32)
         requires { is_open self.old.rows t ≡ true }
         ensures rows { self.new.rows ≡ slice_set self.old.rows t None }

@@ -19,15 +19,13 @@ const LEAST_ROOM: usize = 32;
 pub struct SlotIndex {
     // how many were cut off in front, which ended
     cut: u32,
-    // how many of the others ended before the oldest open one began
-    ended: u32,
     // the slot of each that isn't cut off
     slots: Vec<u16>,
 }
 
 impl Model for SlotIndex {
     ghost use Rattle.std.specs.Prelude.{◌≤◌, ◌-◌, ◌++◌, length, replicate, vec_len, vec_capacity};
-    ghost use Rattle.open_transactions.specs.Index.{Index, HaveEnded};
+    ghost use Rattle.open_transactions.specs.Index.{Index};
 
     ghost Value = { Index };
 
@@ -36,7 +34,7 @@ impl Model for SlotIndex {
       room = vec_capacity a.slots - vec_len a.slots;
     } };
 
-    ghost invariant = { λ a. (length (replicate a.cut 65535 ++ a.slots.items) ≤ 4294967295) × HaveEnded a.ended a.slots.items };
+    ghost invariant = { λ a. length (replicate a.cut 65535 ++ a.slots.items) ≤ 4294967295 };
 }
 
 impl SlotIndex {
@@ -46,7 +44,6 @@ impl SlotIndex {
     {
         SlotIndex {
             cut: 0,
-            ended: 0,
             slots: Vec::new(alloc),
         }
     }
@@ -60,13 +57,14 @@ impl SlotIndex {
     }
 
     /// A number before which all have ended: that of the oldest open one, or how many began where none is.
-    #[inline(always)]
+    ///
+    /// It looks at those that ended before it and aren't cut off yet, so that no end has to count them.
     pub fn oldest(&self) -> u32
         ensures within { result ≤ length self.now.slots }
         ensures ended { (t : ℕ) → t < result → slice_index_or self.now.slots t 65535 ≡ 65535 }
         ensures oldest { result < length self.now.slots → slice_index_or self.now.slots result 65535 ≢ 65535 }
     {
-        self.cut + self.ended
+        self.cut + count_ended(&self.slots)
     }
 
     /// The slot of t, `ENDED` where it ended or never began.
@@ -74,10 +72,9 @@ impl SlotIndex {
     pub fn slot(&self, t: u32) -> u16
         ensures { result ≡ slice_index_or self.now.slots t 65535 }
     {
-        if t < self.cut {
-            return ENDED;
-        }
-        match self.slots.get((t - self.cut) as usize) {
+        // of one that was cut off this wraps to a place behind the last
+        let place = t.wrapping_sub(self.cut) as usize;
+        match self.slots.get(place) {
             Some(slot) => *slot,
             None => ENDED,
         }
@@ -113,13 +110,12 @@ impl SlotIndex {
         ensures slots { self.new.slots ≡ self.old.slots }
         ensures room { OnOk result (0 < self.new.room) }
     {
-        let ended = self.ended;
+        let ended = count_ended(&self.slots);
         if ended == 0 || (ended as usize) < self.slots.len() / 8 {
             return self.slots.reserve(LEAST_ROOM);
         }
         cut_off(&mut self.slots, ended as usize);
         self.cut += ended;
-        self.ended = 0;
         Ok(())
     }
 
@@ -153,11 +149,8 @@ impl SlotIndex {
         requires { slice_index_or self.old.slots t 65535 ≢ 65535 }
         ensures { self.new.slots ≡ set self.old.slots t 65535 }
     {
-        let place = t - self.cut;
-        self.slots[place as usize] = ENDED;
-        if place == self.ended {
-            self.ended += count_ended(&self.slots[place as usize..]);
-        }
+        let place = (t - self.cut) as usize;
+        self.slots[place] = ENDED;
     }
 }
 

@@ -1,8 +1,9 @@
-use Rattle.std.proofs.Common.{sym, get_or, ap, ◌∙◌}
+use Rattle.std.proofs.Common.{sym, get_or, take, ap, ◌∙◌}
 use Rattle.open_transactions.proofs.Cut.{ended-shows}
 use Rattle.open_transactions.proofs.slot_index.SlotIndex.oldest.Goals as goal
 
 pub returns-clause-ended : goal.returns-clause-ended
 returns-clause-ended c = λ t before.
-    ap (λ a. get_or a.slots t 65535) (sym c.self.view_is)
-    ∙ ended-shows c.self.inside.cut c.self.inside.slots.items c.self.inside.ended c.self.invariant.1.front t before
+    let ended = c.count_ended.result in
+    let front = ap (take ended) (sym c.deref.ensures.value) ∙ c.count_ended.ensures.front in
+    ap (λ a. get_or a.slots t 65535) (sym c.self.view_is) ∙ ended-shows c.self.inside.cut c.self.inside.slots.items ended front t before
