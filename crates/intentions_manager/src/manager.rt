@@ -95,6 +95,7 @@ impl Recovery for IntentionsManager {
         self.checked.table().next(view.state, k).is_some()
     }
 
+    #[inline(always)]
     fn apply(&mut self, t: u32, k: u8) -> Result<(), AllocError> {
         runs_along();
         equi_extends();
@@ -119,6 +120,7 @@ impl Recovery for IntentionsManager {
         Ok(())
     }
 
+    #[inline(always)]
     fn commit(&mut self, t: u32) {
         runs_along();
         equi_extends();

@@ -11,6 +11,7 @@ use object_trait::Recovery;
 use op_locks::OpLocks;
 
 /// The answer of t's call at this object, where this is held.
+#[inline(always)]
 pub fn choose<R: Recovery>(object: &R, locks: &OpLocks, t: u32, call: Call) -> Answer
     requires operations { HasOperations (R.meaning object.now).checked.file.table call.first call.operations }
     requires held { All (λ e. e.op < length (R.meaning object.now).checked.file.table.ops) locks.now.held }

@@ -17,6 +17,7 @@ pub enum End {
 }
 
 /// Ends t at the objects at these places, at each once, and releases what it holds there.
+#[inline(always)]
 pub fn end_at<R: Recovery>(
     objects: &mut Vec<R>,
     locks: &mut Vec<OpLocks>,
@@ -41,6 +42,7 @@ pub fn end_at<R: Recovery>(
 }
 
 /// Ends t at one object.
+#[inline(always)]
 fn end_one<R: Recovery>(object: &mut R, t: u32, how: End)
     ensures { IsEnd how (R.meaning object.old) t (R.meaning object.new) }
 {

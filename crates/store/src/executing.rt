@@ -18,6 +18,7 @@ use std::alloc::AllocError;
 /// # Errors
 ///
 /// Memory was refused, and nothing has changed.
+#[inline(always)]
 pub(crate) fn execute<R: Recovery>(
     objects: &mut Vec<R>,
     locks: &mut Vec<OpLocks>,
