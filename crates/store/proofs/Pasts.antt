@@ -1,9 +1,14 @@
 -- Events that were forgotten, and those in memory behind them.
-use Rattle.std.proofs.Common.{◌≡◌, ℕ, ◌+◌, Bool, nat_le, List, [], ◌∷◌, ◌++◌, length, drop, sym, ap, subst, ◌∙◌}
-use Rattle.std.proofs.lemmas.List.{length-append, append_assoc, drop_at}
+use Rattle.std.proofs.Common.{◌≡◌, ℕ, ◌+◌, ◌≤◌, min, Bool, nat_le, List, [], ◌∷◌, ◌++◌, length, take, drop, Option, sym, ap, subst, ◌∙◌, arith}
+use Rattle.std.proofs.lemmas.List.{length-append, length-take-le, append_assoc, drop_at, take-append-drop}
 use Rattle.table_checker.specs.Checked.{Checked}
 use Rattle.object_trait.specs.declared.event.Event.{Event}
+use Rattle.object_trait.specs.Meaning.{Meaning}
+use Rattle.object_calls.specs.declared.call.NamedCall.{NamedCall}
+use Rattle.op_locks.specs.Locks.{Locks}
+use Rattle.open_transactions.specs.Transactions.{Row}
 use Rattle.store_laws.specs.Stored.{Stored}
+use Rattle.store.specs.Whole.{IsWhole}
 use Rattle.store.proofs.Stored.{stored}
 
 -- one more in memory is one more of all
@@ -29,3 +34,40 @@ past-test past K H forgotten opened further max answer told many says same test 
 pub drop-shown : (types : List Checked) (past K : List Event) (max forgotten : ℕ) (s : Stored) (tail : List Event) → forgotten ≡ length past → stored types (past ++ K) max forgotten ≡ s
     → tail ≡ K → tail ≡ drop s.forgotten s.history
 drop-shown types past K max forgotten s tail many same is = subst (λ (z : Stored). tail ≡ drop z.forgotten z.history) same (is ∙ sym (past-drop past K forgotten many))
+
+-- ---- the first n of those in memory are let go of
+
+module _ (past K read gone left : List Event) (n : ℕ) (added : gone ≡ past ++ take n read) (read_is : read ≡ K) (rest : left ≡ drop n K) where
+  taken : gone ≡ past ++ take n K
+  taken = added ∙ ap (λ all. past ++ take n all) read_is
+
+  -- all are the same events
+  pub gone-same : gone ++ left ≡ past ++ K
+  gone-same =
+      ap (λ p. p ++ left) taken ∙ append_assoc past (take n K) left ∙ ap (λ r. past ++ (take n K ++ r)) rest ∙ ap (λ all. past ++ all) (take-append-drop n K)
+
+  -- and n more were forgotten
+  pub gone-many : (forgotten : ℕ) → forgotten ≡ length past → n ≤ length K → forgotten + n ≡ length gone
+  gone-many forgotten many inside =
+      ap (λ m. m + n) many
+      ∙ ap (λ m. length past + m) (sym (length-take-le n K inside))
+      ∙ sym (length-append past (take n K))
+      ∙ sym (ap length taken)
+
+-- what is kept agrees with the same events, where there is at least as much room
+pub same-whole : (ms : List Meaning) (calls : List (List NamedCall)) (locks : List Locks) (rows : List (Option Row)) (H after : List Event) (room more max : ℕ)
+    → IsWhole ms calls locks rows H room max → after ≡ H → room ≤ more → IsWhole ms calls locks rows after more max
+same-whole ms calls locks rows H after room more max whole same wider =
+    subst (λ J. IsWhole ms calls locks rows J more max) (sym same) (record {
+      store = record { kept = whole.store.kept; reserved = omega (arith, whole.store.reserved, wider); limited = whole.store.limited };
+      few = whole.few;
+      known = whole.known;
+    })
+
+-- as callers see it
+pub gone-shown : (types : List Checked) (H after : List Event) (max forgotten more n : ℕ) (s : Stored) → stored types H max forgotten ≡ s → after ≡ H
+    → more ≡ min (forgotten + n) (length H)
+    → stored types after max more ≡ (record { types = s.types; history = s.history; max = s.max; forgotten = min (s.forgotten + n) (length s.history) })
+gone-shown types H after max forgotten more n s same stays is =
+    subst (λ (z : Stored). stored types after max more ≡ (record { types = z.types; history = z.history; max = z.max; forgotten = min (z.forgotten + n) (length z.history) })) same
+    (ap (λ J. stored types J max more) stays ∙ ap (λ f. stored types H max f) is)

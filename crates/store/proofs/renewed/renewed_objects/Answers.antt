@@ -1,7 +1,7 @@
-use Rattle.std.proofs.Common.{◌+◌, [], ◌∷◌, map, vec_capacity, sym, ap, subst, ◌∙◌}
-use Rattle.std.proofs.lemmas.List.{map-append}
+use Rattle.std.proofs.Common.{◌≡◌, ◌+◌, [], ◌∷◌, map, length, vec_capacity, sym, ap, subst, ◌∙◌, arith}
+use Rattle.std.proofs.lemmas.List.{length-map, map-append}
 use Rattle.store.proofs.Beginnings.{image-in}
-use Rattle.store.proofs.Renewals.{AreFirstRenewed, renewed-more}
+use Rattle.store.proofs.Renewals.{AreFirstRenewed, renewed-more, renewed-all}
 use Rattle.store.proofs.renewed.renewed_objects.Goals as goal
 
 pub renewed_object-requires-after_bounds : goal.renewed_object-requires-after_bounds
@@ -23,3 +23,11 @@ loop-object-preserved g c =
     subst (λ room. AreFirstRenewed (map meaning items) (map meaning after) room (i + 1)) (sym c.push_reserved.ensures.capacity)
     (renewed-more (map meaning items) (map meaning before) (map meaning after) (meaning one) (vec_capacity c.loop-object.renewed) i (meaning c.object-item.result) c.loop-object.invariant there
     c.in_ok-renewed_object.ensures (ap (map meaning) c.push_reserved.ensures.items ∙ map-append meaning before (one ∷ [])))
+
+pub returns : goal.returns
+returns g c =
+    let items = c.args.objects.now.items in
+    let meaning = g.R.Recovery.meaning in
+    let all : c.loop-object.object-index ≡ length c.deref-object-items.result.now = omega arith in
+    renewed-all (map meaning items) (map meaning c.loop-object.renewed.items) (vec_capacity c.loop-object.renewed) c.loop-object.object-index c.loop-object.invariant
+    (all ∙ ap length c.deref-object-items.ensures.value ∙ sym (length-map items meaning))
