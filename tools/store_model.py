@@ -1,0 +1,269 @@
+"""A slow model of a store that is served: what a line asks, and what it is answered.
+
+It is written from docs/formats.md and docs/model.md and shares nothing with the program. For each line it works out
+from the whole history, anew, who is open, what lives, what a transaction sees and who is in its way. Of a deferred
+object it keeps the serial state; so it is a model of types no two states of which look alike.
+"""
+import re
+
+LONGEST, MOST_OPEN, MOST_TOLD = 256, 1024, 65_536
+# What is behind each verb: a transaction, a number or a name.
+WORDS = {"begin": "", "call": "txn", "would": "txn", "commit": "t", "abort": "t", "rollback": "tx", "kept": "x",
+         "objects": "", "types": "", "events": "xx", "stats": "", "end": ""}
+
+
+# ---- what a line asks
+
+class Fault(Exception):
+    """Why a line is no request."""
+
+
+def is_name(word):
+    return re.fullmatch(r"[a-z0-9_:-]{1,32}", word) is not None
+
+
+def number(word):
+    if not re.fullmatch(r"0|[1-9][0-9]{0,9}", word) or int(word) >= 1 << 32:
+        raise Fault("BadNumber")
+    return int(word)
+
+
+def transaction(word):
+    life, point, behind = word.partition(".")
+    if not point:
+        raise Fault("BadNumber")
+    return number(life), number(behind)
+
+
+def asked(words):
+    """The verb and what is behind it."""
+    if not words or words[0] not in WORDS:
+        raise Fault("UnknownVerb")
+    form = WORDS[words[0]]
+    if len(words) != len(form) + 1 or any(f == "n" and not is_name(word) for f, word in zip(form, words[1:])):
+        raise Fault("BadWords")
+    read = {"t": transaction, "x": number, "n": str}
+    return [words[0]] + [read[f](word) for f, word in zip(form, words[1:])]
+
+
+def line_asked(line):
+    """The tag, and what is asked or a fault."""
+    if len(line) + 1 > LONGEST:
+        return "-", Fault("TooLong")
+    if any(byte < 32 or byte > 126 for byte in line):
+        return "-", Fault("NotAscii")
+    tag, *words = line.decode().split(" ")
+    if not is_name(tag):
+        return "-", Fault("BadTag")
+    try:
+        return tag, asked(words)
+    except Fault as fault:
+        return tag, fault
+
+
+# ---- the model
+
+class Type:
+    """A type file, by the lines of its text."""
+
+    def __init__(self, text):
+        lines = [line.split() for line in text.splitlines()]
+        of = lambda word: [line[1:] for line in lines if line[:1] == [word]]
+        self.lines, self.initial = lines, int(of("initial")[0][0])
+        self.ops = [tuple(line) for line in of("op")]
+        self.next = {(int(s), int(k)): int(t) for s, k, t in of("step")}
+        self.conflicts = {(kind, int(p), int(q)) for kind, p, q in of("conflict")}
+        self.text = "".join(" ".join(line) + "\n" for line in lines)
+
+    def run(self, state, operations):
+        """The state behind these operations, or none."""
+        for k in operations:
+            state = self.next.get((state, k))
+        return state
+
+    def operations(self, call):
+        return [k for k, op in enumerate(self.ops) if op[0] == call]
+
+
+class Seen:
+    """What a history says: who began, committed and is open, and which operations live."""
+
+    def __init__(self, events):
+        self.begun, self.committed, self.aborted, self.stands = 0, [], set(), []
+        for event in events:
+            self.take(*event)
+        self.ended = self.aborted | set(self.committed)
+
+    def take(self, word, t, *rest):
+        if word == "begin":
+            self.begun += 1
+        elif word == "op":
+            self.stands.append((t, *rest))
+        elif word == "commit":
+            self.committed.append(t)
+        elif word == "abort":
+            self.aborted.add(t)
+            self.strike(t, len(self.by(t)))
+        elif word == "rollback":
+            self.strike(t, rest[0])
+
+    def strike(self, t, count):
+        """The last operations of a transaction live no more."""
+        left = len(self.by(t)) - count
+        kept = []
+        for entry in self.stands:
+            if entry[0] != t or left > 0:
+                kept.append(entry)
+                left -= entry[0] == t
+        self.stands = kept
+
+    def by(self, t):
+        return [entry for entry in self.stands if entry[0] == t]
+
+    def is_open(self, t):
+        return t < self.begun and t not in self.ended
+
+    def open_ones(self):
+        return [t for t in range(self.begun) if t not in self.ended]
+
+    def at(self, x, t):
+        """The operations of a transaction that live at an object."""
+        return [k for u, y, k in self.stands if u == t and y == x]
+
+    def serial(self, x):
+        return [k for t in self.committed for k in self.at(x, t)]
+
+
+class Model:
+    """A store in a file: the states where the epoch began, its whole history, how many of these events are told to be
+    durable, and the number of its life."""
+
+    def __init__(self, objects, types):
+        self.objects, self.types = objects, types
+        self.starts, self.events, self.durable = [types[place].initial for _, place in objects], [], 0
+        self.life = 0
+
+    def type_of(self, x):
+        return self.types[self.objects[x][1]]
+
+    def view(self, s, x, t):
+        """What a transaction sees at an object."""
+        if self.objects[x][0] == "undo":
+            return [k for _, y, k in s.stands if y == x]
+        return s.serial(x) + s.at(x, t)
+
+    def kept(self, s, x):
+        return self.type_of(x).run(self.starts[x], self.view(s, x, None))
+
+    def serial(self, s, x):
+        return self.type_of(x).run(self.starts[x], s.serial(x))
+
+    def blocker(self, s, x, t, k):
+        """Who holds the earliest operation that this one conflicts with, or none."""
+        kind, conflicts = self.objects[x][0], self.type_of(x).conflicts
+        held = [u for u, y, q in s.stands if y == x and u != t and s.is_open(u) and (kind, k, q) in conflicts]
+        return held[0] if held else None
+
+    def event_of_call(self, s, t, x, call):
+        of_call = self.type_of(x).operations(call)
+        state = self.type_of(x).run(self.starts[x], self.view(s, x, t))
+        legal = [k for k in of_call if (state, k) in self.type_of(x).next]
+        free = [k for k in legal if self.blocker(s, x, t, k) is None]
+        if free:
+            return "op", t, x, free[0]
+        if legal:
+            return "busy", t, x, of_call[0], self.blocker(s, x, t, legal[0])
+        return "none", t, x, of_call[0]
+
+    def refusal(self, s, verb, *rest):
+        """Why the store refuses this, or none."""
+        if verb == "begin":
+            return "TooManyOpen" if len(s.open_ones()) >= MOST_OPEN else None
+        if verb == "kept":
+            return "NoObject" if rest[0] >= len(self.objects) else None
+        if verb not in ("call", "would", "commit", "abort", "rollback"):
+            return None
+        (life, t), *rest = rest
+        if life != self.life or not s.is_open(t):
+            return "NotOpen"
+        if verb == "rollback":
+            return None if 0 < rest[0] <= len(s.by(t)) else "BadRollback"
+        if verb in ("call", "would") and rest[0] >= len(self.objects):
+            return "NoObject"
+        return "NoCall" if verb in ("call", "would") and not self.type_of(rest[0]).operations(rest[1]) else None
+
+    def told(self, event):
+        """What a call is answered that makes this event."""
+        if event[0] == "op":
+            return f"reply {self.type_of(event[2]).ops[event[3]][1]}"
+        return f"busy {self.life}.{event[4]}" if event[0] == "busy" else "none"
+
+    def listed(self, verb, *rest):
+        """The lines of an answer of several."""
+        if verb == "objects":
+            return [f"object {kind} {place}" for kind, place in self.objects]
+        if verb == "types":
+            return [line for type_ in self.types for line in type_.text.split("\n")]
+        return [line_of(event) for event in self.events[rest[0] :][: min(rest[1], MOST_TOLD)]]
+
+    def done(self, s, verb, *rest):
+        """The lines of the answer to what isn't refused; what is asked is done."""
+        if verb == "events":
+            self.durable = len(self.events)
+        if verb in ("objects", "types", "events"):
+            return self.listed(verb, *rest) + ["ok"]
+        if verb == "stats":
+            return [f"ok events {len(self.events)} begun {s.begun} open {len(s.open_ones())}"]
+        if verb == "kept":
+            return [f"ok {self.kept(s, rest[0])}"]
+        if verb == "begin":
+            self.events.append(("begin", s.begun))
+            return [f"ok {self.life}.{s.begun}"]
+        (_, t), *rest = rest
+        event = self.event_of_call(s, t, *rest) if verb in ("call", "would") else (verb, t, *rest)
+        if verb != "would":
+            self.events.append(event)
+        if verb == "commit":
+            self.durable = len(self.events)
+        return [self.told(event) if verb in ("call", "would") else "ok"]
+
+    def answer(self, line):
+        """The lines of the answer, each behind the tag."""
+        tag, request = line_asked(line)
+        if isinstance(request, Fault):
+            return [f"{tag} fault {request}\n"]
+        if request == ["end"]:
+            return [f"{tag} ok\n"]
+        s = Seen(self.events)
+        refused = self.refusal(s, *request)
+        lines = [f"refused {refused}"] if refused else self.done(s, *request)
+        return [f"{tag} {line}\n" for line in lines]
+
+    def abort_all(self):
+        self.events += [("abort", t) for t in Seen(self.events).open_ones()]
+
+    def opened(self):
+        """The file is opened by a service."""
+        self.abort_all()
+        self.durable, self.life = len(self.events), self.life + 1
+
+    def renewed(self):
+        """Another epoch begins."""
+        self.abort_all()
+        s = Seen(self.events)
+        self.starts = [self.kept(s, x) for x in range(len(self.objects))]
+        self.events, self.durable, self.life = [], 0, self.life + 1
+
+    def history(self):
+        lines = [f"object {kind} {place}" for kind, place in self.objects] + [line_of(e) for e in self.events]
+        return "".join(line + "\n" for line in [*lines, "end"])
+
+    def audit(self):
+        s = Seen(self.events)
+        serial = [f"# serial {x} {self.serial(s, x)}" for x in range(len(self.objects))]
+        return "".join(line + "\n" for line in ["# audit yes", *[f"# commit {t}" for t in s.committed], *serial])
+
+
+def line_of(event):
+    """The line of an event of worker 0."""
+    return " ".join(map(str, [event[0], 0, *event[1:]]))
