@@ -79,15 +79,15 @@ fn unopened<D: Disk + Drop>(rt: &(impl Abort + AllocGlobal), files: Files<D>) ->
     files.expect(rt, "no files")
 }
 
-/// The trees of new files in memory: so many calls on the log are passed on, and each one after fails. None where
-/// that were too few for new trees.
-fn trees_until(rt: &(impl Abort + AllocGlobal), calls: u64) -> Option<FileStore<Fuse<Memory>>>
+/// The trees of new files, or none where the disk stops before.
+fn new_trees<D: Disk + Drop>(
+    rt: &(impl Abort + AllocGlobal),
+    files: Files<D>,
+) -> Option<FileStore<D>>
+    requires log { IsTrue (D.Disk.is_usable files.log) }
+    requires db { IsTrue (D.Disk.is_usable files.db) }
     ensures { IfSome result (λ it. IsTrue (view it).is_numbered) }
 {
-    let files = Files {
-        log: Fuse::new(Memory::new(rt.alloc()), calls),
-        db: Fuse::new(Memory::new(rt.alloc()), u64::MAX),
-    };
     unopened(rt, files).create().ok()
 }
 
@@ -231,9 +231,25 @@ fn found_in<S: FoundAgain + Drop>(
     Some((reached, events_found(rt, trees.found_again(rt))))
 }
 
-/// The same of a store whose disk stops after so many calls.
+/// The same of a store in new files, over any disk: where the disk is named, the proof of this costs several times as much.
+fn found_over<D: Crash + Drop>(
+    rt: &(impl Abort + AllocGlobal),
+    files: Files<D>,
+) -> Option<(Reached, u32)>
+    requires log { IsTrue (D.Disk.is_usable files.log) }
+    requires db { IsTrue (D.Disk.is_usable files.db) }
+{
+    found_in(rt, new_trees(rt, files)?)
+}
+
+/// The same of files in memory: so many calls on the log are passed on, and each one after fails. None where that
+/// were too few for new trees.
 fn found_after(rt: &(impl Abort + AllocGlobal), calls: u64) -> Option<(Reached, u32)> {
-    found_in(rt, trees_until(rt, calls)?)
+    let files = Files {
+        log: Fuse::new(Memory::new(rt.alloc()), calls),
+        db: Fuse::new(Memory::new(rt.alloc()), u64::MAX),
+    };
+    found_over(rt, files)
 }
 
 /// The greatest number of calls, below 1,024, behind which no commit is settled.
