@@ -231,7 +231,7 @@ fn found_in<S: FoundAgain + Drop>(
     Some((reached, events_found(rt, trees.found_again(rt))))
 }
 
-/// The same of a store in new files, over any disk: where the disk is named, the proof of this costs several times as much.
+/// The same of a store in new files, over any disk: where the disk is named, this costs several times as much to prove.
 fn found_over<D: Crash + Drop>(
     rt: &(impl Abort + AllocGlobal),
     files: Files<D>,
