@@ -69,9 +69,9 @@ def postgres(folder):
 
 
 def opening(colock, program, folder):
-    """The seconds that it takes to open a million events and end: less those of a new file."""
+    """The seconds that it takes to open 978,000 events, an epoch that is nearly full."""
     path = database(colock, folder, "million.db")
-    child = subprocess.Popen([program, "fill", colock, path, "333333"], stdout=subprocess.PIPE)
+    child = subprocess.Popen([program, "fill", colock, path, "326000"], stdout=subprocess.PIPE)
     child.wait()
     return seconds(program, "open", colock, path)[0]
 
@@ -95,4 +95,4 @@ def time_durable():
                   f" {groups_rate / loop:.2f} of the loop's {loop:.0f} syncs, {rate / once:.1f} of SQLite")
         for clients, rate in postgres(folder).items():
             print(f"PostgreSQL, one row, {clients} clients: {rate:.0f} commits a second")
-        print(f"a million events are opened in {opening(colock, program, folder):.2f} s")
+        print(f"978,000 events are opened in {opening(colock, program, folder):.2f} s")

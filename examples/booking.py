@@ -46,7 +46,11 @@ def book(store, name, booked):
     """Books the first seat that is free."""
     for seat in SEATS:
         while True:
-            _, t = store.ask("begin")
+            word, t = store.ask("begin")
+            if word == "busy":
+                # the epoch is full, and the next one begins soon
+                time.sleep(0.01)
+                continue
             answer = store.ask("call", t, "0", f"member:{seat}")
             if answer == ["reply", "false"] and store.ask("call", t, "0", f"insert:{seat}") == ["reply", "ok"]:
                 if store.ask("commit", t) == ["ok"]:

@@ -1,10 +1,13 @@
 -- A new epoch of a durable store.
-use Rattle.std.specs.Prelude.{◌≡◌, List, [], map, length}
+use Rattle.std.specs.Prelude.{◌≡◌, ◌⊎◌, List, [], map, length}
 use Rattle.sqlite_trees.specs.declared.store.Store.{Ghosts}
+use Rattle.sqlite_trees.specs.Tree.{Trees}
 use Rattle.table_checker.specs.Checked.{Checked}
 use Rattle.journal.specs.declared.state_row.FirstState.{FirstState}
-use Rattle.journal.specs.Contents.{Contents, from_states, in_life}
-use Rattle.journal.specs.Journal.{Clean, IsJournal, IsSettled, written}
+use Rattle.journal.specs.Contents.{Contents, IsFile, contents_of, from_states, in_life}
+use Rattle.journal.specs.Journal.{Clean, IsJournal, IsSettled, may_leave, written}
+use Rattle.store_laws.specs.Stored.{Stored}
+use Rattle.store.specs.Renews.{Renews}
 use Rattle.durable_store.specs.declared.durable.Durable.{Durable}
 use Rattle.durable_store.specs.Types.{HasTypes}
 use Rattle.durable_store.specs.Recovered.{next_life}
@@ -24,3 +27,8 @@ pub record IsAhead {S : Type 0} (g : Ghosts S) (d : Durable S) : Type 0 where
   pub none : d.store.history ≡ []
   pub as_many : Clean g d.journal → length d.store.types ≡ length (written g d.journal).states
   pub types : Clean g d.journal → HasTypes (from_states (written g d.journal) (firsts d.store.types)) d.store.types
+
+-- a crash leaves what it could have left before, or the new epoch, at the states that the store had kept
+abbrev pub LeavesEpoch : {S : Type 0} (g : Ghosts S) → Durable S → Durable S → Type 0
+LeavesEpoch g old new = (db : Trees) → may_leave g new.journal db
+    → (Clean g old.journal × IsFile db × ((s : Stored) × Renews old.store s × (contents_of db ≡ renewed (written g old.journal) s.types))) ⊎ may_leave g old.journal db

@@ -1,13 +1,13 @@
 //! A new epoch: the history begins anew at the states that were kept.
 
-ghost use Rattle.std.specs.Prelude.{◌≡◌, ◌⊎◌, ◌<◌, length, Some, slice_get, IfErr, IfOk, OnOk};
+ghost use Rattle.std.specs.Prelude.{◌≡◌, ◌⊎◌, ◌<◌, [], ◌∷◌, length, Some, slice_get, IfErr, IfOk, OnOk};
 ghost use Rattle.sqlite_trees.specs.Tree.{Trees};
 ghost use Rattle.journal.specs.Contents.{IsFile, contents_of};
 ghost use Rattle.journal.specs.Journal.{Clean, ShowsCommit, durable, may_leave, written};
 ghost use Rattle.table_checker.specs.Checked.{Checked};
 ghost use Rattle.store.specs.Renews.{RefusesRenew, Renews};
 ghost use Rattle.durable_store.specs.Durable.{IsDurable};
-ghost use Rattle.durable_store.specs.Epochs.{IsAhead, firsts, renewed};
+ghost use Rattle.durable_store.specs.Epochs.{IsAhead, LeavesEpoch, firsts, renewed};
 
 use crate::durable::Durable;
 use journal::{FirstState, JournalError};
@@ -36,9 +36,9 @@ impl<S: Alter> Durable<S> {
         ensures refused { IfOk result.1 (λ r. IfErr r (λ why. RefusesRenew self.store why × (result.0 ≡ self))) }
         ensures durable { IfOk result.1 (λ r. OnOk r (Clean S.Store result.0.journal → durable S.Store result.0.journal ≡ renewed (written S.Store self.journal) result.0.store.types)) }
         ensures shows { IfOk result.1 (λ r. OnOk r (ShowsCommit S.Store result.0.journal)) }
+        ensures last { IfOk result.1 (λ r. OnOk r (Clean S.Store result.0.journal → (written S.Store self.journal).headers ≡ self.journal.header ∷ [])) }
         ensures clean { Clean S.Store result.0.journal → Clean S.Store self.journal }
-        ensures crash { (db : Trees) → may_leave S.Store result.0.journal db
-            → (Clean S.Store self.journal × IsFile db × (contents_of db ≡ renewed (written S.Store self.journal) result.0.store.types)) ⊎ may_leave S.Store self.journal db }
+        ensures crash { LeavesEpoch S.Store self result.0 }
     {
         let Durable { store, journal } = self;
         match store.renew(alloc) {
@@ -65,6 +65,7 @@ impl<S: Alter> Durable<S> {
         ensures types { self.new.store.types ≡ self.old.store.types }
         ensures durable { OnOk result (Clean S.Store self.new.journal → durable S.Store self.new.journal ≡ renewed (written S.Store self.old.journal) self.old.store.types) }
         ensures shows { OnOk result (ShowsCommit S.Store self.new.journal) }
+        ensures last { OnOk result (Clean S.Store self.new.journal → (written S.Store self.old.journal).headers ≡ self.old.journal.header ∷ []) }
         ensures clean { Clean S.Store self.new.journal → Clean S.Store self.old.journal }
         ensures crash { (db : Trees) → may_leave S.Store self.new.journal db
             → (Clean S.Store self.old.journal × IsFile db × (contents_of db ≡ renewed (written S.Store self.old.journal) self.old.store.types)) ⊎ may_leave S.Store self.old.journal db }

@@ -1,5 +1,5 @@
 -- What was told, group by group.
-use Rattle.std.proofs.Common.{◌≡◌, ◌∙◌, ℕ, ◌+◌, List, [], ◌++◌, length, take, drop, refl, sym, ap, subst, Option, None, Some, arith}
+use Rattle.std.proofs.Common.{◌≡◌, ◌∙◌, ℕ, ◌+◌, List, [], ◌++◌, length, take, drop, refl, sym, ap, subst, Option, None, arith}
 use Rattle.std.proofs.Math.Seq.{take-append-add}
 use Rattle.std.proofs.lemmas.List.{append_assoc, append-nil, length-append, take-append-drop, drop_all}
 use Rattle.std.proofs.lemmas.Grind.{flat_map-append}
@@ -17,7 +17,7 @@ use Rattle.serving.specs.Serving.{GoesOn, HasServed, ServesBytes}
 use Rattle.durable_store.specs.Durable.{IsDurable}
 use Rattle.serving.specs.Group.{HasTold, IsFresh, StopsTelling}
 use Rattle.serving.specs.Told.{AppendsPart, answers_text}
-use Rattle.serving.proofs.Serving.{goes-nowhere, goes-then}
+use Rattle.serving.proofs.Lasting.{lasts-goes, lasts-nowhere}
 use Rattle.serving.proofs.Telling.{part-of-whole}
 
 -- ---- known bytes
@@ -37,9 +37,10 @@ pub stops-before : {S : Type 0} {g : Ghosts S} {began : Session S} {given taken 
 stops-before {S} {g} {began} {given} {taken} {given_now} {taken_now} {old} new clean has = record {
   lines = has.served.lines;
   answers = has.told;
+  life = old.session.life;
   reached = old.session.store.store;
   ended = old.end;
-  serves = λ now. subst (λ all. Serves began.life (written g began.store.journal) has.served.lines began.store.store all old.session.store.store old.end)
+  serves = λ now. subst (λ all. Serves began.most_events (written g began.store.journal) began.life has.served.lines began.store.store all old.session.life old.session.store.store old.end)
       (ap (λ more. has.told ++ more) has.waits ∙ append-nil has.told) (has.served.serves (clean now));
   part = part-of-whole taken taken_now taken_now (answers_text has.told) has.appended (Keeps-refl taken_now);
 }
@@ -51,6 +52,7 @@ pub stops-telling : {S : Type 0} {g : Ghosts S} {began : Session S} {given taken
 stops-telling {S} {g} {began} {given} {taken} {given_now} {taken_now} {old} mid new taken_new bytes clean has more part = record {
   lines = more.served.lines;
   answers = has.told ++ mid.answers.items;
+  life = mid.session.life;
   reached = mid.session.store.store;
   ended = mid.end;
   serves = λ now. more.served.serves (clean now);
@@ -69,7 +71,6 @@ pub group-told : {S : Type 0} {g : Ghosts S} {began : Session S} {given taken gi
 group-told {S} {g} {began} {given} {taken} {given_now} {taken_now} {old} mid new given_new taken_new bytes none has serves consumed appended goes lets line ended clear =
     let more = serves has.told has.seen has.served in
     let served = more.served in
-    let goes_on : GoesOn g began new.session = goes-then served.goes_on goes in
     record {
       told = has.told ++ mid.answers.items;
       seen = has.seen ++ take more.count bytes;
@@ -85,11 +86,11 @@ group-told {S} {g} {began} {given} {taken} {given_now} {taken_now} {old} mid new
         half = served.half;
         asked = served.asked;
         kept = ap (λ v. v.items) line ∙ served.kept;
-        goes_on = goes_on;
+        lasts = lasts-goes served.lasts goes;
         serves = λ clean.
             let so_far = served.serves (goes.clean clean) in
-            rw (lets, ended, ap (λ xs. (has.told ++ mid.answers.items) ++ xs) clear ∙ append-nil (has.told ++ mid.answers.items))
-            (Serves.forget served.lines began.store.store mid.session.store.store (has.told ++ mid.answers.items) new.session.store.store.forgotten mid.end so_far);
+            rw (lets, ended, goes.life, ap (λ xs. (has.told ++ mid.answers.items) ++ xs) clear ∙ append-nil (has.told ++ mid.answers.items))
+            (Serves.forget served.lines began.store.store mid.session.store.store (has.told ++ mid.answers.items) mid.session.life new.session.store.store.forgotten mid.end so_far);
       };
       appended = subst (Appends taken taken_new) (sym (told-more has.told mid.answers.items)) (Appends-trans taken taken_now taken_new (answers_text has.told) (answers_text mid.answers.items) has.appended appended);
     }
@@ -109,7 +110,7 @@ told-none {S} {g} given taken s sound fresh = record {
     half = [];
     asked = record { text = refl; whole = tt; within = refl };
     kept = fresh.line;
-    goes_on = goes-nowhere s.session sound;
+    lasts = lasts-nowhere s.session sound fresh.named;
     serves = λ clean. rw (fresh.answers, fresh.end) (Serves.none s.session.store.store);
   };
   appended = Appends-nil taken;

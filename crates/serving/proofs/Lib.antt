@@ -1,5 +1,6 @@
 pub mod Following
 pub mod ByteByByte
+pub mod Lasting
 pub mod Serving
 pub mod Telling
 pub mod Listed

@@ -17,19 +17,21 @@ use Rattle.serving.specs.declared.answer_line.Answered.{Answered}
 use Rattle.request_text.specs.declared.fault.RequestFault.{RequestFault}
 use Rattle.serving.specs.declared.session.Session.{Session}
 use Rattle.serving.specs.declared.server.Server.{Server}
-use Rattle.serving.specs.Follows.{Follows}
 use Rattle.serving.specs.Lines.{asks_end, is_end}
-use Rattle.serving.specs.Requests.{DoesRequest}
+use Rattle.serving.specs.Requests.{DoesRequest, TellsObjects, TellsTypes}
 use Rattle.serving.specs.Served.{IsAnswered, Serves}
 use Rattle.serving.specs.Serving.{AnswersLine, DoesLine, GoesOn, HasServed, KeepsByte, TakesByte, TakesEnd, most_kept}
 use Rattle.durable_store.specs.Durable.{IsDurable}
 use Rattle.serving.proofs.Following.{follows-none, leaves-then, writes-then}
+use Rattle.serving.proofs.Lasting.{lasts-goes, reaches-same}
 use Rattle.serving.proofs.ByteByByte.{asked-kept, byte-more, kept-more, line-more}
 
 pub goes-then : {S : Type 0} {g : Ghosts S} {old mid new : Session S} → GoesOn g old mid → GoesOn g mid new → GoesOn g old new
 goes-then {g = g} {old} {mid} {new} first second = record {
   sound = second.sound;
   life = second.life ∙ first.life;
+  most = second.most ∙ first.most;
+  same = second.same ∙ first.same;
   follows = writes-then g old.store mid.store new.store second.clean first.follows second.follows;
   clean = λ clean. first.clean (second.clean clean);
   crash = leaves-then g old.store mid.store new.store first.clean first.follows first.crash second.crash;
@@ -40,38 +42,41 @@ pub goes-nowhere : {S : Type 0} {g : Ghosts S} (s : Session S) → IsDurable g s
 goes-nowhere {g = g} s sound = record {
   sound = sound;
   life = refl;
+  most = refl;
+  same = refl;
   follows = λ clean. follows-none (written g s.store.journal);
   clean = λ clean. clean;
   crash = λ db left. inr left;
 }
 
--- a file with events more has the same objects and types
-done-before : (life : ℕ) (c : Contents) (old : Stored) (r : Request) (answer : AnswerLine) (new : Stored) (d : Contents) → Follows c d → DoesRequest life d old r answer new → DoesRequest life c old r answer new
-done-before life c old request.Begin answer new d follows does = does
-done-before life c old (request.Call t x name) answer new d follows does = does
-done-before life c old (request.Would t x name) answer new d follows does = does
-done-before life c old (request.Commit t) answer new d follows does = does
-done-before life c old (request.Abort t) answer new d follows does = does
-done-before life c old (request.Rollback t count) answer new d follows does = does
-done-before life c old (request.Kept x) answer new d follows does = does
-done-before life c old request.Objects answer new d follows does = subst (λ (d : Contents). DoesRequest life d old request.Objects answer new) follows.others does
-done-before life c old request.Types answer new d follows does = subst (λ (d : Contents). DoesRequest life d old request.Types answer new) follows.others does
-done-before life c old (request.Events from count) answer new d follows does = does
-done-before life c old request.Stats answer new d follows does = does
-done-before life c old request.End answer new d follows does = does
+-- a file with the same objects and types
+done-before : (most life : ℕ) (c : Contents) (old : Stored) (r : Request) (answer : AnswerLine) (new : Stored) (d : Contents) → (d.objects ≡ c.objects) × (d.types ≡ c.types)
+    → DoesRequest most life d old r answer new → DoesRequest most life c old r answer new
+done-before most life c old request.Begin answer new d same does = does
+done-before most life c old (request.Call t x name) answer new d same does = does
+done-before most life c old (request.Would t x name) answer new d same does = does
+done-before most life c old (request.Commit t) answer new d same does = does
+done-before most life c old (request.Abort t) answer new d same does = does
+done-before most life c old (request.Rollback t count) answer new d same does = does
+done-before most life c old (request.Kept x) answer new d same does = does
+done-before most life c old request.Objects answer new d same does = (subst (λ objects. TellsObjects answer objects) same.0 does.0, does.1)
+done-before most life c old request.Types answer new d same does = (subst (λ texts. TellsTypes answer texts) same.1 does.0, does.1)
+done-before most life c old (request.Events from count) answer new d same does = does
+done-before most life c old request.Stats answer new d same does = does
+done-before most life c old request.End answer new d same does = does
 
-answered-before : (life : ℕ) (c d : Contents) (kept half : List ℕ) (old : Stored) (a : Answered) (new : Stored) → Follows c d → asked_of kept ≡ asked_of half
-    → IsAnswered life d kept old a new → IsAnswered life c half old a new
-answered-before life c d kept half old a new follows same answered = record {
+answered-before : (most life : ℕ) (c d : Contents) (kept half : List ℕ) (old : Stored) (a : Answered) (new : Stored) → (d.objects ≡ c.objects) × (d.types ≡ c.types) → asked_of kept ≡ asked_of half
+    → IsAnswered most life d kept old a new → IsAnswered most life c half old a new
+answered-before most life c d kept half old a new files same answered = record {
   tag = answered.tag ∙ ap (λ (x : Asked). x.tag) same;
   request =
-      let before : MatchResult (asked_of kept).request (λ r. DoesRequest life c old r a.answer new) (λ fault. (a.answer ≡ Fault fault) × (new ≡ old)) =
-      elim (asked_of kept).request as (λ (q : Result Request RequestFault). MatchResult q (λ r. DoesRequest life d old r a.answer new) (λ fault. (a.answer ≡ Fault fault) × (new ≡ old))
-      → MatchResult q (λ r. DoesRequest life c old r a.answer new) (λ fault. (a.answer ≡ Fault fault) × (new ≡ old))) [
-        | Ok r ↦ λ does. done-before life c old r a.answer new d follows does
+      let before : MatchResult (asked_of kept).request (λ r. DoesRequest most life c old r a.answer new) (λ fault. (a.answer ≡ Fault fault) × (new ≡ old)) =
+      elim (asked_of kept).request as (λ (q : Result Request RequestFault). MatchResult q (λ r. DoesRequest most life d old r a.answer new) (λ fault. (a.answer ≡ Fault fault) × (new ≡ old))
+      → MatchResult q (λ r. DoesRequest most life c old r a.answer new) (λ fault. (a.answer ≡ Fault fault) × (new ≡ old))) [
+        | Ok r ↦ λ does. done-before most life c old r a.answer new d files does
         | Err fault ↦ λ told. told
       ] answered.request in
-      subst (λ (x : Asked). MatchResult x.request (λ r. DoesRequest life c old r a.answer new) (λ fault. (a.answer ≡ Fault fault) × (new ≡ old))) same before;
+      subst (λ (x : Asked). MatchResult x.request (λ r. DoesRequest most life c old r a.answer new) (λ fault. (a.answer ≡ Fault fault) × (new ≡ old))) same before;
 }
 
 -- a byte of a line
@@ -83,7 +88,7 @@ byte-kept {S} {g} {began} {told} {bytes} {old} {new} b other keeps served =
       half = served.half ++ b ∷ [];
       asked = byte-more b other served.asked;
       kept = keeps.line ∙ (ap (λ xs. if nat_lt (length xs) most_kept then xs ++ b ∷ [] else xs) served.kept ∙ kept-more most_kept served.half b);
-      goes_on = served.goes_on;
+      lasts = served.lasts;
       serves = served.serves;
     })
 
@@ -92,26 +97,27 @@ line-answered : {S : Type 0} {g : Ghosts S} {began : Session S} {told : List Ans
     → asks_end old.line.items ≡ false → AnswersLine g old new → HasServed g began told bytes old → HasServed g began told (bytes ++ b ∷ []) new
 line-answered {S} {g} {began} {told} {bytes} {old} {new} b is none clear other does served =
     let same : asked_of old.line.items ≡ asked_of served.half = ap asked_of served.kept ∙ asked-kept served.half in
-    let goes : GoesOn g began new.session = goes-then served.goes_on does.goes_on in
-    let began_file = written g began.store.journal in
+    let most = began.most_events in
+    let file = written g began.store.journal in
     record {
       lines = served.lines ++ served.half ∷ [];
       half = [];
       asked = line-more b is served.asked;
       kept = clear;
-      goes_on = goes;
+      lasts = lasts-goes served.lasts does.goes_on;
       serves = λ clean.
           let before = does.goes_on.clean clean in
-          let so_far : Serves began.life began_file served.lines began.store.store (told ++ old.answers.items) old.session.store.store None =
-          subst (λ ended. Serves began.life began_file served.lines began.store.store (told ++ old.answers.items) old.session.store.store ended) none (served.serves before) in
-          let answered : IsAnswered began.life began_file served.half old.session.store.store does.a new.session.store.store =
-          answered-before began.life began_file (written g old.session.store.journal) old.line.items served.half old.session.store.store does.a new.session.store.store
-          (served.goes_on.follows before) same
-          (subst (λ life. IsAnswered life (written g old.session.store.journal) old.line.items old.session.store.store does.a new.session.store.store) served.goes_on.life (does.answered clean)) in
+          let so_far : Serves most file began.life served.lines began.store.store (told ++ old.answers.items) old.session.life old.session.store.store None =
+          subst (λ ended. Serves most file began.life served.lines began.store.store (told ++ old.answers.items) old.session.life old.session.store.store ended) none (served.serves before) in
+          let answered : IsAnswered most old.session.life file served.half old.session.store.store does.a new.session.store.store =
+          answered-before most old.session.life file (written g old.session.store.journal) old.line.items served.half old.session.store.store does.a new.session.store.store
+          (reaches-same (served.lasts.reaches before)) same
+          (subst (λ n. IsAnswered n old.session.life (written g old.session.store.journal) old.line.items old.session.store.store does.a new.session.store.store) served.lasts.most (does.answered clean)) in
           let ends : asks_end served.half ≡ false = ap (λ (x : Asked). is_end x.request) (sym same) ∙ other in
           let ended : new.end ≡ None = ap (λ (s : Server S). s.end) does.others ∙ none in
           let all : told ++ new.answers.items ≡ (told ++ old.answers.items) ++ does.a ∷ [] = ap (λ xs. told ++ xs) does.told ∙ sym (append_assoc told old.answers.items (does.a ∷ [])) in
-          rw (ended, all) (Serves.line served.lines served.half began.store.store old.session.store.store new.session.store.store (told ++ old.answers.items) does.a so_far ends answered);
+          rw (ended, all, does.goes_on.life)
+          (Serves.line served.lines served.half began.store.store old.session.store.store new.session.store.store (told ++ old.answers.items) does.a old.session.life so_far ends answered);
     }
 
 -- the LF of a line that asks for the end
@@ -119,17 +125,18 @@ end-taken : {S : Type 0} {g : Ghosts S} {began : Session S} {told : List Answere
     → asks_end old.line.items ≡ true → TakesEnd old new → HasServed g began told bytes old → HasServed g began told (bytes ++ b ∷ []) new
 end-taken {S} {g} {began} {told} {bytes} {old} {new} b is none clear ends does served =
     let same : asked_of old.line.items ≡ asked_of served.half = ap asked_of served.kept ∙ asked-kept served.half in
-    let began_file = written g began.store.journal in
+    let most = began.most_events in
+    let file = written g began.store.journal in
     subst (λ (s : Server S). HasServed g began told (bytes ++ b ∷ []) s) (sym does.others) (record {
       lines = served.lines ++ served.half ∷ [];
       half = [];
       asked = line-more b is served.asked;
       kept = clear;
-      goes_on = served.goes_on;
+      lasts = served.lasts;
       serves = λ clean.
-          let so_far : Serves began.life began_file served.lines began.store.store (told ++ old.answers.items) old.session.store.store None =
-          subst (λ ended. Serves began.life began_file served.lines began.store.store (told ++ old.answers.items) old.session.store.store ended) none (served.serves clean) in
-          rw same (Serves.end served.lines served.half began.store.store old.session.store.store (told ++ old.answers.items) so_far (ap (λ (x : Asked). is_end x.request) (sym same) ∙ ends));
+          let so_far : Serves most file began.life served.lines began.store.store (told ++ old.answers.items) old.session.life old.session.store.store None =
+          subst (λ ended. Serves most file began.life served.lines began.store.store (told ++ old.answers.items) old.session.life old.session.store.store ended) none (served.serves clean) in
+          rw same (Serves.end served.lines served.half began.store.store old.session.store.store (told ++ old.answers.items) old.session.life so_far (ap (λ (x : Asked). is_end x.request) (sym same) ∙ ends));
     })
 
 -- the LF of a line

@@ -13,7 +13,7 @@ use Rattle.request_text.specs.declared.fault.RequestFault.{RequestFault}
 use Rattle.request_text.specs.declared.fault.RequestFault.TheVariants.{TooLong, NotAscii, BadTag, UnknownVerb, BadWords, BadNumber}
 use Rattle.request_text.specs.declared.request.TransactionName.{TransactionName}
 use Rattle.serving.specs.declared.answer_line.AnswerLine.{AnswerLine}
-use Rattle.serving.specs.declared.answer_line.AnswerLine.TheVariants.{Done, Committed, Begun, State, Reply, Busy, Nothing, Counts, Objects, Types, Events, Refused, Fault}
+use Rattle.serving.specs.declared.answer_line.AnswerLine.TheVariants.{Done, Committed, Begun, State, Reply, Busy, Draining, Nothing, Counts, Objects, Types, Events, Refused, Fault}
 
 -- the tag, or `-` where a line has none
 abbrev pub tag_text : Option (List ℕ) → List ℕ
@@ -38,6 +38,10 @@ text_of pieces = flat_map (λ piece. piece) pieces
 -- that it is done
 abbrev pub done_text : List ℕ → List ℕ
 done_text tag = text_of (tag ∷ codes " ok\n" ∷ [])
+
+-- that no further transaction begins
+abbrev pub draining_text : List ℕ → List ℕ
+draining_text tag = text_of (tag ∷ codes " busy drain\n" ∷ [])
 
 -- a tag, words and a transaction: its life and its number with a point between
 abbrev pub transaction_text : List ℕ → List ℕ → TransactionName → List ℕ
@@ -84,6 +88,7 @@ answer_text tag (Begun t) = transaction_text (tag_text tag) (codes " ok ") t
 answer_text tag (State state) = state_text (tag_text tag) state
 answer_text tag (Reply reply) = word_text (tag_text tag) (codes " reply ") reply
 answer_text tag (Busy blocker) = transaction_text (tag_text tag) (codes " busy ") blocker
+answer_text tag Draining = draining_text (tag_text tag)
 answer_text tag Nothing = text_of (tag_text tag ∷ codes " none\n" ∷ [])
 answer_text tag (Counts events begun open_ones) = counts_text (tag_text tag) events begun open_ones
 answer_text tag (Objects objects) = flat_map (object_text (tag_text tag)) objects.items ++ done_text (tag_text tag)

@@ -1,5 +1,5 @@
 -- What a request does to a store, and what it is answered.
-use Rattle.std.specs.Prelude.{◌≡◌, ℕ, ◌==◌, List, length, MatchBool, MatchOption, Option, Some, None, slice_get, option_and_then, Result, Ok, Err}
+use Rattle.std.specs.Prelude.{◌≡◌, ℕ, Bool, ◌==◌, nat_le, List, length, MatchBool, MatchOption, Option, Some, None, slice_get, option_and_then, Result, Ok, Err}
 use Rattle.type_table.specs.declared.op.Op.{Op}
 use Rattle.object_trait.specs.Object.{Object}
 use Rattle.object_calls.specs.declared.answer.Answer as calls
@@ -14,7 +14,7 @@ use Rattle.serial_order.specs.History.{begins, seen}
 use Rattle.serial_order.specs.Replay.{open_count}
 use Rattle.request_text.specs.declared.request.TransactionName.{TransactionName}
 use Rattle.serving.specs.declared.answer_line.AnswerLine.{AnswerLine}
-use Rattle.serving.specs.declared.answer_line.AnswerLine.TheVariants.{Done, Committed, Begun, State, Reply, Busy, Nothing, Counts, Refused}
+use Rattle.serving.specs.declared.answer_line.AnswerLine.TheVariants.{Done, Committed, Begun, State, Reply, Busy, Draining, Nothing, Counts, Refused}
 
 -- a transaction of this life
 abbrev pub named : ℕ → ℕ → TransactionName
@@ -50,10 +50,16 @@ answered s life x (Err refusal) = Refused refusal
 abbrev pub InLife : ℕ → TransactionName → Stored → Stored → AnswerLine → Type 0 → Type 0
 InLife life t old new answer does = MatchBool (t.life == life) does ((answer ≡ Refused NotOpen) × (new ≡ old))
 
+-- an epoch with so many events is full: it goes on until those that are open have ended
+abbrev pub is_full : ℕ → Stored → Bool
+is_full most s = nat_le most (length s.history)
+
 -- ---- requests
 
-abbrev pub DoesBegin : ℕ → Stored → AnswerLine → Stored → Type 0
-DoesBegin life old answer new = (r : Result ℕ Refusal) × MayStep old 0 command.Begin r new × (answer ≡ begun life r)
+-- a transaction begins, but for an epoch that is full
+abbrev pub DoesBegin : ℕ → ℕ → Stored → AnswerLine → Stored → Type 0
+DoesBegin most life old answer new =
+    MatchBool (is_full most old) ((answer ≡ Draining) × (new ≡ old)) ((r : Result ℕ Refusal) × MayStep old 0 command.Begin r new × (answer ≡ begun life r))
 
 abbrev pub DoesCall : ℕ → Stored → TransactionName → ℕ → List ℕ → AnswerLine → Stored → Type 0
 DoesCall life old t x name answer new =

@@ -10,7 +10,7 @@ use Rattle.serving.specs.declared.answer_line.Answered.{Answered}
 use Rattle.serving.specs.declared.session.Session.{Session}
 use Rattle.serving.specs.declared.server.Server.{Server}
 use Rattle.serving.specs.Served.{Serves}
-use Rattle.serving.specs.Serving.{HasServed}
+use Rattle.serving.specs.Serving.{HasServed, life_of}
 use Rattle.serving.specs.Told.{AppendsPart, answers_text}
 
 -- since it began a server has taken these bytes of its input, done the lines of them up to one that asks for the end, and told its client all
@@ -34,9 +34,10 @@ IsMore false now given_now = now.end ≡ None → IsAtEnd given_now
 pub record StopsTelling {S : Type 0} (g : Ghosts S) (began : Session S) (taken : Option (List ℕ)) (now : Durable S) (taken_now : Option (List ℕ)) : Type 0 where
   pub lines : List (List ℕ)
   pub answers : List Answered
+  pub life : ℕ
   pub reached : Stored
   pub ended : Option Asked
-  pub serves : Clean g now.journal → Serves began.life (written g began.store.journal) lines began.store.store answers reached ended
+  pub serves : Clean g now.journal → Serves began.most_events (written g began.store.journal) began.life lines began.store.store answers life reached ended
   pub part : AppendsPart taken taken_now (answers_text answers)
 
 -- a server that was asked nothing yet
@@ -44,3 +45,4 @@ pub record IsFresh {S : Type 0} (s : Server S) : Type 0 where
   pub line : s.line.items ≡ []
   pub answers : s.answers.items ≡ []
   pub end : s.end ≡ None
+  pub named : s.session.life ≡ life_of s.session.store

@@ -38,17 +38,17 @@ events_from s from count = take (min count most_told) (drop from (kinds s.histor
 abbrev pub LetsGo : Stored → Stored → Type 0
 LetsGo old new = new ≡ record old { forgotten = new.forgotten }
 
--- a request to a store in this life over a file that says this
-abbrev pub DoesRequest : ℕ → Contents → Stored → Request → AnswerLine → Stored → Type 0
-DoesRequest life c old request.Begin answer new = DoesBegin life old answer new
-DoesRequest life c old (request.Call t x name) answer new = DoesCall life old t x name answer new
-DoesRequest life c old (request.Would t x name) answer new = DoesWould life old t x name answer new
-DoesRequest life c old (request.Commit t) answer new = DoesCommit life old t answer new
-DoesRequest life c old (request.Abort t) answer new = DoesAbort life old t answer new
-DoesRequest life c old (request.Rollback t count) answer new = DoesRollback life old t count answer new
-DoesRequest life c old (request.Kept x) answer new = DoesKept old x answer new
-DoesRequest life c old request.Objects answer new = TellsObjects answer c.objects × LetsGo old new
-DoesRequest life c old request.Types answer new = TellsTypes answer c.types × LetsGo old new
-DoesRequest life c old (request.Events from count) answer new = TellsEvents answer (events_from old from count) × LetsGo old new
-DoesRequest life c old request.Stats answer new = DoesStats old answer new
-DoesRequest life c old request.End answer new = (answer ≡ Done) × (new ≡ old)
+-- a request to a store in this life over a file that says this, whose epochs are full with so many events
+abbrev pub DoesRequest : ℕ → ℕ → Contents → Stored → Request → AnswerLine → Stored → Type 0
+DoesRequest most life c old request.Begin answer new = DoesBegin most life old answer new
+DoesRequest most life c old (request.Call t x name) answer new = DoesCall life old t x name answer new
+DoesRequest most life c old (request.Would t x name) answer new = DoesWould life old t x name answer new
+DoesRequest most life c old (request.Commit t) answer new = DoesCommit life old t answer new
+DoesRequest most life c old (request.Abort t) answer new = DoesAbort life old t answer new
+DoesRequest most life c old (request.Rollback t count) answer new = DoesRollback life old t count answer new
+DoesRequest most life c old (request.Kept x) answer new = DoesKept old x answer new
+DoesRequest most life c old request.Objects answer new = TellsObjects answer c.objects × LetsGo old new
+DoesRequest most life c old request.Types answer new = TellsTypes answer c.types × LetsGo old new
+DoesRequest most life c old (request.Events from count) answer new = TellsEvents answer (events_from old from count) × LetsGo old new
+DoesRequest most life c old request.Stats answer new = DoesStats old answer new
+DoesRequest most life c old request.End answer new = (answer ≡ Done) × (new ≡ old)

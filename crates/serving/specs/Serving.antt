@@ -2,10 +2,12 @@
 use Rattle.std.specs.Prelude.{◌≡◌, ℕ, ◌≤◌, List, [], ◌∷◌, ◌++◌, length, take, nat_lt, ◌==◌, if◌then◌else◌, MatchBool, Some, None}
 use Rattle.sqlite_trees.specs.declared.store.Store.{Ghosts}
 use Rattle.journal.specs.Journal.{Clean, written}
+use Rattle.durable_store.specs.declared.durable.Durable.{Durable}
 use Rattle.durable_store.specs.Durable.{IsDurable}
 use Rattle.serving.specs.declared.answer_line.Answered.{Answered}
 use Rattle.serving.specs.declared.session.Session.{Session}
 use Rattle.serving.specs.declared.server.Server.{Server}
+use Rattle.serving.specs.Epochs.{LeavesEpochs, WritesEpochs}
 use Rattle.serving.specs.Follows.{LeavesMore, WritesMore}
 use Rattle.serving.specs.Lines.{AreLines, asks_end}
 use Rattle.request_text.specs.Requests.{asked_of}
@@ -15,13 +17,28 @@ use Rattle.serving.specs.Served.{IsAnswered, Serves}
 abbrev pub most_kept : ℕ
 most_kept = 256
 
+-- the number of a store's life
+abbrev pub life_of : {S : Type 0} → Durable S → ℕ
+life_of d = d.journal.header.life
+
 -- a session goes on from another
 pub record GoesOn {S : Type 0} (g : Ghosts S) (old new : Session S) : Type 0 where
   pub sound : IsDurable g new.store
   pub life : new.life ≡ old.life
+  pub most : new.most_events ≡ old.most_events
+  pub same : life_of new.store ≡ life_of old.store
   pub follows : WritesMore g old.store new.store
   pub clean : Clean g new.store.journal → Clean g old.store.journal
   pub crash : LeavesMore g old.store new.store
+
+-- the same, epoch after epoch
+pub record Lasts {S : Type 0} (g : Ghosts S) (old new : Session S) : Type 0 where
+  pub sound : IsDurable g new.store
+  pub named : new.life ≡ life_of new.store
+  pub most : new.most_events ≡ old.most_events
+  pub reaches : WritesEpochs g old.store new.store
+  pub clean : Clean g new.store.journal → Clean g old.store.journal
+  pub crash : LeavesEpochs g old.store new.store
 
 -- since it began, its client has asked these bytes; the answers that it was told, and those that wait, are those of a store
 pub record HasServed {S : Type 0} (g : Ghosts S) (began : Session S) (told : List Answered) (bytes : List ℕ) (now : Server S) : Type 0 where
@@ -29,16 +46,16 @@ pub record HasServed {S : Type 0} (g : Ghosts S) (began : Session S) (told : Lis
   pub half : List ℕ
   pub asked : AreLines bytes lines half
   pub kept : now.line.items ≡ take most_kept half
-  pub goes_on : GoesOn g began now.session
+  pub lasts : Lasts g began now.session
   pub serves : Clean g now.session.store.journal
-      → Serves began.life (written g began.store.journal) lines began.store.store (told ++ now.answers.items) now.session.store.store now.end
+      → Serves began.most_events (written g began.store.journal) began.life lines began.store.store (told ++ now.answers.items) now.session.life now.session.store.store now.end
 
 -- a line is answered
 pub record AnswersLine {S : Type 0} (g : Ghosts S) (old new : Server S) : Type 0 where
   pub a : Answered
   pub goes_on : GoesOn g old.session new.session
   pub answered : Clean g new.session.store.journal
-      → IsAnswered old.session.life (written g old.session.store.journal) old.line.items old.session.store.store a new.session.store.store
+      → IsAnswered old.session.most_events old.session.life (written g old.session.store.journal) old.line.items old.session.store.store a new.session.store.store
   pub told : new.answers.items ≡ old.answers.items ++ a ∷ []
   pub others : new ≡ record old { session = new.session; line = new.line; answers = new.answers }
 

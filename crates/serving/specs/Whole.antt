@@ -10,27 +10,25 @@ use Rattle.request_text.specs.declared.request.Asked.{Asked}
 use Rattle.serving.specs.declared.answer_line.Answered.{Answered}
 use Rattle.serving.specs.declared.session.Session.{Session}
 use Rattle.serving.specs.declared.server.Server.{Server}
-use Rattle.serving.specs.Ending.{EndsEpoch, aborted, end_answers}
+use Rattle.serving.specs.Ending.{EndsEpoch, end_answers}
+use Rattle.serving.specs.Epochs.{aborted}
 use Rattle.serving.specs.Group.{HasTold}
 use Rattle.serving.specs.Served.{Serves}
+use Rattle.serving.specs.Serving.{life_of}
 use Rattle.serving.specs.Told.{AppendsPart, answers_text, greeting}
 
--- the number of a store's life
-abbrev pub life_of : {S : Type 0} → Durable S → ℕ
-life_of d = d.journal.header.life
-
 -- a store that nobody has asked anything yet
-abbrev pub session_of : {S : Type 0} → Durable S → Session S
-session_of d = record { store = d; life = life_of d }
+abbrev pub session_of : {S : Type 0} → ℕ → Durable S → Session S
+session_of most d = record { store = d; life = life_of d; most_events = most }
 
 -- a client was greeted, and told the answers to its lines; what was open then is aborted, the file begins anew, and a line that asked for the
 -- end was answered behind that
-pub record ServesClient {S : Type 0} (g : Ghosts S) (began : Durable S) (given taken : Option (List ℕ)) (now : Durable S) (given_now taken_now : Option (List ℕ)) : Type 0 where
+pub record ServesClient {S : Type 0} (g : Ghosts S) (most : ℕ) (began : Durable S) (given taken : Option (List ℕ)) (now : Durable S) (given_now taken_now : Option (List ℕ)) : Type 0 where
   pub served : Server S
   pub greeted : Option (List ℕ)
   pub answered : Option (List ℕ)
   pub greets : Appends taken greeted (greeting (life_of began))
-  pub tells : HasTold g (session_of began) given greeted served given_now answered
+  pub tells : HasTold g (session_of most began) given greeted served given_now answered
   pub asked : served.end ≡ None → IsAtEnd given_now
   pub renews : EndsEpoch g served.session.store now
   pub clean : Clean g now.journal → Clean g served.session.store.journal
@@ -38,11 +36,12 @@ pub record ServesClient {S : Type 0} (g : Ghosts S) (began : Durable S) (given t
 
 -- serving stopped: its client was told a beginning of the greeting and of what some lines are answered; or the file had begun anew, and it was
 -- told all of these and a beginning of what is told at the end
-pub record StopsServing {S : Type 0} (g : Ghosts S) (began : Durable S) (taken : Option (List ℕ)) (now : Durable S) (taken_now : Option (List ℕ)) : Type 0 where
+pub record StopsServing {S : Type 0} (g : Ghosts S) (most : ℕ) (began : Durable S) (taken : Option (List ℕ)) (now : Durable S) (taken_now : Option (List ℕ)) : Type 0 where
   pub lines : List (List ℕ)
   pub answers : List Answered
+  pub life : ℕ
   pub reached : Stored
   pub ended : Option Asked
-  pub serves : Clean g now.journal → Serves (life_of began) (written g began.journal) lines began.store answers reached ended
+  pub serves : Clean g now.journal → Serves most (written g began.journal) (life_of began) lines began.store answers life reached ended
   pub told : AppendsPart taken taken_now (greeting (life_of began) ++ answers_text answers)
       ⊎ (Renews (aborted reached) now.store × AppendsPart taken taken_now ((greeting (life_of began) ++ answers_text answers) ++ answers_text (end_answers ended)))

@@ -21,6 +21,8 @@ pub enum AnswerLine {
     /// Each legal operation of a call conflicts with one that another transaction holds; this one holds what the
     /// first conflicts with.
     Busy { blocker: TransactionName },
+    /// No further transaction begins in this epoch.
+    Draining,
     /// No operation of a call is legal.
     Nothing,
     /// How many events there are, how many transactions have begun, and how many of these are open.

@@ -3,7 +3,7 @@
 ghost use Rattle.std.specs.Prelude.{◌≡◌, IfOk, OnOk};
 ghost use Rattle.journal.specs.Journal.{Clean};
 ghost use Rattle.durable_store.specs.Durable.{IsDurable};
-ghost use Rattle.serving.specs.Does.{DoesAbort, DoesBegin, DoesCall, DoesCommit, DoesRollback, done_or};
+ghost use Rattle.serving.specs.Does.{DoesAbort, DoesBegin, DoesCall, DoesCommit, DoesRollback, done_or, is_full};
 ghost use Rattle.serving.specs.Follows.{LeavesMore};
 ghost use Rattle.serving.specs.Serving.{GoesOn};
 
@@ -11,9 +11,11 @@ use crate::answer_line::AnswerLine;
 use crate::asking::answered;
 use crate::session::Session;
 use journal::JournalError;
+use objects::Object;
 use request_text::TransactionName;
 use serial_order::Refusal;
 use sqlite_trees::store::Alter;
+use store::Store;
 use type_table::Name;
 
 /// That a transaction isn't open.
@@ -26,14 +28,17 @@ pub(crate) fn not_open() -> AnswerLine
 }
 
 impl<S: Alter> Session<S> {
-    /// Begins a transaction.
+    /// Begins a transaction, but for an epoch that is full.
     pub(crate) fn begin(&mut self) -> Result<AnswerLine, JournalError>
         requires { IsDurable S.Store self.old.store }
-        ensures does { IfOk result (λ a. DoesBegin self.old.life self.old.store.store a self.new.store.store) }
+        ensures does { IfOk result (λ a. DoesBegin self.old.most_events self.old.life self.old.store.store a self.new.store.store) }
         ensures goes_on { OnOk result (GoesOn S.Store self.old self.new) }
         ensures clean { Clean S.Store self.new.store.journal → Clean S.Store self.old.store.journal }
         ensures crash { LeavesMore S.Store self.old.store self.new.store }
     {
+        if is_full(self.store.store(), self.most_events) {
+            return Ok(AnswerLine::Draining);
+        }
         match self.store.begin()? {
             Ok(number) => {
                 let t = TransactionName {
@@ -114,6 +119,13 @@ impl<S: Alter> Session<S> {
         let struck = self.store.rollback(t.number, count)?;
         Ok(done_or(AnswerLine::Done, struck))
     }
+}
+
+/// Whether an epoch is full with so many events as this one has.
+pub(crate) fn is_full(store: &Store<Object>, most_events: u32) -> bool
+    ensures { result ≡ is_full most_events store.now }
+{
+    most_events <= store.event_count()
 }
 
 /// What is answered where a request is done, or refused.

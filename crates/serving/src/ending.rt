@@ -1,15 +1,16 @@
 //! How serving ends.
 
-ghost use Rattle.std.specs.Prelude.{◌≡◌, [], None, OnErr, OnOk};
+ghost use Rattle.std.specs.Prelude.{◌≡◌, [], ◌∷◌, None, OnErr, OnOk};
 ghost use Rattle.std.specs.Result.{result_err};
 ghost use Rattle.std.specs.Io.KnownBytes.{Appends};
 ghost use Rattle.store.specs.Renews.{Renews};
-ghost use Rattle.outputs.specs.Gathered.{taken_by, under, waiting};
-ghost use Rattle.journal.specs.Journal.{Clean, durable, written};
+ghost use Rattle.outputs.specs.Gathered.{taken_by, under};
+ghost use Rattle.journal.specs.Journal.{Clean, ShowsCommit, durable, written};
 ghost use Rattle.durable_store.specs.Durable.{IsDurable};
-ghost use Rattle.durable_store.specs.Epochs.{renewed};
+ghost use Rattle.durable_store.specs.Epochs.{LeavesEpoch, renewed};
 ghost use Rattle.serving.specs.Told.{AppendsPart, answers_text};
-ghost use Rattle.serving.specs.Ending.{EndsEpoch, LeavesEnd, LeavesRenewed, end_answers};
+ghost use Rattle.serving.specs.Ending.{EndsEpoch, end_answers};
+ghost use Rattle.serving.specs.Epochs.{LeavesEpochs, WritesEpochs};
 
 use crate::answer_line::{AnswerLine, Answered};
 use crate::client::Client;
@@ -32,8 +33,9 @@ pub(crate) fn end_epoch<S: Alter>(
     requires { IsDurable S.Store store }
     ensures sound { OnOk result.1 (IsDurable S.Store result.0) }
     ensures ends { OnOk result.1 (EndsEpoch S.Store store result.0) }
+    ensures writes { OnOk result.1 (WritesEpochs S.Store store result.0) }
     ensures clean { Clean S.Store result.0.journal → Clean S.Store store.journal }
-    ensures crash { LeavesEnd S.Store store result.0 }
+    ensures crash { LeavesEpochs S.Store store result.0 }
 {
     match store.abort_all() {
         Ok(()) => renew(alloc, store),
@@ -47,8 +49,10 @@ fn renew<S: Alter>(alloc: Global, store: Durable<S>) -> (Durable<S>, Result<(), 
     ensures sound { OnOk result.1 (IsDurable S.Store result.0) }
     ensures store { OnOk result.1 (Renews store.store result.0.store) }
     ensures durable { OnOk result.1 (Clean S.Store result.0.journal → durable S.Store result.0.journal ≡ renewed (written S.Store store.journal) result.0.store.types) }
+    ensures shows { OnOk result.1 (ShowsCommit S.Store result.0.journal) }
+    ensures last { OnOk result.1 (Clean S.Store result.0.journal → (written S.Store store.journal).headers ≡ store.journal.header ∷ []) }
     ensures clean { Clean S.Store result.0.journal → Clean S.Store store.journal }
-    ensures crash { LeavesRenewed S.Store store result.0 }
+    ensures crash { LeavesEpoch S.Store store result.0 }
 {
     let (store, answer) = store.renew(alloc);
     let ended = match answer {

@@ -6,6 +6,8 @@ mod asking;
 mod client;
 mod doing;
 mod ending;
+mod epoch_limits;
+mod epochs;
 mod group;
 mod lines;
 mod listing;
@@ -21,6 +23,7 @@ mod whole;
 
 pub use answer_line::{AnswerLine, Answered};
 pub use client::Client;
+pub use epoch_limits::EpochLimits;
 pub use serve_fault::ServeFault;
 pub use server::Server;
 pub use session::Session;

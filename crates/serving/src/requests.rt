@@ -27,7 +27,7 @@ impl<S: Alter> Session<S> {
     ) -> Result<AnswerLine, JournalError>
         requires { IsDurable S.Store self.old.store }
         ensures does { IfOk result (λ a. Clean S.Store self.new.store.journal
-            → MatchResult asked (λ request. DoesRequest self.old.life (written S.Store self.old.store.journal) self.old.store.store request a self.new.store.store)
+            → MatchResult asked (λ request. DoesRequest self.old.most_events self.old.life (written S.Store self.old.store.journal) self.old.store.store request a self.new.store.store)
             (λ fault. (a ≡ AnswerLine.Fault fault) × (self.new.store.store ≡ self.old.store.store))) }
         ensures goes_on { OnOk result (GoesOn S.Store self.old self.new) }
         ensures clean { Clean S.Store self.new.store.journal → Clean S.Store self.old.store.journal }
@@ -48,7 +48,7 @@ impl<S: Alter> Session<S> {
     pub fn ask(&mut self, alloc: Global, request: Request) -> Result<AnswerLine, JournalError>
         requires { IsDurable S.Store self.old.store }
         ensures does { IfOk result (λ a. Clean S.Store self.new.store.journal
-            → DoesRequest self.old.life (written S.Store self.old.store.journal) self.old.store.store request a self.new.store.store) }
+            → DoesRequest self.old.most_events self.old.life (written S.Store self.old.store.journal) self.old.store.store request a self.new.store.store) }
         ensures goes_on { OnOk result (GoesOn S.Store self.old self.new) }
         ensures clean { Clean S.Store self.new.store.journal → Clean S.Store self.old.store.journal }
         ensures crash { LeavesMore S.Store self.old.store self.new.store }

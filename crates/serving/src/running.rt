@@ -1,11 +1,11 @@
 //! A client is served until it asks for the end, or asks no more.
 
-ghost use Rattle.std.specs.Prelude.{◌≡◌, ◌<◌, [], None, length, OnErr, OnOk};
+ghost use Rattle.std.specs.Prelude.{◌≡◌, ◌<◌, None, length, OnErr, OnOk};
 ghost use Rattle.std.specs.Io.KnownBytes.{IsAtEnd};
 ghost use Rattle.outputs.specs.Gathered.{taken_by, under};
 ghost use Rattle.journal.specs.Journal.{Clean};
 ghost use Rattle.durable_store.specs.Durable.{IsDurable};
-ghost use Rattle.serving.specs.Follows.{LeavesMore};
+ghost use Rattle.serving.specs.Epochs.{LeavesEpochs};
 ghost use Rattle.serving.specs.Group.{HasTold, IsFresh, StopsTelling};
 
 use crate::client::Client;
@@ -18,20 +18,28 @@ use request_text::Asked;
 use sqlite_trees::store::Alter;
 use std::alloc::Global;
 use std::io::Read;
+use std::rt::Clock;
+use std::time::Duration;
 
 impl<S: Alter> Server<S> {
-    /// A server of this store, which was asked nothing yet.
-    pub fn new(alloc: Global, store: Durable<S>) -> Server<S>
+    /// A server of this store, which was asked nothing yet, with epochs that are full with so many events.
+    pub fn new(alloc: Global, store: Durable<S>, most_events: u32) -> Server<S>
         ensures fresh { IsFresh result }
         ensures store { result.session.store ≡ store }
         ensures life { result.session.life ≡ store.journal.header.life }
+        ensures most { result.session.most_events ≡ most_events }
     {
         let life = store.life();
         Server {
-            session: Session { store, life },
+            session: Session {
+                store,
+                life,
+                most_events,
+            },
             line: Vec::new(alloc),
             answers: Vec::new(alloc),
             end: None,
+            full_since: None,
         }
     }
 
@@ -51,41 +59,54 @@ impl<S: Alter> Server<S> {
             line: _,
             answers: _,
             end: _,
+            full_since: _,
         } = self;
-        let Session { store, life: _ } = session;
+        let Session {
+            store,
+            life: _,
+            most_events: _,
+        } = session;
         store
     }
 
-    /// Serves the client, group by group: what it asks is read into the buffer, as much as is there. At `Ok` it asked
-    /// for the end, or the input has ended, and it was told the answers to all whole lines before, in their order.
+    /// Serves the client, group by group: what it asks is read into the buffer, as much as is there. An epoch that is full
+    /// ends where nothing is open, or where what is open had so long to go on. At `Ok` the client asked for the end, or
+    /// the input has ended, and it was told the answers to all whole lines before, in their order.
     ///
     /// # Errors
     ///
     /// The file, the input or the output failed, or memory was refused: the client was told a beginning of what some
     /// of its lines are answered, and the server isn't to be used any more.
-    pub fn run<R: Read, W: Out>(
-        &mut self,
+    pub fn run<C: Clock, R: Read, W: Out>(
+        self,
+        clock: &C,
         alloc: Global,
+        drain: Duration,
         input: &mut R,
         buffer: &mut [u8],
         client: &mut Client<W>,
-    ) -> Result<(), ServeFault>
-        requires sound { IsDurable S.Store self.old.session.store }
-        requires fresh { IsFresh self.old }
+    ) -> (Server<S>, Result<(), ServeFault>)
+        requires sound { IsDurable S.Store self.session.store }
+        requires fresh { IsFresh self }
         requires room { 0 < length buffer.old }
         requires out_takes { W.fault (under client.old.out) ≡ None }
-        ensures told { OnOk result (HasTold S.Store self.old.session (R.remaining input.old) (taken_by W.taken client.old.out) self.new (R.remaining input.new) (taken_by W.taken client.new.out)) }
-        ensures ended { OnOk result (self.new.end ≡ None → IsAtEnd (R.remaining input.new)) }
-        ensures stops { OnErr result (StopsTelling S.Store self.old.session (taken_by W.taken client.old.out) self.new.session.store (taken_by W.taken client.new.out)) }
-        ensures out_takes { OnOk result (W.fault (under client.new.out) ≡ None) }
-        ensures clean { Clean S.Store self.new.session.store.journal → Clean S.Store self.old.session.store.journal }
-        ensures crash { LeavesMore S.Store self.old.session.store self.new.session.store }
+        ensures told { OnOk result.1 (HasTold S.Store self.session (R.remaining input.old) (taken_by W.taken client.old.out) result.0 (R.remaining input.new) (taken_by W.taken client.new.out)) }
+        ensures ended { OnOk result.1 (result.0.end ≡ None → IsAtEnd (R.remaining input.new)) }
+        ensures stops { OnErr result.1 (StopsTelling S.Store self.session (taken_by W.taken client.old.out) result.0.session.store (taken_by W.taken client.new.out)) }
+        ensures out_takes { OnOk result.1 (W.fault (under client.new.out) ≡ None) }
+        ensures clean { Clean S.Store result.0.session.store.journal → Clean S.Store self.session.store.journal }
+        ensures crash { LeavesEpochs S.Store self.session.store result.0.session.store }
     {
+        let mut server = self;
         for _turn in 0..u64::MAX {
-            if !self.serve_group(alloc, input, buffer, client)? {
-                return Ok(());
+            let (next, turned) = server.take_turn(clock, alloc, drain, input, buffer, client);
+            server = next;
+            match turned {
+                Ok(true) => {}
+                Ok(false) => return (server, Ok(())),
+                Err(fault) => return (server, Err(fault)),
             }
         }
-        Err(ServeFault::Input)
+        (server, Err(ServeFault::Input))
     }
 }

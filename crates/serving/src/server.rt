@@ -2,6 +2,7 @@ use crate::answer_line::Answered;
 use crate::session::Session;
 use request_text::Asked;
 use sqlite_trees::store::Alter;
+use std::time::Instant;
 
 /// A session, and what its client has asked.
 pub struct Server<S: Alter> {
@@ -12,4 +13,6 @@ pub struct Server<S: Alter> {
     pub(crate) answers: Vec<Answered>,
     /// The line that asked for the end.
     pub(crate) end: Option<Asked>,
+    /// When the epoch was first seen to be full.
+    pub(crate) full_since: Option<Instant>,
 }

@@ -2,7 +2,7 @@
 
 ghost use Rattle.std.specs.Prelude.{◌≡◌, None};
 ghost use Rattle.outputs.specs.Out.{Puts};
-ghost use Rattle.serving.specs.AnswerText.{answer_text, counts_text, done_text, fault_name, state_text, tag_text, transaction_text};
+ghost use Rattle.serving.specs.AnswerText.{answer_text, counts_text, done_text, draining_text, fault_name, state_text, tag_text, transaction_text};
 
 use crate::answer_line::AnswerLine;
 use crate::listing::{put_events, put_objects, put_types};
@@ -32,6 +32,7 @@ pub fn write_answer<W: Out>(
         AnswerLine::State { state } => put_state(out, tag, *state),
         AnswerLine::Reply { reply } => put_all(out, &[tag, b" reply ", reply.as_bytes(), b"\n"]),
         AnswerLine::Busy { blocker } => put_transaction(out, tag, b" busy ", *blocker),
+        AnswerLine::Draining => put_draining(out, tag),
         AnswerLine::Nothing => put_all(out, &[tag, b" none\n"]),
         AnswerLine::Counts {
             events,
@@ -72,6 +73,14 @@ pub(crate) fn put_done<W: Out>(out: &mut W, tag: &[u8]) -> Result<(), OutFault>
     ensures { Puts (W.taken out.old) (W.taken out.new) (W.fault out.new) (done_text tag.now) result }
 {
     put_all(out, &[tag, b" ok\n"])
+}
+
+/// Writes that no further transaction begins.
+fn put_draining<W: Out>(out: &mut W, tag: &[u8]) -> Result<(), OutFault>
+    requires { W.fault out.old ≡ None }
+    ensures { Puts (W.taken out.old) (W.taken out.new) (W.fault out.new) (draining_text tag.now) result }
+{
+    put_all(out, &[tag, b" busy drain\n"])
 }
 
 /// Writes a tag, words and a transaction.

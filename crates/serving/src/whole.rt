@@ -4,13 +4,15 @@ ghost use Rattle.std.specs.Prelude.{◌≡◌, ◌<◌, ◌⊎◌, None, length,
 ghost use Rattle.outputs.specs.Gathered.{taken_by, under};
 ghost use Rattle.journal.specs.Journal.{Clean};
 ghost use Rattle.durable_store.specs.Durable.{IsDurable};
-ghost use Rattle.serving.specs.Ending.{EndsEpoch, LeavesEnd, end_answers};
+ghost use Rattle.serving.specs.Ending.{EndsEpoch, end_answers};
+ghost use Rattle.serving.specs.Epochs.{LeavesEpochs};
 ghost use Rattle.serving.specs.Told.{AppendsPart, answers_text};
 ghost use Rattle.std.specs.Io.KnownBytes.{Appends};
 ghost use Rattle.serving.specs.Whole.{ServesClient, StopsServing};
 
 use crate::client::Client;
 use crate::ending::end_epoch;
+use crate::epoch_limits::EpochLimits;
 use crate::serve_fault::ServeFault;
 use crate::server::Server;
 use durable_store::Durable;
@@ -19,17 +21,21 @@ use request_text::Asked;
 use sqlite_trees::store::Alter;
 use std::alloc::Global;
 use std::io::Read;
+use std::rt::Clock;
 
 /// Serves a client: greets it, and tells it the answers to its lines, group by group as they are read into the buffer.
-/// Where it has asked for the end, or its input has ended, what is open is aborted and the file begins another epoch;
-/// then it is told that the end is there, where it asked for that.
+/// Where an epoch is full, as the limits say, no further transaction begins before another epoch has begun. Where the
+/// client has asked for the end, or its input has ended, what is open is aborted and the file begins another epoch; then
+/// it is told that the end is there, where it asked for that.
 ///
 /// # Errors
 ///
 /// The file, the input or the output failed, or memory was refused. The client was told a beginning of what it is told
 /// otherwise; no commit was told it that isn't durable.
-pub fn serve<S: Alter, R: Read, W: Out>(
+pub fn serve<C: Clock, S: Alter, R: Read, W: Out>(
+    clock: &C,
     alloc: Global,
+    limits: EpochLimits,
     store: Durable<S>,
     input: &mut R,
     buffer: &mut [u8],
@@ -38,17 +44,17 @@ pub fn serve<S: Alter, R: Read, W: Out>(
     requires sound { IsDurable S.Store store }
     requires room { 0 < length buffer.old }
     requires out_takes { W.fault (under client.old.out) ≡ None }
-    ensures told { OnOk result.1 (ServesClient S.Store store (R.remaining input.old) (taken_by W.taken client.old.out) result.0 (R.remaining input.new) (taken_by W.taken client.new.out)) }
-    ensures stops { OnErr result.1 (StopsServing S.Store store (taken_by W.taken client.old.out) result.0 (taken_by W.taken client.new.out)) }
+    ensures told { OnOk result.1 (ServesClient S.Store limits.most_events store (R.remaining input.old) (taken_by W.taken client.old.out) result.0 (R.remaining input.new) (taken_by W.taken client.new.out)) }
+    ensures stops { OnErr result.1 (StopsServing S.Store limits.most_events store (taken_by W.taken client.old.out) result.0 (taken_by W.taken client.new.out)) }
     ensures sound { OnOk result.1 (IsDurable S.Store result.0) }
     ensures clean { Clean S.Store result.0.journal → Clean S.Store store.journal }
-    ensures crash { LeavesEnd S.Store store result.0 }
+    ensures crash { LeavesEpochs S.Store store result.0 }
 {
     if let Err(fault) = client.greet(store.life()) {
         return (store, Err(ServeFault::Output(fault)));
     }
-    let mut server = Server::new(alloc, store);
-    let served = server.run(alloc, input, buffer, client);
+    let server = Server::new(alloc, store, limits.most_events);
+    let (server, served) = server.run(clock, alloc, limits.drain, input, buffer, client);
     let end = server.end();
     let store = server.into_store();
     match served {
@@ -76,7 +82,7 @@ fn end_serving<S: Alter, W: Out>(
         ⊎ (EndsEpoch S.Store store result.0 × AppendsPart (taken_by W.taken client.old.out) (taken_by W.taken client.new.out) (answers_text (end_answers end)))) }
     ensures sound { OnOk result.1 (IsDurable S.Store result.0) }
     ensures clean { Clean S.Store result.0.journal → Clean S.Store store.journal }
-    ensures crash { LeavesEnd S.Store store result.0 }
+    ensures crash { LeavesEpochs S.Store store result.0 }
 {
     let (store, ended) = end_epoch(alloc, store);
     if let Err(fault) = ended {

@@ -9,9 +9,11 @@ ghost use Rattle.outputs.specs.Out.{sink_fault};
 use super::counters::{has, no_trees, opened, restarted};
 use durable_store::Durable;
 use outputs::{Gathered, OutFault, Sink};
-use serving::{Client, ServeFault, Server, serve};
+use serving::{Client, EpochLimits, ServeFault, Server, serve};
 use sqlite_trees::store::{Alter, Reopen};
 use std::process::Abort;
+use std::rt::Clock;
+use std::time::Duration;
 use test_support::sinks::{AtEnd, Narrow, narrow_sink};
 
 /// What is asked, of the first life of a store.
@@ -81,7 +83,7 @@ t \nt ok
 ";
 
 /// An output that takes so many bytes, three at a time.
-fn output(rt: &(impl Abort + AllocGlobal), room: usize) -> Gathered<Sink<Narrow>>
+pub fn output(rt: &(impl Abort + AllocGlobal), room: usize) -> Gathered<Sink<Narrow>>
     ensures { sink_fault (under result) ≡ None }
 {
     let sink = narrow_sink(rt.alloc(), 3, room, AtEnd::Fails);
@@ -91,7 +93,7 @@ fn output(rt: &(impl Abort + AllocGlobal), room: usize) -> Gathered<Sink<Narrow>
 /// What a client is told of these lines, read so many bytes at a time, where its output takes so many; how that ended,
 /// and the store behind it.
 fn told<S: Alter + Drop>(
-    rt: &(impl Abort + AllocGlobal),
+    rt: &(impl Abort + AllocGlobal + Clock),
     store: Durable<S>,
     lines: &[u8],
     piece: usize,
@@ -103,16 +105,24 @@ fn told<S: Alter + Drop>(
 {
     let alloc = rt.alloc();
     let mut client = Client::new(output(rt, room));
-    let mut server = Server::new(alloc, store);
+    let server = Server::new(alloc, store, u32::MAX);
     let mut buffer = [0; 4096];
     let mut input = lines;
-    let served = server.run(alloc, &mut input, &mut buffer[..piece], &mut client);
+    let drain = Duration::ZERO;
+    let (server, served) = server.run(
+        rt,
+        alloc,
+        drain,
+        &mut input,
+        &mut buffer[..piece],
+        &mut client,
+    );
     let said = client.into_out().into_inner().into_inner().held;
     (said, served, server.into_store())
 }
 
 /// Each line is answered in its order, read so many bytes at a time; nothing behind the end is done.
-fn are_answered<S: Alter + Drop>(rt: &(impl Abort + AllocGlobal), trees: S, piece: usize)
+fn are_answered<S: Alter + Drop>(rt: &(impl Abort + AllocGlobal + Clock), trees: S, piece: usize)
     requires trees { IsClean (S.Store.view trees) → IsTrue (S.Store.view trees).is_numbered }
     requires piece { 0 < piece × piece ≤ 4096 }
 {
@@ -136,7 +146,7 @@ fn lines_are_answered_in_pieces(rt: HostRuntime) {
 
 /// That lines without a request have these answers.
 fn have_no_request<S: Alter + Drop>(
-    rt: &(impl Abort + AllocGlobal),
+    rt: &(impl Abort + AllocGlobal + Clock),
     trees: S,
     lines: &[u8],
     answers: &[u8],
@@ -165,7 +175,7 @@ static COMMITTED: &[u8] =
     b"a begin\nb call 1.0 0 inc:1\nc call 1.0 1 inc:1\nd begin\ne commit 1.0\n";
 
 /// That its answered commit is found behind a crash.
-fn is_found<S: Alter + Reopen + Drop>(rt: &(impl Abort + AllocGlobal), trees: S)
+fn is_found<S: Alter + Reopen + Drop>(rt: &(impl Abort + AllocGlobal + Clock), trees: S)
     requires { IsClean (S.Store.view trees) → IsTrue (S.Store.view trees).is_numbered }
 {
     let (_, served, store) = told(rt, opened(rt, trees), COMMITTED, 4096, 10_000);
@@ -185,7 +195,11 @@ fn an_answered_commit_is_found(rt: HostRuntime) {
 }
 
 /// That the client is told so many bytes of the answers.
-fn is_told_a_beginning<S: Alter + Drop>(rt: &(impl Abort + AllocGlobal), trees: S, room: usize)
+fn is_told_a_beginning<S: Alter + Drop>(
+    rt: &(impl Abort + AllocGlobal + Clock),
+    trees: S,
+    room: usize,
+)
     requires { IsClean (S.Store.view trees) → IsTrue (S.Store.view trees).is_numbered }
 {
     let (said, served, store) = told(rt, opened(rt, trees), ASKED.as_bytes(), 4096, room);
@@ -201,14 +215,31 @@ fn an_output_stops(rt: HostRuntime) {
 }
 
 /// What is told from the greeting to the end, where the client has asked for it.
-fn is_served<S: Alter + Drop>(rt: &(impl Abort + AllocGlobal), trees: S, lines: &[u8], end: &[u8])
+fn is_served<S: Alter + Drop>(
+    rt: &(impl Abort + AllocGlobal + Clock),
+    trees: S,
+    lines: &[u8],
+    end: &[u8],
+)
     requires { IsClean (S.Store.view trees) → IsTrue (S.Store.view trees).is_numbered }
 {
     let alloc = rt.alloc();
     let mut client = Client::new(output(rt, 10_000));
     let (mut input, mut buffer) = (lines, [0; 4096]);
     let store = opened(rt, trees);
-    let (store, served) = serve(alloc, store, &mut input, &mut buffer, &mut client);
+    let limits = EpochLimits {
+        most_events: u32::MAX,
+        drain: Duration::ZERO,
+    };
+    let (store, served) = serve(
+        rt,
+        alloc,
+        limits,
+        store,
+        &mut input,
+        &mut buffer,
+        &mut client,
+    );
     let said = client.into_out().into_inner().into_inner().held;
     let life = store.life();
     has(rt, store, 0, 1);

@@ -3,6 +3,7 @@ use Rattle.std.specs.Io.KnownBytes.{Appends}
 use Rattle.outputs.specs.Gathered.{taken_by}
 use Rattle.serving.specs.Told.{AppendsPart, greeting}
 use Rattle.serving.proofs.EndLemmas.{left-served, same-session, serves-whole, stops-greeting, stops-served, stops-whole}
+use Rattle.serving.proofs.Telling.{of-err, of-ok}
 use Rattle.serving.proofs.whole.serve.Goals as goal
 
 pub returns-in-Err-clause-stops : goal.returns-in-Err-clause-stops
@@ -11,22 +12,22 @@ returns-in-Err-clause-stops g c =
 
 pub returns-in-Ok-clause-told : goal.returns-in-Ok-clause-told
 returns-in-Ok-clause-told g c =
-    serves-whole (taken_by g.W.Out.taken c.args.client.now.out) (taken_by g.W.Out.taken c.end_serving.new.client.out) c.end_serving.result.0 c.end_serving.result.1 (same-session c.new-server.result.session c.args.store c.new-server.ensures.store c.new-server.ensures.life)
+    serves-whole (taken_by g.W.Out.taken c.args.client.now.out) (taken_by g.W.Out.taken c.end_serving.new.client.out) c.end_serving.result.0 c.end_serving.result.1 (same-session c.new-server.result.session c.args.store c.args.limits.most_events c.new-server.ensures.store c.new-server.ensures.life c.new-server.ensures.most)
     (subst (λ n. Appends (taken_by g.W.Out.taken c.args.client.now.out) (taken_by g.W.Out.taken c.greet.new.self.out) (greeting n)) c.life.ensures c.in_default.ensures.told)
-    c.in-Ok.ensures.told c.in-Ok.ensures.ended c.into_store-store.ensures c.end-end.ensures c.end_serving.ensures.clean c.end_serving.ensures.renews c.end_serving.ensures.told
+    (of-ok c.run-server.result.1 c.in-Ok.field-0 c.in-Ok.is c.run-server.ensures.told) (of-ok c.run-server.result.1 c.in-Ok.field-0 c.in-Ok.is c.run-server.ensures.ended) c.into_store-store.ensures c.end-end.ensures c.end_serving.ensures.clean c.end_serving.ensures.renews c.end_serving.ensures.told
 
 pub returns-in-Ok-clause-stops : goal.returns-in-Ok-clause-stops
 returns-in-Ok-clause-stops g c =
-    stops-whole (taken_by g.W.Out.taken c.args.client.now.out) (taken_by g.W.Out.taken c.end_serving.new.client.out) c.end_serving.result.0 c.end_serving.result.1 (same-session c.new-server.result.session c.args.store c.new-server.ensures.store c.new-server.ensures.life)
+    stops-whole (taken_by g.W.Out.taken c.args.client.now.out) (taken_by g.W.Out.taken c.end_serving.new.client.out) c.end_serving.result.0 c.end_serving.result.1 (same-session c.new-server.result.session c.args.store c.args.limits.most_events c.new-server.ensures.store c.new-server.ensures.life c.new-server.ensures.most)
     (subst (λ n. Appends (taken_by g.W.Out.taken c.args.client.now.out) (taken_by g.W.Out.taken c.greet.new.self.out) (greeting n)) c.life.ensures c.in_default.ensures.told)
-    c.in-Ok.ensures.told c.into_store-store.ensures c.end-end.ensures c.end_serving.ensures.clean c.end_serving.ensures.part
+    (of-ok c.run-server.result.1 c.in-Ok.field-0 c.in-Ok.is c.run-server.ensures.told) c.into_store-store.ensures c.end-end.ensures c.end_serving.ensures.clean c.end_serving.ensures.part
 
 pub returns-in-Ok-clause-crash : goal.returns-in-Ok-clause-crash
 returns-in-Ok-clause-crash g c =
-    left-served g.S.Store c.end_serving.result.0 c.new-server.ensures.store c.into_store-store.ensures c.in-Ok.ensures.clean c.in-Ok.ensures.told.served.goes_on.follows c.in-Ok.ensures.crash c.end_serving.ensures.crash
+    left-served g.S.Store c.end_serving.result.0 c.new-server.ensures.store c.into_store-store.ensures c.run-server.ensures.clean (of-ok c.run-server.result.1 c.in-Ok.field-0 c.in-Ok.is c.run-server.ensures.told).served.lasts.reaches c.run-server.ensures.crash c.end_serving.ensures.crash
 
 pub returns-in-Err-served-clause-stops : goal.returns-in-Err-served-clause-stops
 returns-in-Err-served-clause-stops g c =
-    stops-served (same-session c.new-server.result.session c.args.store c.new-server.ensures.store c.new-server.ensures.life) c.into_store-store.ensures
+    stops-served (same-session c.new-server.result.session c.args.store c.args.limits.most_events c.new-server.ensures.store c.new-server.ensures.life c.new-server.ensures.most) c.into_store-store.ensures
     (subst (λ n. Appends (taken_by g.W.Out.taken c.args.client.now.out) (taken_by g.W.Out.taken c.greet.new.self.out) (greeting n)) c.life.ensures c.in_default.ensures.told)
-    c.in-Err-served.ensures.stops
+    (of-err c.run-server.result.1 c.in-Err-served.fault c.in-Err-served.is c.run-server.ensures.stops)

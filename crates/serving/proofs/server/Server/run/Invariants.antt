@@ -6,8 +6,8 @@ use Rattle.serving.proofs.server.Server.run.Given as goal
 
 abbrev pub invariant-loop-turn : goal.invariant-loop-turn
 invariant-loop-turn g l = record {
-  told : HasTold g.S.Store l.fn.self.session (g.R.Read.remaining l.fn.input) (taken_by g.W.Out.taken l.fn.client.out) l.self (g.R.Read.remaining l.input) (taken_by g.W.Out.taken l.client.out);
-  none : l.self.end ≡ None;
+  told : HasTold g.S.Store l.fn.self.session (g.R.Read.remaining l.fn.input) (taken_by g.W.Out.taken l.fn.client.out) l.server (g.R.Read.remaining l.input) (taken_by g.W.Out.taken l.client.out);
+  none : l.server.end ≡ None;
   out_takes : g.W.Out.fault (under l.client.out) ≡ None;
   room : 0 < length l.buffer;
 }

@@ -42,7 +42,7 @@ pub returns-then-count-gt0-clause-serves : goal.returns-then-count-gt0-clause-se
 returns-then-count-gt0-clause-serves g c began given taken has =
     let same = c.in_ok-settle_commits.ensures.others in
     let said : c.deref.result.now ≡ c.take_bytes.new.self.answers.items = c.deref.ensures.value ∙ ap (λ (s : Server g.row.S.Denot). s.answers.items) same in
-    group-told c.take_bytes.new.self (record { session = c.settle_commits.new.self.session; line = c.settle_commits.new.self.line; answers = c.clear.new.self; end = c.settle_commits.new.self.end })
+    group-told c.take_bytes.new.self (record { session = c.settle_commits.new.self.session; line = c.settle_commits.new.self.line; answers = c.clear.new.self; end = c.settle_commits.new.self.end; full_since = c.settle_commits.new.self.full_since })
     (g.R.Read.remaining c.read.new.self) (taken_by g.W.Out.taken c.tell.new.self.out) _ c.requires.asked has (c.in_ok-take_bytes.ensures.serves began) c.in-Ok.ensures.bytes.0
     (subst (λ (xs : List Answered). Appends (taken_by g.W.Out.taken c.args.client.now.out) (taken_by g.W.Out.taken c.tell.new.self.out) (answers_text xs)) said c.in_ok-tell.ensures.told)
     c.in_ok-settle_commits.ensures.goes_on c.in_ok-settle_commits.ensures.lets_go
@@ -52,7 +52,7 @@ pub returns-else-count-gt0-clause-serves : goal.returns-else-count-gt0-clause-se
 returns-else-count-gt0-clause-serves g c began given taken has =
     let same = c.in_ok-settle_commits.ensures.others in
     let said : c.deref.result.now ≡ c.take_bytes.new.self.answers.items = c.deref.ensures.value ∙ ap (λ (s : Server g.row.S.Denot). s.answers.items) same in
-    group-told c.take_bytes.new.self (record { session = c.settle_commits.new.self.session; line = c.settle_commits.new.self.line; answers = c.clear.new.self; end = c.settle_commits.new.self.end })
+    group-told c.take_bytes.new.self (record { session = c.settle_commits.new.self.session; line = c.settle_commits.new.self.line; answers = c.clear.new.self; end = c.settle_commits.new.self.end; full_since = c.settle_commits.new.self.full_since })
     (g.R.Read.remaining c.read.new.self) (taken_by g.W.Out.taken c.tell.new.self.out) _ c.requires.asked has (c.in_ok-take_bytes.ensures.serves began) c.in-Ok.ensures.bytes.0
     (subst (λ (xs : List Answered). Appends (taken_by g.W.Out.taken c.args.client.now.out) (taken_by g.W.Out.taken c.tell.new.self.out) (answers_text xs)) said c.in_ok-tell.ensures.told)
     c.in_ok-settle_commits.ensures.goes_on c.in_ok-settle_commits.ensures.lets_go
