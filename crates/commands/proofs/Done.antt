@@ -1,9 +1,9 @@
 -- How a task ends, from what came of it and what was handed on.
-use Rattle.std.proofs.Common.{◌≡◌, ◌∙◌, ◌⊎◌, ℕ, zero, suc, List, [], ◌∷◌, ◌++◌, length, take, Option, Some, None, IfErr, IfSome, Result, Ok, Err, refl, sym, ap, subst, inl, inr, ⊎_elim, append-nil, take_at}
+use Rattle.std.proofs.Common.{◌≡◌, ◌∙◌, ◌⊎◌, true, false, Bool, ℕ, zero, suc, List, [], ◌∷◌, ◌++◌, length, take, Option, Some, None, IfErr, IfSome, Result, Ok, Err, refl, sym, ap, subst, inl, inr, ⊎_elim, append-nil, take_at}
 use Rattle.std.proofs.Math.Seq.{take-length}
-use Rattle.std.specs.Io.KnownBytes.{Appends, Keeps, append_known}
+use Rattle.std.specs.Io.KnownBytes.{Appends, append_known}
 use Rattle.command_files.specs.Answers.{ComesOr, Refuses}
-use Rattle.command_files.specs.Status.{status_of}
+use Rattle.command_files.specs.Status.{is_input, status_at, status_of}
 use Rattle.command_files.specs.declared.fault.Fault.{Fault}
 use Rattle.command_files.specs.declared.fault.Fault.TheVariants.{Usage, Text, NoType, OtherObjects, HasEvents, BadParameter, TooLarge, CannotRead, Database, NoStore, NoMemory, Output}
 use Rattle.command_files.specs.declared.status.Status.{Status}
@@ -13,7 +13,9 @@ use Rattle.command_files.specs.declared.status.Verdict.TheVariants as verdict
 use Rattle.command_words.specs.Words.{AreNoTask, AreWordsOf}
 use Rattle.command_words.specs.declared.task.Task.{Task}
 use Rattle.commands.specs.Concluded.{Concludes, IsBegun, IsHandedOn}
-use Rattle.commands.specs.Doing.{Answer, Begun, Does, DoesNothing, DoesTask, DoesWords, IsAmiss, Shown, Started, Written}
+use Rattle.command_words.specs.declared.task.Task.TheVariants as task
+use Rattle.commands.specs.Doing.{Answer, Begun, Does, DoesNothing, DoesTask, DoesWords, IsAmiss, IsToServe, Shown, Started, Written}
+use Rattle.serve_command.specs.Served.{ComesOfServing}
 
 -- ---- bytes
 
@@ -58,6 +60,22 @@ begun_nothing : (old gathered new : Option (List ℕ)) → IfSome old (λ xs. xs
 begun_nothing old gathered new nothing more part =
     let b = begun old gathered new [] nothing more part in
     subst (λ (bytes : List ℕ). Appends old new bytes) (take_none b.0) b.1
+
+-- what is at the path of a database may be no store
+may_be_amiss : (given : Shown) (task : Task) → IsToServe task → IsAmiss given task
+may_be_amiss given (task.Check kind path) is = absurd is
+may_be_amiss given (task.Make family size items) is = absurd is
+may_be_amiss given (task.Tables path) is = absurd is
+may_be_amiss given (task.Run script types) is = absurd is
+may_be_amiss given (task.Work jobs types workers tries) is = absurd is
+may_be_amiss given (task.Stress jobs types workers tries seed) is = absurd is
+may_be_amiss given (task.Audit history later types) is = absurd is
+may_be_amiss given (task.Create database objects types) is = absurd is
+may_be_amiss given (task.Serve database) is = tt
+may_be_amiss given (task.History database) is = tt
+may_be_amiss given (task.AuditDatabase database) is = tt
+may_be_amiss given (task.Help topic) is = absurd is
+may_be_amiss given task.Version is = absurd is
 
 -- ---- statuses
 
@@ -142,10 +160,10 @@ module _ (old gathered new err new_err : Option (List ℕ)) (status : Status) (n
         let k = take_again text b.0 n in
         inr (text, k.0, started, subst (λ (bytes : List ℕ). Appends old new bytes) k.1 b.1)
 
-    failed_output : (text : List ℕ) (n : ℕ) → Started given task text → Appends (append_known old []) gathered (take n text)
-        → Concludes (Err Output) gathered status new err new_err → Ends status
-    failed_output text n started more ended =
-        ⊎_elim (λ all. subst Ends (sym all.0) (inr (text, n, started, handed_on old gathered new (take n text) more all.1)))
+    failed_output : (fault : Fault) → (status_of fault ≡ Failed) → (text : List ℕ) (n : ℕ) → Started given task text → Appends (append_known old []) gathered (take n text)
+        → Concludes (Err fault) gathered status new err new_err → Ends status
+    failed_output fault is_failed text n started more ended =
+        ⊎_elim (λ all. subst Ends (sym (all.0 ∙ is_failed)) (inr (text, n, started, handed_on old gathered new (take n text) more all.1)))
         (λ part. subst Ends (sym part.0) (shorter text n started (begun old gathered new (take n text) nothing more part.1))) ended
 
     pub does : (answer : Result Verdict Fault) → Comes answer → Concludes answer gathered status new err new_err → Ends status
@@ -162,7 +180,26 @@ module _ (old gathered new err new_err : Option (List ℕ)) (status : Status) (n
     does (Err (NoStore path)) c ended = amiss (NoStore path) refl c ended
     does (Err NoMemory) c ended =
         ⊎_elim (λ same. failed NoMemory refl same ended) (λ b. failed_text NoMemory refl b.0 (inr (inr b.1)) b.2 ended) c
-    does (Err Output) c ended = failed_output c.0 c.1 (inr (inl c.2)) c.3 ended
+    does (Err Output) c ended = failed_output Output refl c.0 c.1 (inr (inl c.2)) c.3 ended
+
+    -- of serving, which takes no fault of what the user gave for one behind a text
+    abbrev Serves : Result Verdict Fault → Type 0
+    Serves answer = ComesOfServing (Begun given task) (Answer given task) answer (append_known old []) gathered
+
+    -- by whether a fault is of what the user gave
+    silent_fault : (fault : Fault) → IsAmiss given task → gathered ≡ append_known old [] → Concludes (Err fault) gathered status new err new_err → Ends status
+    silent_fault fault bad same ended =
+        elim (is_input fault) as (λ (v : Bool). is_input fault ≡ v → Ends status) [
+          | true ↦ λ is. amiss fault (ap status_at is) (bad, same) ended
+          | false ↦ λ is. failed fault (ap status_at is) same ended
+        ] refl
+
+    pub serves : (answer : Result Verdict Fault) → IsAmiss given task → Serves answer → Concludes answer gathered status new err new_err → Ends status
+    serves (Ok v) bad c ended = answered v c ended
+    serves (Err fault) bad c ended = elim c [
+      | inl same ↦ silent_fault fault bad same ended
+      | inr part ↦ let (text, begins, (n, within, more)) = part.1 in failed_output fault (ap status_at part.0) text n (inr (inl begins)) more ended
+    ]
 
   -- a task is done, where standard error was passed on as it was
   pub does_task : (given : Shown) (words : List (List ℕ)) (waits : List ℕ) (task : Task) (answer : Result Verdict Fault) (passed : Option (List ℕ)) → waits ≡ [] → passed ≡ err
@@ -171,7 +208,7 @@ module _ (old gathered new err new_err : Option (List ℕ)) (status : Status) (n
   does_task given words waits task answer passed none same are comes ended =
       let here = subst (λ (b : List ℕ). DoesTask given task answer (append_known old b) gathered) none comes in
       let over = subst (λ (e : Option (List ℕ)). Concludes answer gathered status new e new_err) same ended in
-      ⊎_elim (λ serve. inl (task, are, serve)) (λ done. inr (inl (task, are, does given task answer done over))) here
+      ⊎_elim (λ serve. inl (task, are, serves given task answer (may_be_amiss given task serve.0) serve.1 over)) (λ done. inl (task, are, does given task answer done over)) here
 
 -- what is done of words is done of the same words
 pub same_words : (old new err new_err : Option (List ℕ)) (status : Status) (given : Shown) (words words' : List (List ℕ)) → words ≡ words' → DoesWords given words status old new err new_err
@@ -182,8 +219,8 @@ same_words old new err new_err status given words words' same done = subst (λ (
 pub refused_words : (old new err new_err : Option (List ℕ)) (status : Status) (waits : List ℕ) (given : Shown) (words : List (List ℕ)) (fault : Fault) → IfSome old (λ xs. xs ≡ []) → waits ≡ []
     → Refuses (AreNoTask words) fault → Concludes (Err fault) (append_known old waits) status new err new_err → DoesWords given words status old new err new_err
 refused_words old new err new_err status waits given words fault nothing none refused ended =
-    inr (inr (refuses_words old (append_known old []) new err new_err status nothing (AreNoTask words) fault refused refl
-    (subst (λ (b : List ℕ). Concludes (Err fault) (append_known old b) status new err new_err) none ended)))
+    inr (refuses_words old (append_known old []) new err new_err status nothing (AreNoTask words) fault refused refl
+    (subst (λ (b : List ℕ). Concludes (Err fault) (append_known old b) status new err new_err) none ended))
 
 -- there are no words
 pub no_words : {T : Type 0} (words : Result T Fault) (fault : Fault) (old new err new_err : Option (List ℕ)) (status : Status) (waits : List ℕ) → words ≡ Err fault

@@ -1,5 +1,5 @@
 -- How the program ends with what its output has gathered.
-use Rattle.std.specs.Prelude.{◌≡◌, ◌⊎◌, ℕ, List, [], Option, Result, Ok, Err}
+use Rattle.std.specs.Prelude.{◌≡◌, ◌⊎◌, ℕ, List, Option, Result, Ok, Err}
 use Rattle.std.specs.Io.KnownBytes.{Keeps, append_known}
 use Rattle.command_files.specs.Status.{status_of, status_of_verdict}
 use Rattle.command_files.specs.declared.fault.Fault.{Fault}

@@ -16,6 +16,7 @@ use Rattle.command_words.specs.declared.task.Task.TheVariants.{Check, Make, Tabl
 use Rattle.database_commands.specs.Audited.{AuditsDatabase}
 use Rattle.database_commands.specs.Created.{CreatesStore, HasCreateFault}
 use Rattle.database_commands.specs.History.{TellsHistory}
+use Rattle.serve_command.specs.Served.{BeginsServing, ComesOfServing, ServesDatabase}
 use Rattle.sqlite_trees.specs.Tree.{Trees}
 use Rattle.store_commands.specs.Audited.{AuditsFiles, HasAuditFault}
 use Rattle.store_commands.specs.Runs.{BeginsRunFile, HasRunFault, RunsFile, WritesRunFile}
@@ -26,17 +27,19 @@ use Rattle.type_commands.specs.Request.{texts, wanted_of}
 use Rattle.type_commands.specs.Verdict.{ChecksFile}
 
 -- what is given beside the words, where it tells: what is held at the paths of files, the last commit of the database at a path, before
--- and behind, and that no wrong answer of a disk was taken as true
+-- and behind, that no wrong answer of a disk was taken as true, and what the input gives, before and behind
 pub record Shown : Type 1 where
   pub files : Held
   pub databases : List ℕ → Option Trees
   pub made : List ℕ → Option Trees
   pub clean : Type 0
+  pub input : Option (List ℕ)
+  pub rest : Option (List ℕ)
 
-abbrev pub shown : Held → (List ℕ → Option Trees) → (List ℕ → Option Trees) → Type 0 → Shown
-shown files databases made clean = record { files = files; databases = databases; made = made; clean = clean }
+abbrev pub shown : Held → (List ℕ → Option Trees) → (List ℕ → Option Trees) → Type 0 → Option (List ℕ) → Option (List ℕ) → Shown
+shown files databases made clean input rest = record { files = files; databases = databases; made = made; clean = clean; input = input; rest = rest }
 
--- the texts that answer a task, with a yes or with a no, by what is given; of `serve` nothing is said here
+-- the texts that answer a task, with a yes or with a no, by what is given
 abbrev pub Answer : Shown → Task → Answers
 Answer given (Check kind path) = ChecksFile (given.files path.now) kind
 Answer given (Make family size items) = MakesFamily (wanted_of family.now size.now (texts items.items))
@@ -48,7 +51,7 @@ Answer given (Audit history later types) = AuditsFiles given.files history.now (
 Answer given (Create database objects types) = CreatesStore given.clean (given.made database.now) given.files objects.now (texts types.items)
 Answer given (History database) = TellsHistory given.clean (given.databases database.now)
 Answer given (AuditDatabase database) = AuditsDatabase given.clean (given.databases database.now)
-Answer given (Serve database) = λ v text. ⊥
+Answer given (Serve database) = ServesDatabase given.clean (given.databases database.now) (given.made database.now) given.input given.rest
 Answer given (Help topic) = IsThis verdict.Yes (text_of_topic topic)
 Answer given Version = IsThis verdict.Yes version_text
 
@@ -65,6 +68,7 @@ IsAmiss given (Audit history later types) = HasAuditFault given.files history.no
 IsAmiss given (Create database objects types) = HasCreateFault given.files objects.now (texts types.items)
 IsAmiss given (History database) = ⊤
 IsAmiss given (AuditDatabase database) = ⊤
+IsAmiss given (Serve database) = ⊤
 IsAmiss given task = ⊥
 
 -- the texts that may have been written as a whole where memory was refused: of a run without an audit, and of workers of which one
@@ -80,16 +84,12 @@ abbrev pub Begun : Shown → Task → List ℕ → Type 0
 Begun given (Run script types) text = BeginsRunFile given.files script.now (texts types.items) text
 Begun given (Work jobs types workers tries) text = BeginsWorkFile given.files workers tries jobs.now (texts types.items) text
 Begun given (Stress jobs types workers tries seed) text = BeginsWorkFile given.files workers tries jobs.now (texts types.items) text
+Begun given (Serve database) text = BeginsServing given.clean (given.databases database.now) text
 Begun given task text = AnyAnswer (Answer given task) text
 
 -- a text that the output may have begun where the program failed
 abbrev pub Started : Shown → Task → List ℕ → Type 0
 Started given task text = AnyAnswer (Answer given task) text ⊎ (Begun given task text ⊎ Written given task text)
-
--- the task is to serve
-abbrev pub IsToServe : Task → Type 0
-IsToServe (Serve database) = ⊤
-IsToServe task = ⊥
 
 -- by the status of a task, what the output took where it tells: yes or no, a text that answers it, and standard error took nothing; what
 -- the user gave has a fault, and the output took nothing; or the program failed, and it took a beginning of such a text, perhaps nothing
@@ -101,17 +101,11 @@ Does given task BadInput old new err new_err = IsAmiss given task × Appends old
 Does given task Failed old new err new_err =
     Appends old new [] ⊎ ((text : List ℕ) × (n : ℕ) × Started given task text × Appends old new (take n text))
 
--- the words are those of `serve`
-abbrev pub AreToServe : List (List ℕ) → Type 0
-AreToServe words = (task : Task) × AreWordsOf words task × IsToServe task
-
--- the words are those of `serve`; or those of another task, which is done; or they are no task's, or memory was refused for them, and the
--- output took nothing
+-- the words are those of a task, which is done; or they are no task's, or memory was refused for them, and the output took nothing
 abbrev pub DoesWords : Shown → List (List ℕ) → Status → Option (List ℕ) → Option (List ℕ) → Option (List ℕ) → Option (List ℕ) → Type 0
 DoesWords given words status old new err new_err =
-    AreToServe words
-    ⊎ (((task : Task) × AreWordsOf words task × Does given task status old new err new_err)
-    ⊎ ((((status ≡ BadInput) × AreNoTask words) ⊎ (status ≡ Failed)) × Appends old new []))
+    ((task : Task) × AreWordsOf words task × Does given task status old new err new_err)
+    ⊎ ((((status ≡ BadInput) × AreNoTask words) ⊎ (status ≡ Failed)) × Appends old new [])
 
 -- there are no words: the status is that of the fault, or that memory was refused for its line, and the output took nothing
 abbrev pub DoesNothing : Fault → Status → Option (List ℕ) → Option (List ℕ) → Type 0
@@ -119,6 +113,13 @@ DoesNothing fault status old new = ((status ≡ status_of fault) ⊎ (status ≡
 
 -- ---- inside the program
 
--- what comes of a task before the output hands on what it gathered; of `serve` nothing is said
+-- the task is to serve
+abbrev pub IsToServe : Task → Type 0
+IsToServe (Serve database) = ⊤
+IsToServe task = ⊥
+
+-- what comes of a task before the output hands on what it gathered; what is served is told while it is done
 abbrev pub DoesTask : Shown → Task → Result Verdict Fault → Option (List ℕ) → Option (List ℕ) → Type 0
-DoesTask given task result old new = IsToServe task ⊎ ComesOr (Written given task) (Begun given task) (Answer given task) (IsAmiss given task) result old new
+DoesTask given task result old new =
+    (IsToServe task × ComesOfServing (Begun given task) (Answer given task) result old new)
+    ⊎ ComesOr (Written given task) (Begun given task) (Answer given task) (IsAmiss given task) result old new

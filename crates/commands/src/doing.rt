@@ -5,6 +5,7 @@ ghost use Rattle.command_files.specs.Answers.{Refuses};
 ghost use Rattle.command_words.specs.Words.{AreNoTask, AreWordsOf};
 ghost use Rattle.commands.specs.Doing.{DoesNothing, DoesTask, DoesWords, shown};
 ghost use Rattle.outputs.specs.Gathered.{taken_by, under, waiting};
+ghost use Rattle.serve_command.specs.Served.{BeginsServing, ComesOfServing, ServesDatabase};
 
 use crate::concluding::conclude;
 use crate::console::{Console, Given};
@@ -17,10 +18,15 @@ use outputs::Out;
 use serve_command::serve_database;
 use std::alloc::Global;
 use std::io::Read;
+use std::rt::Clock;
 use std::sync::Wait;
 use std::thread::Threads;
+use std::time::Duration;
 use store_commands::{Schedule, Work, audit_histories, run_file, work_file};
 use type_commands::{check_file, make_family, make_tables_of};
+
+/// How many seconds transactions may go on in an epoch that is full.
+const DRAIN: u64 = 5;
 
 /// Does what the words after the program's name ask for, with what is given, and answers the status; or says
 /// why there are no words.
@@ -28,7 +34,7 @@ use type_commands::{check_file, make_family, make_tables_of};
 /// Standard error takes the line of a fault, and nothing where there is an answer. What the status says of
 /// the words, of what is given and of what the output took is `DoesWords`.
 pub fn do_words<
-    R: AllocGlobal + Threads + Wait + Sync,
+    R: AllocGlobal + Clock + Threads + Wait + Sync,
     S: Source,
     D: Databases,
     I: Read,
@@ -44,7 +50,7 @@ pub fn do_words<
     requires nothing_waits { waiting console.out ≡ [] }
     requires nothing_taken { IfSome (W.taken (under console.out)) (λ bytes. bytes ≡ []) }
     requires err_takes { E.fault console.err ≡ None }
-    ensures does { IfOk words.entry (λ all. DoesWords (shown (S.holds given.old.source) (D.holds given.old.databases) (D.holds given.new.databases) (D.is_clean given.new.databases))
+    ensures does { IfOk words.entry (λ all. DoesWords (shown (S.holds given.old.source) (D.holds given.old.databases) (D.holds given.new.databases) (D.is_clean given.new.databases) (I.remaining given.old.input) (I.remaining given.new.input))
         (map (λ w. w.bytes.items) all.items) result.0 (W.taken (under console.out)) (W.taken (under result.1.out)) (E.taken console.err) (E.taken result.1.err)) }
     ensures no_words { IfErr words.entry (λ fault. DoesNothing fault result.0 (W.taken (under console.out)) (W.taken (under result.1.out))) }
 {
@@ -56,7 +62,7 @@ pub fn do_words<
 
 /// Does what these words ask for.
 fn do_given<
-    R: AllocGlobal + Threads + Wait + Sync,
+    R: AllocGlobal + Clock + Threads + Wait + Sync,
     S: Source,
     D: Databases,
     I: Read,
@@ -72,7 +78,7 @@ fn do_given<
     requires nothing_waits { waiting console.out ≡ [] }
     requires nothing_taken { IfSome (W.taken (under console.out)) (λ bytes. bytes ≡ []) }
     requires err_takes { E.fault console.err ≡ None }
-    ensures { DoesWords (shown (S.holds given.old.source) (D.holds given.old.databases) (D.holds given.new.databases) (D.is_clean given.new.databases))
+    ensures { DoesWords (shown (S.holds given.old.source) (D.holds given.old.databases) (D.holds given.new.databases) (D.is_clean given.new.databases) (I.remaining given.old.input) (I.remaining given.new.input))
         (map (λ w. w.bytes.items) words.now) result.0 (W.taken (under console.out)) (W.taken (under result.1.out)) (E.taken console.err) (E.taken result.1.err) }
 {
     let alloc = rt.alloc();
@@ -84,7 +90,7 @@ fn do_given<
 
 /// Reads the words and does their task.
 fn do_read<
-    R: AllocGlobal + Threads + Wait + Sync,
+    R: AllocGlobal + Clock + Threads + Wait + Sync,
     S: Source,
     D: Databases,
     I: Read,
@@ -100,7 +106,7 @@ fn do_read<
     requires nothing_waits { waiting console.out ≡ [] }
     requires nothing_taken { IfSome (W.taken (under console.out)) (λ bytes. bytes ≡ []) }
     requires err_takes { E.fault console.err ≡ None }
-    ensures { DoesWords (shown (S.holds given.old.source) (D.holds given.old.databases) (D.holds given.new.databases) (D.is_clean given.new.databases))
+    ensures { DoesWords (shown (S.holds given.old.source) (D.holds given.old.databases) (D.holds given.new.databases) (D.is_clean given.new.databases) (I.remaining given.old.input) (I.remaining given.new.input))
         (map (λ w. w.now) words.now) result.0 (W.taken (under console.out)) (W.taken (under result.1.out)) (E.taken console.err) (E.taken result.1.err) }
 {
     let alloc = rt.alloc();
@@ -130,18 +136,24 @@ fn task_of<'a>(alloc: Global, words: &'a [&'a str]) -> Result<Task<'a>, Fault<'a
 }
 
 /// Serves the store in the database at a path: its client is told by the console's output.
-fn do_serve<'a, S, D: Databases, I: Read, W: Out, E>(
-    alloc: Global,
+fn do_serve<'a, R: AllocGlobal + Clock, S, D: Databases, I: Read, W: Out, E>(
+    rt: &R,
     database: &'a str,
     given: &mut Given<S, D, I>,
     console: Console<W, E>,
 ) -> (Result<Verdict, Fault<'a>>, Console<W, E>)
     requires { W.fault (under console.out) ≡ None }
-    ensures { result.1.err ≡ console.err }
+    ensures comes { ComesOfServing (BeginsServing (D.is_clean given.new.databases) (D.holds given.old.databases database.now))
+        (ServesDatabase (D.is_clean given.new.databases) (D.holds given.old.databases database.now) (D.holds given.new.databases database.now) (I.remaining given.old.input) (I.remaining given.new.input))
+        result.0 (taken_by W.taken console.out) (taken_by W.taken result.1.out) }
+    ensures source { given.new.source ≡ given.old.source }
+    ensures err { result.1.err ≡ console.err }
 {
     let Console { out, err } = console;
     let (answer, out) = serve_database(
-        alloc,
+        rt,
+        rt.alloc(),
+        Duration::from_secs(DRAIN),
         database,
         &mut given.databases,
         &mut given.input,
@@ -151,14 +163,22 @@ fn do_serve<'a, S, D: Databases, I: Read, W: Out, E>(
 }
 
 /// Does a task: writes its answer. Where there is none, says why.
-fn do_task<'a, R: AllocGlobal + Threads + Wait + Sync, S: Source, D: Databases, I: Read, W: Out, E>(
+fn do_task<
+    'a,
+    R: AllocGlobal + Clock + Threads + Wait + Sync,
+    S: Source,
+    D: Databases,
+    I: Read,
+    W: Out,
+    E,
+>(
     rt: &R,
     task: Task<'a>,
     given: &mut Given<S, D, I>,
     mut console: Console<W, E>,
 ) -> (Result<Verdict, Fault<'a>>, Console<W, E>)
     requires { W.fault (under console.out) ≡ None }
-    ensures does { DoesTask (shown (S.holds given.old.source) (D.holds given.old.databases) (D.holds given.new.databases) (D.is_clean given.new.databases))
+    ensures does { DoesTask (shown (S.holds given.old.source) (D.holds given.old.databases) (D.holds given.new.databases) (D.is_clean given.new.databases) (I.remaining given.old.input) (I.remaining given.new.input))
         task.entry result.0 (taken_by W.taken console.out) (taken_by W.taken result.1.out) }
     ensures err { result.1.err ≡ console.err }
 {
@@ -236,7 +256,7 @@ fn do_task<'a, R: AllocGlobal + Threads + Wait + Sync, S: Source, D: Databases, 
                 console,
             )
         }
-        Task::Serve { database } => do_serve(alloc, database, given, console),
+        Task::Serve { database } => do_serve(rt, database, given, console),
         Task::Help { topic } => {
             (
                 put_answer(Verdict::Yes, topic.text().as_bytes(), out),

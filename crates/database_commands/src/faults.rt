@@ -20,12 +20,24 @@ pub fn fault_of_open<'a>(path: &'a str, error: OpenError) -> Fault<'a>
 }
 
 /// Why a journal isn't opened.
-pub fn fault_of_journal<'a>(path: &'a str, error: JournalError) -> Fault<'a>
+pub(crate) fn fault_of_journal<'a>(path: &'a str, error: JournalError) -> Fault<'a>
     ensures { Refuses ⊤ result }
 {
     match error {
         JournalError::Store(error) => fault_of_trees(path, error),
         JournalError::Full | JournalError::Foreign => Fault::NoStore { path },
+    }
+}
+
+/// Why the file of a store that was opened fails.
+pub fn fault_of_file<'a>(path: &'a str, error: JournalError) -> Fault<'a>
+    ensures { Refuses ⊥ result }
+{
+    match error {
+        JournalError::Store(error) => fault_of_trees(path, error),
+        JournalError::Full | JournalError::Foreign => {
+            Fault::of_database(path, DatabaseFault::Failed)
+        }
     }
 }
 
@@ -35,7 +47,7 @@ pub(crate) fn fault_of_making<'a>(path: &'a str, error: OpenError) -> Fault<'a>
 {
     match error {
         OpenError::NoMemory => Fault::NoMemory,
-        OpenError::Journal(JournalError::Store(error)) => fault_of_trees(path, error),
+        OpenError::Journal(error) => fault_of_file(path, error),
         _ => Fault::of_database(path, DatabaseFault::Failed),
     }
 }

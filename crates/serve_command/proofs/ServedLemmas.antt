@@ -1,9 +1,9 @@
 -- What is served at trees is served at the path of their database.
-use Rattle.std.proofs.Common.{◌≡◌, ◌∙◌, ◌⊎◌, ◌≤◌, inl, inr, ℕ, ◌+◌, List, [], ◌++◌, length, take, refl, sym, ap, subst, Option, Some, None, Result, Ok, Err, true, Bool, arith}
+use Rattle.std.proofs.Common.{◌≡◌, ◌∙◌, inl, inr, ℕ, ◌+◌, List, ◌++◌, refl, sym, ap, subst, Option, Some, None, Result, Ok, Err, arith, ◌⊎◌, false}
 use Rattle.std.proofs.Math.Seq.{take-append-le}
 use Rattle.std.proofs.KnownBytes.{Appends-trans}
 use Rattle.std.proofs.lemmas.List.{append-nil, length-append}
-use Rattle.std.specs.Prelude.{IfSome, OnErr, OnOk, IsTrue}
+use Rattle.std.specs.Prelude.{IfErr, IfOk, IfSome, OnErr, OnOk}
 use Rattle.std.specs.Io.KnownBytes.{Appends}
 use Rattle.sqlite_trees.specs.declared.store.Store.{Ghosts}
 use Rattle.sqlite_trees.specs.Tree.{Trees}
@@ -22,8 +22,14 @@ use Rattle.serving.specs.declared.answer_line.Answered.{Answered}
 use Rattle.serving.specs.Ending.{end_answers}
 use Rattle.serving.specs.Served.{Serves}
 use Rattle.serving.specs.Told.{AppendsPart, answers_text, greeting}
-use Rattle.serving.specs.Whole.{ServesClient, StopsServing, life_of}
-use Rattle.serve_command.specs.Served.{Begins, IsCut, IsOpened, IsServed, ServesIn, StopsIn, Work, told_text}
+use Rattle.serving.specs.Serving.{life_of}
+use Rattle.command_files.specs.Answers.{Refuses}
+use Rattle.command_files.specs.Status.{is_input}
+use Rattle.command_files.specs.declared.fault.Fault.{Fault}
+use Rattle.command_files.specs.declared.fault.Fault.TheVariants.{Usage, Text, NoType, OtherObjects, HasEvents, BadParameter, TooLarge, CannotRead, Database, NoStore, NoMemory, Output}
+use Rattle.command_files.specs.declared.status.Verdict.{Verdict}
+use Rattle.command_files.specs.declared.status.Verdict.TheVariants.{Yes}
+use Rattle.serve_command.specs.Served.{Begins, BeginsServing, ComesOfServing, IsOpened, IsServed, ServesDatabase, ServesIn, StopsIn, Work, epoch_events, told_text}
 
 -- ---- under another premise
 
@@ -34,6 +40,7 @@ work-under sure w = record {
   began = w.began;
   lines = w.lines;
   told = w.told;
+  last = w.last;
   reached = w.reached;
   ended = w.ended;
   opened = λ c. w.opened (sure c);
@@ -45,9 +52,9 @@ at-path : (db : Trees) (P : Trees → Type 0) (left : Option Trees) → IfSome l
 at-path db P (Some x) same p = subst P same p
 at-path db P None same p = tt
 
-pub served-under : {clean clean' : Type 0} {held : Option Trees} {db : Trees} {given taken given_now taken_now taken' taken_now' : Option (List ℕ)} (left : Option Trees) → taken ≡ taken' → taken_now ≡ taken_now'
-    → (clean' → clean) → (clean' → IfSome left (λ x. db ≡ x)) → IsServed clean held (Some db) given taken given_now taken_now → IsServed clean' held left given taken' given_now taken_now'
-served-under {clean} {clean'} {held} {db} {given} {taken} {given_now} {taken_now} {taken'} {taken_now'} left is is_now sure same s = record {
+served-under : {clean clean' : Type 0} {held : Option Trees} {db : Trees} {given given_now : Option (List ℕ)} {text : List ℕ} (left : Option Trees) → (clean' → clean) → (clean' → IfSome left (λ x. db ≡ x))
+    → IsServed clean held (Some db) given given_now text → IsServed clean' held left given given_now text
+served-under {clean} {clean'} {held} {db} {given} {given_now} {text} left sure same s = record {
   work = work-under sure s.work;
   seen = s.seen;
   half = s.half;
@@ -55,26 +62,31 @@ served-under {clean} {clean'} {held} {db} {given} {taken} {given_now} {taken_now
   consumed = s.consumed;
   asked = s.asked;
   all = s.all;
-  appended = subst (λ t. Appends t taken_now' (told_text s.work)) is (subst (λ t. Appends taken t (told_text s.work)) is_now s.appended);
+  told = s.told;
   now = s.now;
   renews = s.renews;
   left_is = λ c. at-path db (λ x. Begins x s.now) left (same c) (s.left_is (sure c));
 }
 
-pub cut-under : {clean clean' : Type 0} {held : Option Trees} {taken taken_now taken' taken_now' : Option (List ℕ)} → taken ≡ taken' → taken_now ≡ taken_now' → (clean' → clean) → IsCut clean held taken taken_now
-    → IsCut clean' held taken' taken_now'
-cut-under {clean} {clean'} {held} {taken} {taken_now} {taken'} {taken_now'} is is_now sure cut =
-    subst (λ t. IsCut clean' held t taken_now') is (subst (λ t. IsCut clean' held taken t) is_now (elim cut [ inl same ↦ inl same | inr part ↦ inr (work-under sure part.0, part.1) ]))
+under : {clean clean' : Type 0} (held left : Option Trees) (db : Trees) (given given_now taken taken_now : Option (List ℕ)) (r : Result Verdict Fault) → (clean' → clean)
+    → (clean' → IfSome left (λ x. db ≡ x)) → ComesOfServing (BeginsServing clean held) (ServesDatabase clean held (Some db) given given_now) r taken taken_now
+    → ComesOfServing (BeginsServing clean' held) (ServesDatabase clean' held left given given_now) r taken taken_now
+under held left db given given_now taken taken_now (Ok v) sure same c = (c.0, (c.1.0, served-under left sure same c.1.1), c.2)
+under held left db given given_now taken taken_now (Err fault) sure same c = elim c [
+  | inl none ↦ inl none
+  | inr part ↦ inr (part.0, (part.1.0, (work-under sure part.1.1.0, part.1.1.1), part.1.2))
+]
+
+-- and of an output that is this one
+pub comes-under : {clean clean' : Type 0} {taken taken_now taken' taken_now' : Option (List ℕ)} (held left : Option Trees) (db : Trees) (given given_now : Option (List ℕ)) (r : Result Verdict Fault) → taken ≡ taken'
+    → taken_now ≡ taken_now' → (clean' → clean) → (clean' → IfSome left (λ x. db ≡ x))
+    → ComesOfServing (BeginsServing clean held) (ServesDatabase clean held (Some db) given given_now) r taken taken_now
+    → ComesOfServing (BeginsServing clean' held) (ServesDatabase clean' held left given given_now) r taken' taken_now'
+comes-under {clean} {clean'} {taken} {taken_now} {taken'} {taken_now'} held left db given given_now r is is_now sure same c =
+    subst (λ t. ComesOfServing (BeginsServing clean' held) (ServesDatabase clean' held left given given_now) r t taken_now') is
+    (subst (λ t. ComesOfServing (BeginsServing clean' held) (ServesDatabase clean' held left given given_now) r taken t) is_now (under held left db given given_now taken taken_now r sure same c))
 
 -- ---- by how it ended
-
-pub on-ok : {T E : Type 0} {P Q : Type 0} (r : Result T E) → (P → Q) → OnOk r P → OnOk r Q
-on-ok (Ok x) f p = f p
-on-ok (Err e) f p = tt
-
-pub on-err : {T E : Type 0} {P Q : Type 0} (r : Result T E) → (P → Q) → OnErr r P → OnErr r Q
-on-err (Ok x) f p = tt
-on-err (Err e) f p = f p
 
 pub of-ok : {T E : Type 0} {P : Type 0} (r : Result T E) (x : T) → r ≡ Ok x → OnOk r P → P
 of-ok (Ok y) x is p = p
@@ -87,15 +99,16 @@ of-err (Err x) e is p = p
 -- ---- from a store to its trees
 
 -- the work of lines that were served
-abbrev work-of : {S : Type 0} (g : Ghosts S) (clean : Type 0) (lines : List (List ℕ)) (told : List Answered) (reached : Stored) (ended : Option Asked) (held : Option Trees) (db : Trees) (began : Durable S)
+abbrev work-of : {S : Type 0} (g : Ghosts S) (clean : Type 0) (lines : List (List ℕ)) (told : List Answered) (last : ℕ) (reached : Stored) (ended : Option Asked) (held : Option Trees) (db : Trees) (began : Durable S)
     → (clean → Clean g began.journal) → (Clean g began.journal → IfSome held (λ x. db ≡ x)) → (Clean g began.journal → IsRecovered g (contents_of db) began)
-    → (clean → Serves (life_of began) (written g began.journal) lines began.store told reached ended) → Work clean held
-work-of g clean lines told reached ended held db began sure same found serves = record {
+    → (clean → Serves epoch_events (written g began.journal) (life_of began) lines began.store told last reached ended) → Work clean held
+work-of g clean lines told last reached ended held db began sure same found serves = record {
   life = life_of began;
   file = written g began.journal;
   began = began.store;
   lines = lines;
   told = told;
+  last = last;
   reached = reached;
   ended = ended;
   opened = λ c.
@@ -112,44 +125,71 @@ begins c types db s same is = record {
 }
 
 -- a client that was served
-pub served-at : {S : Type 0} {g : Ghosts S} {given taken given_now taken_now : Option (List ℕ)} {trees : S} (db : Trees) (began : Durable S) (held : Option Trees) → (Clean g began.journal → IfSome held (λ x. db ≡ x))
+served-at : {S : Type 0} {g : Ghosts S} {given taken given_now taken_now : Option (List ℕ)} {trees : S} (db : Trees) (began : Durable S) (held : Option Trees) → (Clean g began.journal → IfSome held (λ x. db ≡ x))
     → (Clean g began.journal → IsRecovered g (contents_of db) began) → ServesIn g began given taken trees given_now taken_now
-    → IsServed (IsClean (g.view trees)) held (Some (g.view trees).committed) given taken given_now taken_now
+    → (text : List ℕ) × IsServed (IsClean (g.view trees)) held (Some (g.view trees).committed) given given_now text × Appends taken taken_now text
 served-at {S} {g} {given} {taken} {given_now} {taken_now} {trees} db began held same found s =
-    subst (λ (x : S). IsServed (IsClean (g.view x)) held (Some (g.view x).committed) given taken given_now taken_now) (sym s.are)
+    subst (λ (x : S). (text : List ℕ) × IsServed (IsClean (g.view x)) held (Some (g.view x).committed) given given_now text × Appends taken taken_now text) (sym s.are)
     (let sc = s.serves in
-    let has = sc.tells in
-    record {
-      work = work-of g (Clean g s.now.journal) has.served.lines has.told sc.served.session.store.store sc.served.end held db began s.clean same found
-          (λ c. subst (λ all. Serves (life_of began) (written g began.journal) has.served.lines began.store all sc.served.session.store.store sc.served.end)
-          (ap (λ more. has.told ++ more) has.waits ∙ append-nil has.told) (has.served.serves (sc.clean c)));
-      seen = has.seen;
-      half = has.served.half;
-      rest = has.rest;
-      consumed = has.consumed;
-      asked = has.served.asked;
-      all = λ none. (has.all none, sc.asked none);
-      appended = Appends-trans taken sc.answered taken_now (greeting (life_of began) ++ answers_text has.told) (answers_text (end_answers sc.served.end))
-          (Appends-trans taken sc.greeted sc.answered (greeting (life_of began)) (answers_text has.told) sc.greets has.appended) sc.ends;
-      now = s.now.store;
-      renews = sc.renews.store;
-      left_is = λ c. begins (with_all (written g sc.served.session.store.journal) (closing sc.served.session.store.store.history)) s.now.store.types (g.view s.now.journal.store).committed s.now.store refl (sc.renews.durable c);
-    })
+    let has = sc.tells in (
+      (greeting (life_of began) ++ answers_text has.told) ++ answers_text (end_answers sc.served.end),
+      record {
+        work = work-of g (Clean g s.now.journal) has.served.lines has.told sc.served.session.life sc.served.session.store.store sc.served.end held db began s.clean same found
+            (λ c. subst (λ all. Serves epoch_events (written g began.journal) (life_of began) has.served.lines began.store all sc.served.session.life sc.served.session.store.store sc.served.end)
+            (ap (λ more. has.told ++ more) has.waits ∙ append-nil has.told) (has.served.serves (sc.clean c)));
+        seen = has.seen;
+        half = has.served.half;
+        rest = has.rest;
+        consumed = has.consumed;
+        asked = has.served.asked;
+        all = λ none. (has.all none, sc.asked none);
+        told = refl;
+        now = s.now.store;
+        renews = sc.renews.store;
+        left_is = λ c. begins (with_all (written g sc.served.session.store.journal) (closing sc.served.session.store.store.history)) s.now.store.types (g.view s.now.journal.store).committed s.now.store refl (sc.renews.durable c);
+      },
+      Appends-trans taken sc.answered taken_now (greeting (life_of began) ++ answers_text has.told) (answers_text (end_answers sc.served.end))
+          (Appends-trans taken sc.greeted sc.answered (greeting (life_of began)) (answers_text has.told) sc.greets has.appended) sc.ends,
+    ))
 
 -- a client that was told a beginning
 part-more : (a b : Option (List ℕ)) (x y : List ℕ) → AppendsPart a b x → AppendsPart a b (x ++ y)
 part-more a b x y (n, within, part) = (n, omega (arith, length-append x y), subst (Appends a b) (sym (take-append-le n x y within)) part)
 
-pub cut-at : {S : Type 0} {g : Ghosts S} {taken taken_now : Option (List ℕ)} {trees : S} (db : Trees) (began : Durable S) (held : Option Trees) → (Clean g began.journal → IfSome held (λ x. db ≡ x))
-    → (Clean g began.journal → IsRecovered g (contents_of db) began) → StopsIn g began taken trees taken_now → IsCut (IsClean (g.view trees)) held taken taken_now
+cut-at : {S : Type 0} {g : Ghosts S} {taken taken_now : Option (List ℕ)} {trees : S} (db : Trees) (began : Durable S) (held : Option Trees) → (Clean g began.journal → IfSome held (λ x. db ≡ x))
+    → (Clean g began.journal → IsRecovered g (contents_of db) began) → StopsIn g began taken trees taken_now
+    → (text : List ℕ) × BeginsServing (IsClean (g.view trees)) held text × AppendsPart taken taken_now text
 cut-at {S} {g} {taken} {taken_now} {trees} db began held same found s =
-    subst (λ (x : S). IsCut (IsClean (g.view x)) held taken taken_now) (sym s.are)
+    subst (λ (x : S). (text : List ℕ) × BeginsServing (IsClean (g.view x)) held text × AppendsPart taken taken_now text) (sym s.are)
     (let stops = s.stops in
-    let work : Work (Clean g s.now.journal) held = work-of g (Clean g s.now.journal) stops.lines stops.answers stops.reached stops.ended held db began s.clean same found stops.serves in
-    inr (
-      work,
+    let work : Work (Clean g s.now.journal) held = work-of g (Clean g s.now.journal) stops.lines stops.answers stops.life stops.reached stops.ended held db began s.clean same found stops.serves in (
+      told_text work,
+      (work, refl),
       elim stops.told [
         | inl part ↦ part-more taken taken_now (greeting (life_of began) ++ answers_text stops.answers) (answers_text (end_answers stops.ended)) part
         | inr part ↦ part.1
       ],
     ))
+
+-- what comes of a store that was opened
+pub comes-at : {S : Type 0} {g : Ghosts S} (given taken given_now taken_now : Option (List ℕ)) (trees : S) (db : Trees) (began : Durable S) (held : Option Trees) (r : Result Verdict Fault)
+    → (Clean g began.journal → IfSome held (λ x. db ≡ x)) → (Clean g began.journal → IsRecovered g (contents_of db) began) → IfOk r (λ v. v ≡ Yes)
+    → OnOk r (ServesIn g began given taken trees given_now taken_now) → IfErr r (λ fault. (taken_now ≡ taken) ⊎ ((is_input fault ≡ false) × StopsIn g began taken trees taken_now))
+    → ComesOfServing (BeginsServing (IsClean (g.view trees)) held) (ServesDatabase (IsClean (g.view trees)) held (Some (g.view trees).committed) given given_now) r taken taken_now
+comes-at given taken given_now taken_now trees db began held (Ok v) same found says told cut = let (text, served, more) = served-at db began held same found told in (text, (says, served), more)
+comes-at given taken given_now taken_now trees db began held (Err fault) same found says told cut = elim cut [ inl none ↦ inl none | inr part ↦ inr (part.0, cut-at db began held same found part.1) ]
+
+-- a fault that is nothing of what the user gave
+pub is-no-input : (fault : Fault) → Refuses ⊥ fault → is_input fault ≡ false
+is-no-input (Usage text) refused = absurd refused
+is-no-input (Text path f) refused = absurd refused
+is-no-input (NoType path x place) refused = absurd refused
+is-no-input (OtherObjects path first) refused = absurd refused
+is-no-input (HasEvents path) refused = absurd refused
+is-no-input BadParameter refused = absurd refused
+is-no-input TooLarge refused = absurd refused
+is-no-input (CannotRead path) refused = refl
+is-no-input (Database path f) refused = refl
+is-no-input (NoStore path) refused = absurd refused
+is-no-input NoMemory refused = refl
+is-no-input Output refused = refl

@@ -1,6 +1,11 @@
 -- What `serve DATABASE` tells its client, and what it leaves.
-use Rattle.std.specs.Prelude.{◌≡◌, ◌⊎◌, ℕ, List, [], ◌++◌, Option, None, IfSome, IsTrue}
+use Rattle.std.specs.Prelude.{◌≡◌, ◌⊎◌, false, ℕ, List, [], ◌++◌, Option, None, IfSome, IsTrue, Result, Ok, Err}
 use Rattle.std.specs.Io.KnownBytes.{Appends, Consumes, IsAtEnd}
+use Rattle.command_files.specs.Answers.{Answers}
+use Rattle.command_files.specs.Status.{is_input}
+use Rattle.command_files.specs.declared.fault.Fault.{Fault}
+use Rattle.command_files.specs.declared.status.Verdict.{Verdict}
+use Rattle.command_files.specs.declared.status.Verdict.TheVariants.{Yes}
 use Rattle.sqlite_trees.specs.declared.store.Store.{Ghosts}
 use Rattle.sqlite_trees.specs.Tree.{Trees}
 use Rattle.sqlite_trees.specs.View.{IsClean, View}
@@ -16,11 +21,16 @@ use Rattle.durable_store.specs.Recovered.{recovered}
 use Rattle.durable_store.specs.Types.{HasTypes}
 use Rattle.request_text.specs.declared.request.Asked.{Asked}
 use Rattle.serving.specs.declared.answer_line.Answered.{Answered}
-use Rattle.serving.specs.Ending.{aborted, end_answers}
+use Rattle.serving.specs.Ending.{end_answers}
+use Rattle.serving.specs.Epochs.{aborted}
 use Rattle.serving.specs.Lines.{AreLines}
 use Rattle.serving.specs.Served.{Serves}
 use Rattle.serving.specs.Told.{AppendsPart, answers_text, greeting}
 use Rattle.serving.specs.Whole.{ServesClient, StopsServing}
+
+-- with so many events an epoch is full
+abbrev pub epoch_events : ℕ
+epoch_events = 980000
 
 -- the store that was opened of what a file said, and the file as it was left then
 pub record IsOpened (said file : Contents) (began : Stored) : Type 0 where
@@ -28,18 +38,19 @@ pub record IsOpened (said file : Contents) (began : Stored) : Type 0 where
   pub history : began.history ≡ events said.events ++ closing (events said.events)
   pub left : file ≡ recovered said
 
--- lines of a client that were done, in their order, by the store of what a file said, and so they were answered; all of it if no wrong
--- answer of a disk was taken as true
+-- lines of a client that were done, in their order, by the store of what a file said, and so they were answered, epoch after epoch; all of it if no
+-- wrong answer of a disk was taken as true
 pub record Work (clean : Type 0) (held : Option Trees) : Type 0 where
   pub life : ℕ
   pub file : Contents
   pub began : Stored
   pub lines : List (List ℕ)
   pub told : List Answered
+  pub last : ℕ
   pub reached : Stored
   pub ended : Option Asked
   pub opened : clean → IfSome held (λ db. IsOpened (contents_of db) file began)
-  pub serves : clean → Serves life file lines began told reached ended
+  pub serves : clean → Serves epoch_events file life lines began told last reached ended
 
 -- the lines that a client is told of it
 abbrev pub told_text : {clean : Type 0} {held : Option Trees} → Work clean held → List ℕ
@@ -50,9 +61,9 @@ pub record Begins (db : Trees) (s : Stored) : Type 0 where
   pub events : (contents_of db).events ≡ []
   pub states : (contents_of db).states ≡ firsts s.types
 
--- of the input these bytes were taken, which are those lines and behind them a half one, or what stands behind the end; the output took the
--- greeting, the answers and that of the end; what was open is aborted, and the file begins a new epoch
-pub record IsServed (clean : Type 0) (held left : Option Trees) (given taken given_now taken_now : Option (List ℕ)) : Type 0 where
+-- a text that a client is told: the greeting, the answers and that of the end; of the input these bytes were taken, which are those lines and
+-- behind them a half one, or what stands behind the end; what was open is aborted, and the file begins a new epoch
+pub record IsServed (clean : Type 0) (held left : Option Trees) (given given_now : Option (List ℕ)) (text : List ℕ) : Type 0 where
   pub work : Work clean held
   pub seen : List ℕ
   pub half : List ℕ
@@ -60,14 +71,24 @@ pub record IsServed (clean : Type 0) (held left : Option Trees) (given taken giv
   pub consumed : Consumes given given_now (seen ++ rest)
   pub asked : AreLines seen work.lines half
   pub all : work.ended ≡ None → (rest ≡ []) × IsAtEnd given_now
-  pub appended : Appends taken taken_now (told_text work)
+  pub told : text ≡ told_text work
   pub now : Stored
   pub renews : Renews (aborted work.reached) now
   pub left_is : clean → IfSome left (λ db. Begins db now)
 
--- the output took nothing; or a beginning of the greeting, of the answers to lines that were done, and of that of the end
-abbrev pub IsCut : Type 0 → Option Trees → Option (List ℕ) → Option (List ℕ) → Type 0
-IsCut clean held taken taken_now = (taken_now ≡ taken) ⊎ ((work : Work clean held) × AppendsPart taken taken_now (told_text work))
+-- what serving answers: never no
+abbrev pub ServesDatabase : Type 0 → Option Trees → Option Trees → Option (List ℕ) → Option (List ℕ) → Answers
+ServesDatabase clean held left given given_now v text = (v ≡ Yes) × IsServed clean held left given given_now text
+
+-- a text that a client may have been told a beginning of, where serving stopped: the greeting, the answers to lines that were done, and that of the end
+abbrev pub BeginsServing : Type 0 → Option Trees → List ℕ → Type 0
+BeginsServing clean held text = (work : Work clean held) × (text ≡ told_text work)
+
+-- what comes of serving: an answer with its text; or a fault before anything was written, or one that is nothing of what the user gave, and
+-- the output took a beginning of such a text
+abbrev pub ComesOfServing : (List ℕ → Type 0) → Answers → Result Verdict Fault → Option (List ℕ) → Option (List ℕ) → Type 0
+ComesOfServing begun answers (Ok verdict) old new = (text : List ℕ) × answers verdict text × Appends old new text
+ComesOfServing begun answers (Err fault) old new = (new ≡ old) ⊎ ((is_input fault ≡ false) × ((text : List ℕ) × begun text × AppendsPart old new text))
 
 -- ---- inside the command
 
@@ -80,11 +101,11 @@ pub record ServesIn {S : Type 0} (g : Ghosts S) (began : Durable S) (given taken
   pub now : Durable S
   pub are : trees ≡ now.journal.store
   pub clean : Clean g now.journal → Clean g began.journal
-  pub serves : ServesClient g began given taken now given_now taken_now
+  pub serves : ServesClient g epoch_events began given taken now given_now taken_now
 
 -- serving stopped, and these are the trees
 pub record StopsIn {S : Type 0} (g : Ghosts S) (began : Durable S) (taken : Option (List ℕ)) (trees : S) (taken_now : Option (List ℕ)) : Type 0 where
   pub now : Durable S
   pub are : trees ≡ now.journal.store
   pub clean : Clean g now.journal → Clean g began.journal
-  pub stops : StopsServing g began taken now taken_now
+  pub stops : StopsServing g epoch_events began taken now taken_now

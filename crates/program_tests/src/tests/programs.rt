@@ -28,6 +28,7 @@ use outputs::{Gathered, Sink};
 use std::alloc::Global;
 use std::io::Read;
 use std::process::Abort;
+use std::rt::Clock;
 use std::sync::Wait;
 use std::test::Fail;
 use std::thread::Threads;
@@ -138,7 +139,7 @@ fn owned(alloc: Global, words: &[&str]) -> Result<Vec<String>, Fault<'static>> {
 }
 
 /// What the program does with these words and what it is given, with these two outputs.
-fn play_given<R: AllocGlobal + Threads + Wait + Sync, S: Source, D: Databases, I: Read>(
+fn play_given<R: AllocGlobal + Clock + Threads + Wait + Sync, S: Source, D: Databases, I: Read>(
     rt: &R,
     words: &[&str],
     given: &mut Given<S, D, I>,
@@ -163,7 +164,7 @@ fn play_given<R: AllocGlobal + Threads + Wait + Sync, S: Source, D: Databases, I
 }
 
 /// What it does with these words over these files and no database, with these two outputs.
-fn play_over<R: AllocGlobal + Threads + Wait + Sync, S: Source + Drop>(
+fn play_over<R: AllocGlobal + Clock + Threads + Wait + Sync, S: Source + Drop>(
     rt: &R,
     words: &[&str],
     source: S,
@@ -182,7 +183,7 @@ fn play_over<R: AllocGlobal + Threads + Wait + Sync, S: Source + Drop>(
 }
 
 /// What it does with a case's words over its files, with these two outputs.
-fn play_on<R: AllocGlobal + Threads + Wait + Sync>(
+fn play_on<R: AllocGlobal + Clock + Threads + Wait + Sync>(
     rt: &R,
     case: &Case<'_>,
     out: Held,
@@ -199,7 +200,7 @@ fn play_on<R: AllocGlobal + Threads + Wait + Sync>(
 }
 
 /// What it does with words over files, with outputs that take all.
-pub fn outcome_of<R: Abort + AllocGlobal + Threads + Wait + Sync, S: Source + Drop>(
+pub fn outcome_of<R: Abort + AllocGlobal + Clock + Threads + Wait + Sync, S: Source + Drop>(
     rt: &R,
     words: &[&str],
     source: S,
@@ -210,7 +211,7 @@ pub fn outcome_of<R: Abort + AllocGlobal + Threads + Wait + Sync, S: Source + Dr
 }
 
 /// The same of a case.
-fn play<R: Abort + AllocGlobal + Threads + Wait + Sync>(rt: &R, case: &Case<'_>) -> Played {
+fn play<R: Abort + AllocGlobal + Clock + Threads + Wait + Sync>(rt: &R, case: &Case<'_>) -> Played {
     let source = CaseFiles {
         alloc: rt.alloc(),
         files: case.files,
@@ -220,12 +221,12 @@ fn play<R: Abort + AllocGlobal + Threads + Wait + Sync>(rt: &R, case: &Case<'_>)
 
 /// That the program does what a case says. Where one allocation is refused, that is said, and the next
 /// try has it.
-fn plays<R: Abort + AllocGlobal + Threads + Wait + Sync>(rt: &R, case: &Case<'_>) {
+fn plays<R: Abort + AllocGlobal + Clock + Threads + Wait + Sync>(rt: &R, case: &Case<'_>) {
     let first = play(rt, case);
     assert!(rt; first.is_of(case) || first.wants_memory() && play(rt, case).is_of(case));
 }
 
-fn all_play<R: Abort + AllocGlobal + Threads + Wait + Sync>(rt: &R, cases: &[Case<'_>]) {
+fn all_play<R: Abort + AllocGlobal + Clock + Threads + Wait + Sync>(rt: &R, cases: &[Case<'_>]) {
     for case in cases {
         plays(rt, case);
     }

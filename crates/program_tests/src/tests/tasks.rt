@@ -11,13 +11,14 @@ use crate::tests::programs::{Played, outcome_of};
 use command_files::Status;
 use command_words::Topic;
 use std::process::Abort;
+use std::rt::Clock;
 use std::sync::Wait;
 use std::thread::Threads;
 use test_support::texts::changed;
 use test_support::type_texts::{COMMENTED, COUNTER, CUT, IDLE};
 
 /// What comes of these words where this text is at the path `ctr2.type`.
-fn run<R: Abort + AllocGlobal + Threads + Wait + Sync>(
+fn run<R: Abort + AllocGlobal + Clock + Threads + Wait + Sync>(
     rt: &R,
     words: &[&str],
     text: &[u8],
@@ -31,7 +32,7 @@ fn run<R: Abort + AllocGlobal + Threads + Wait + Sync>(
 }
 
 /// That these words over this text write this, and no fault.
-fn writes<R: Abort + AllocGlobal + Threads + Wait + Sync>(
+fn writes<R: Abort + AllocGlobal + Clock + Threads + Wait + Sync>(
     rt: &R,
     words: &[&str],
     text: &[u8],
@@ -42,7 +43,7 @@ fn writes<R: Abort + AllocGlobal + Threads + Wait + Sync>(
 }
 
 /// That they say this of a fault, and write nothing else.
-fn says<R: Abort + AllocGlobal + Threads + Wait + Sync>(
+fn says<R: Abort + AllocGlobal + Clock + Threads + Wait + Sync>(
     rt: &R,
     words: &[&str],
     text: &[u8],
@@ -162,7 +163,7 @@ static FAULTS: [Fault; 18] = [
 ];
 
 /// That a check says each of these faults.
-fn answers_all<R: Abort + AllocGlobal + Threads + Wait + Sync>(rt: &R, faults: &[Fault]) {
+fn answers_all<R: Abort + AllocGlobal + Clock + Threads + Wait + Sync>(rt: &R, faults: &[Fault]) {
     let words = ["check", "intentions", "ctr2.type"];
     for (whole, old, new, err) in faults {
         let text = with_part(rt, whole, old, new);
@@ -191,7 +192,10 @@ static HELP: [(&[&str], Topic); 11] = [
 ];
 
 /// That each of these words are answered with the text on their topic.
-fn writes_help<R: Abort + AllocGlobal + Threads + Wait + Sync>(rt: &R, rows: &[(&[&str], Topic)]) {
+fn writes_help<R: Abort + AllocGlobal + Clock + Threads + Wait + Sync>(
+    rt: &R,
+    rows: &[(&[&str], Topic)],
+) {
     for (words, topic) in rows {
         writes(rt, words, b"", topic.text().as_bytes(), Status::Yes);
     }

@@ -1,4 +1,4 @@
-use Rattle.std.proofs.Common.{ℕ, Bor, List, map, subst, sym, inr}
+use Rattle.std.proofs.Common.{ℕ, Bor, List, map, subst, sym, inl, inr}
 use Rattle.command_files.specs.Answers.{Comes, ComesOr}
 use Rattle.command_files.proofs.Comes.{comes_or}
 use Rattle.command_words.specs.declared.task.Task.{Task}
@@ -16,7 +16,8 @@ pub returns-in-Make-clause-does : goal.returns-in-Make-clause-does
 returns-in-Make-clause-does g c =
     let holds = g.S.Source.holds c.args.given.now.source in
     let databases = c.args.given.now.databases in
-    let given = shown holds (g.D.Databases.holds databases) (g.D.Databases.holds databases) (g.D.Databases.is_clean databases) in
+    let input = g.I.Read.remaining c.args.given.now.input in
+    let given = shown holds (g.D.Databases.holds databases) (g.D.Databases.holds databases) (g.D.Databases.is_clean databases) input input in
     let old = taken_by g.W.Out.taken c.args.console.out in
     let new = taken_by g.W.Out.taken c.make_family.new.out in
     let Does : Task → Type 0 = λ t. DoesTask given t c.make_family.result old new in
@@ -28,7 +29,8 @@ pub returns-in-Run-clause-does : goal.returns-in-Run-clause-does
 returns-in-Run-clause-does g c =
     let holds = g.S.Source.holds c.args.given.now.source in
     let databases = c.args.given.now.databases in
-    let given = shown holds (g.D.Databases.holds databases) (g.D.Databases.holds databases) (g.D.Databases.is_clean databases) in
+    let input = g.I.Read.remaining c.args.given.now.input in
+    let given = shown holds (g.D.Databases.holds databases) (g.D.Databases.holds databases) (g.D.Databases.is_clean databases) input input in
     let old = taken_by g.W.Out.taken c.args.console.out in
     let new = taken_by g.W.Out.taken c.run_file.new.out in
     let Does : Task → Type 0 = λ t. DoesTask given t c.run_file.result old new in
@@ -42,7 +44,8 @@ pub returns-in-Work-clause-does : goal.returns-in-Work-clause-does
 returns-in-Work-clause-does g c =
     let holds = g.S.Source.holds c.args.given.now.source in
     let databases = c.args.given.now.databases in
-    let given = shown holds (g.D.Databases.holds databases) (g.D.Databases.holds databases) (g.D.Databases.is_clean databases) in
+    let input = g.I.Read.remaining c.args.given.now.input in
+    let given = shown holds (g.D.Databases.holds databases) (g.D.Databases.holds databases) (g.D.Databases.is_clean databases) input input in
     let old = taken_by g.W.Out.taken c.args.console.out in
     let new = taken_by g.W.Out.taken c.work_file.new.out in
     let Does : Task → Type 0 = λ t. DoesTask given t c.work_file.result old new in
@@ -56,7 +59,8 @@ pub returns-in-Stress-clause-does : goal.returns-in-Stress-clause-does
 returns-in-Stress-clause-does g c =
     let holds = g.S.Source.holds c.args.given.now.source in
     let databases = c.args.given.now.databases in
-    let given = shown holds (g.D.Databases.holds databases) (g.D.Databases.holds databases) (g.D.Databases.is_clean databases) in
+    let input = g.I.Read.remaining c.args.given.now.input in
+    let given = shown holds (g.D.Databases.holds databases) (g.D.Databases.holds databases) (g.D.Databases.is_clean databases) input input in
     let old = taken_by g.W.Out.taken c.args.console.out in
     let new = taken_by g.W.Out.taken c.work_file-in-Stress.new.out in
     let Does : Task → Type 0 = λ t. DoesTask given t c.work_file-in-Stress.result old new in
@@ -70,7 +74,8 @@ pub returns-in-Audit-clause-does : goal.returns-in-Audit-clause-does
 returns-in-Audit-clause-does g c =
     let holds = g.S.Source.holds c.args.given.now.source in
     let databases = c.args.given.now.databases in
-    let given = shown holds (g.D.Databases.holds databases) (g.D.Databases.holds databases) (g.D.Databases.is_clean databases) in
+    let input = g.I.Read.remaining c.args.given.now.input in
+    let given = shown holds (g.D.Databases.holds databases) (g.D.Databases.holds databases) (g.D.Databases.is_clean databases) input input in
     let old = taken_by g.W.Out.taken c.args.console.out in
     let new = taken_by g.W.Out.taken c.audit_histories.new.out in
     let Does : Task → Type 0 = λ t. DoesTask given t c.audit_histories.result old new in
@@ -85,7 +90,7 @@ returns-in-Create-clause-does g c =
     let holds = g.S.Source.holds c.args.given.now.source in
     let made = g.D.Databases.holds c.create_store.new.databases c.in-Create.database.now in
     let clean = g.D.Databases.is_clean c.create_store.new.databases in
-    let given = shown holds (g.D.Databases.holds c.args.given.now.databases) (g.D.Databases.holds c.create_store.new.databases) clean in
+    let given = shown holds (g.D.Databases.holds c.args.given.now.databases) (g.D.Databases.holds c.create_store.new.databases) clean (g.I.Read.remaining c.args.given.now.input) (g.I.Read.remaining c.args.given.now.input) in
     let old = taken_by g.W.Out.taken c.args.console.out in
     let new = taken_by g.W.Out.taken c.create_store.new.out in
     let Does : Task → Type 0 = λ t. DoesTask given t c.create_store.result old new in
@@ -94,11 +99,21 @@ returns-in-Create-clause-does g c =
     let done = subst Of c.deref-in-Create.ensures.value c.create_store.ensures in
     subst Does (sym c.in-Create.is) (inr (comes_or _ _ _ _ _ _ _ _ c.create_store.result old new (λ text whole. whole) (λ text begun. begun) (λ v text answer. answer) (λ bad. bad) done))
 
+pub returns-in-Serve-clause-does : goal.returns-in-Serve-clause-does
+returns-in-Serve-clause-does g c =
+    let before = c.args.given.now in
+    let behind = c.do_serve.new.given in
+    let given = shown (g.S.Source.holds before.source) (g.D.Databases.holds before.databases) (g.D.Databases.holds behind.databases) (g.D.Databases.is_clean behind.databases)
+    (g.I.Read.remaining before.input) (g.I.Read.remaining behind.input) in
+    let Does : Task → Type 0 = λ t. DoesTask given t c.do_serve.result.0 (taken_by g.W.Out.taken c.args.console.out) (taken_by g.W.Out.taken c.do_serve.result.1.out) in
+    subst Does (sym c.in-Serve.is) (inl (tt, c.do_serve.ensures.comes))
+
 pub returns-in-Check-clause-does : goal.returns-in-Check-clause-does
 returns-in-Check-clause-does g c =
     let holds = g.S.Source.holds c.args.given.now.source in
     let databases = c.args.given.now.databases in
-    let given = shown holds (g.D.Databases.holds c.args.given.now.databases) (g.D.Databases.holds databases) (g.D.Databases.is_clean databases) in
+    let input = g.I.Read.remaining c.args.given.now.input in
+    let given = shown holds (g.D.Databases.holds c.args.given.now.databases) (g.D.Databases.holds databases) (g.D.Databases.is_clean databases) input input in
     let old = taken_by g.W.Out.taken c.args.console.out in
     let new = taken_by g.W.Out.taken c.check_file.new.out in
     let Does : Task → Type 0 = λ t. DoesTask given t c.check_file.result old new in
@@ -108,7 +123,8 @@ pub returns-in-Tables-clause-does : goal.returns-in-Tables-clause-does
 returns-in-Tables-clause-does g c =
     let holds = g.S.Source.holds c.args.given.now.source in
     let databases = c.args.given.now.databases in
-    let given = shown holds (g.D.Databases.holds c.args.given.now.databases) (g.D.Databases.holds databases) (g.D.Databases.is_clean databases) in
+    let input = g.I.Read.remaining c.args.given.now.input in
+    let given = shown holds (g.D.Databases.holds c.args.given.now.databases) (g.D.Databases.holds databases) (g.D.Databases.is_clean databases) input input in
     let old = taken_by g.W.Out.taken c.args.console.out in
     let new = taken_by g.W.Out.taken c.make_tables_of.new.out in
     let Does : Task → Type 0 = λ t. DoesTask given t c.make_tables_of.result old new in
@@ -118,7 +134,8 @@ pub returns-in-History-clause-does : goal.returns-in-History-clause-does
 returns-in-History-clause-does g c =
     let holds = g.S.Source.holds c.args.given.now.source in
     let databases = c.tell_history.new.databases in
-    let given = shown holds (g.D.Databases.holds c.args.given.now.databases) (g.D.Databases.holds databases) (g.D.Databases.is_clean databases) in
+    let input = g.I.Read.remaining c.args.given.now.input in
+    let given = shown holds (g.D.Databases.holds c.args.given.now.databases) (g.D.Databases.holds databases) (g.D.Databases.is_clean databases) input input in
     let old = taken_by g.W.Out.taken c.args.console.out in
     let new = taken_by g.W.Out.taken c.tell_history.new.out in
     let Does : Task → Type 0 = λ t. DoesTask given t c.tell_history.result old new in
@@ -128,7 +145,8 @@ pub returns-in-AuditDatabase-clause-does : goal.returns-in-AuditDatabase-clause-
 returns-in-AuditDatabase-clause-does g c =
     let holds = g.S.Source.holds c.args.given.now.source in
     let databases = c.audit_database.new.databases in
-    let given = shown holds (g.D.Databases.holds c.args.given.now.databases) (g.D.Databases.holds databases) (g.D.Databases.is_clean databases) in
+    let input = g.I.Read.remaining c.args.given.now.input in
+    let given = shown holds (g.D.Databases.holds c.args.given.now.databases) (g.D.Databases.holds databases) (g.D.Databases.is_clean databases) input input in
     let old = taken_by g.W.Out.taken c.args.console.out in
     let new = taken_by g.W.Out.taken c.audit_database.new.out in
     let Does : Task → Type 0 = λ t. DoesTask given t c.audit_database.result old new in

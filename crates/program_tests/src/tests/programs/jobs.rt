@@ -4,6 +4,7 @@ use super::{Case, Played, all_play, play};
 use command_files::Status;
 use reference_store::work::GIVES_UP;
 use std::process::Abort;
+use std::rt::Clock;
 use std::sync::Wait;
 use std::thread::Threads;
 use test_support::type_texts::COUNTER;
@@ -263,7 +264,7 @@ fn is_refusal(played: &Played) -> bool {
 }
 
 /// That these words are refused. Where one allocation is refused, that is said, and the next try has it.
-fn are_refused<R: Abort + AllocGlobal + Threads + Wait + Sync>(rt: &R, words: &[&str]) {
+fn are_refused<R: Abort + AllocGlobal + Clock + Threads + Wait + Sync>(rt: &R, words: &[&str]) {
     let case = Case {
         words,
         files: &[],

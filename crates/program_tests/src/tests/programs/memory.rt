@@ -12,6 +12,7 @@ use command_files::Status;
 use reference_store::runs::{RunText, folded};
 use reference_store::work::{OneWorker, ROOMS, WorkText, written};
 use std::process::Abort;
+use std::rt::Clock;
 use std::sync::Wait;
 use std::thread::Threads;
 
@@ -37,7 +38,7 @@ fn is_folded(played: &Played, fold: &RunText) -> bool {
 
 /// That a run does what its fold does. Where that isn't what its case says, memory was refused, and
 /// the next try has it.
-fn run_folds<R: Abort + AllocGlobal + Threads + Wait + Sync>(rt: &R, case: &Case<'static>) {
+fn run_folds<R: Abort + AllocGlobal + Clock + Threads + Wait + Sync>(rt: &R, case: &Case<'static>) {
     let first = play(rt, case);
     let fold = fold_of(rt, case, &first.out);
     assert!(rt; is_folded(&first, &fold));
@@ -46,7 +47,10 @@ fn run_folds<R: Abort + AllocGlobal + Threads + Wait + Sync>(rt: &R, case: &Case
 
 /// That another task does what its case says, or writes nothing and says that memory was refused, and
 /// the next try has it.
-fn says_or_wants<R: Abort + AllocGlobal + Threads + Wait + Sync>(rt: &R, case: &Case<'static>) {
+fn says_or_wants<R: Abort + AllocGlobal + Clock + Threads + Wait + Sync>(
+    rt: &R,
+    case: &Case<'static>,
+) {
     let first = play(rt, case);
     let told = if first.is(Status::Failed, b"", NO_MEMORY) {
         play(rt, case)
@@ -111,7 +115,10 @@ fn is_work(rt: &(impl Abort + AllocGlobal), case: &Case<'static>, played: &Playe
 
 /// That a worker's jobs are written as they are by the slow fold, or that memory was refused is said alone.
 /// Where that isn't what its case says, the next try has its memory.
-fn work_folds<R: Abort + AllocGlobal + Threads + Wait + Sync>(rt: &R, case: &Case<'static>) {
+fn work_folds<R: Abort + AllocGlobal + Clock + Threads + Wait + Sync>(
+    rt: &R,
+    case: &Case<'static>,
+) {
     let first = play(rt, case);
     assert!(rt; first.is(Status::Failed, b"", NO_MEMORY) || is_work(rt, case, &first));
     assert!(rt; first.is_of(case) || play(rt, case).is_of(case));

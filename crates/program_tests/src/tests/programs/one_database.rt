@@ -11,6 +11,7 @@ use object_trait::EventKind;
 use std::io;
 use std::io::{ErrorKind, Read};
 use std::process::Abort;
+use std::rt::Clock;
 use std::sync::Wait;
 use std::thread::Threads;
 use test_support::sinks::AtEnd;
@@ -149,7 +150,7 @@ fn all_taken(rt: &(impl Abort + AllocGlobal)) -> Held
 }
 
 /// That each step does what is said of it, in their order.
-fn all_come<'a, R: Abort + AllocGlobal + Threads + Wait + Sync>(
+fn all_come<'a, R: Abort + AllocGlobal + Clock + Threads + Wait + Sync>(
     rt: &R,
     given: &mut Kept<'a>,
     steps: &[Step<'a>],
@@ -162,7 +163,7 @@ fn all_come<'a, R: Abort + AllocGlobal + Threads + Wait + Sync>(
 }
 
 /// A store of two counters.
-fn created<'a, R: Abort + AllocGlobal + Threads + Wait + Sync>(rt: &R) -> Kept<'a> {
+fn created<'a, R: Abort + AllocGlobal + Clock + Threads + Wait + Sync>(rt: &R) -> Kept<'a> {
     let mut given = kept(rt, MemoryDatabases::new(rt.alloc()));
     all_come(rt, &mut given, &[yes(&CREATE, "")]);
     given
@@ -230,7 +231,7 @@ f ok
 }
 
 /// What comes of a service whose output takes no more than the greeting.
-fn cut_off<'a, R: Abort + AllocGlobal + Threads + Wait + Sync>(
+fn cut_off<'a, R: Abort + AllocGlobal + Clock + Threads + Wait + Sync>(
     rt: &R,
     given: &mut Kept<'a>,
     asked: &'a str,

@@ -8,6 +8,7 @@ use super::rollbacks::BOTH_KINDS;
 use super::{Case, held_output, play_on};
 use command_files::Status;
 use std::process::Abort;
+use std::rt::Clock;
 use std::sync::Wait;
 use std::thread::Threads;
 use test_support::sinks::AtEnd;
@@ -23,7 +24,7 @@ static CASES: [Case<'static>; 6] = [
 ];
 
 /// That a case stops where the output has room for so many bytes.
-fn stops_at<R: Abort + AllocGlobal + Threads + Wait + Sync>(
+fn stops_at<R: Abort + AllocGlobal + Clock + Threads + Wait + Sync>(
     rt: &R,
     case: &Case<'_>,
     room: usize,
@@ -35,7 +36,7 @@ fn stops_at<R: Abort + AllocGlobal + Threads + Wait + Sync>(
     assert!(rt; play_on(rt, case, out, err).is(Status::Failed, taken, ""));
 }
 
-fn stops<R: Abort + AllocGlobal + Threads + Wait + Sync>(rt: &R, case: &Case<'_>) {
+fn stops<R: Abort + AllocGlobal + Clock + Threads + Wait + Sync>(rt: &R, case: &Case<'_>) {
     for room in 0..case.out.len() {
         stops_at(rt, case, room, AtEnd::Fails);
         stops_at(rt, case, room, AtEnd::TakesNothing);
@@ -43,7 +44,7 @@ fn stops<R: Abort + AllocGlobal + Threads + Wait + Sync>(rt: &R, case: &Case<'_>
 }
 
 /// That a case has its status where standard error has room for so many bytes.
-fn ends_alike<R: Abort + AllocGlobal + Threads + Wait + Sync>(
+fn ends_alike<R: Abort + AllocGlobal + Clock + Threads + Wait + Sync>(
     rt: &R,
     case: &Case<'_>,
     room: usize,

@@ -5,6 +5,7 @@ use super::{Case, File, all_cases, jobs, plays, seeds};
 use crate::tests::texts_read::{Reader, beginnings_have_faults};
 use command_files::Status;
 use std::process::Abort;
+use std::rt::Clock;
 use std::sync::Wait;
 use std::thread::Threads;
 
@@ -32,7 +33,7 @@ fn audit_of<'a>(case: &Case<'a>) -> Option<&'a str> {
 }
 
 /// That the audit of the history that a case writes has the lines that it writes of its own audit.
-fn is_audited<R: Abort + AllocGlobal + Threads + Wait + Sync>(rt: &R, case: &Case<'_>) {
+fn is_audited<R: Abort + AllocGlobal + Clock + Threads + Wait + Sync>(rt: &R, case: &Case<'_>) {
     let lines = audit_of(case).expect(rt, "no audit");
     let out = format!(in rt.alloc(); "# audit {lines}").expect(rt, "no memory");
     let words = audit_words(rt, types_of(case));
@@ -106,7 +107,7 @@ fn beginnings_of(rt: &(impl Abort + AllocGlobal), case: &Case<'_>) {
 }
 
 /// The same of all cases whose text has no fault, and that what each writes is a history.
-fn have_texts<R: Abort + AllocGlobal + Threads + Wait + Sync>(rt: &R, cases: &[Case<'_>]) {
+fn have_texts<R: Abort + AllocGlobal + Clock + Threads + Wait + Sync>(rt: &R, cases: &[Case<'_>]) {
     for case in cases {
         if !case.err.contains(": line ") {
             beginnings_of(rt, case);

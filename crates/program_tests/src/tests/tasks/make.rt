@@ -5,6 +5,7 @@ use super::{run, writes};
 use crate::tests::programs::Played;
 use command_files::Status;
 use std::process::Abort;
+use std::rt::Clock;
 use std::sync::Wait;
 use std::thread::Threads;
 use test_support::type_texts::{ACCOUNT, SEMIQUEUE};
@@ -236,13 +237,13 @@ static BAD: [&str; 49] = [
 ];
 
 /// What comes of these words.
-fn made<R: Abort + AllocGlobal + Threads + Wait + Sync>(rt: &R, words: &str) -> Played {
+fn made<R: Abort + AllocGlobal + Clock + Threads + Wait + Sync>(rt: &R, words: &str) -> Played {
     let words: Vec<&str> = words.split(' ').collect(rt.alloc()).expect(rt, "no memory");
     run(rt, &words, b"")
 }
 
 /// That a text is good for both kinds of recovery.
-fn is_good<R: Abort + AllocGlobal + Threads + Wait + Sync>(rt: &R, text: &str) {
+fn is_good<R: Abort + AllocGlobal + Clock + Threads + Wait + Sync>(rt: &R, text: &str) {
     for words in [UNDO, INTENTIONS] {
         writes(rt, &words, text.as_bytes(), b"yes strong\n", Status::Yes);
     }
@@ -254,7 +255,10 @@ const UNDO: [&str; 3] = ["check", "undo", "ctr2.type"];
 const INTENTIONS: [&str; 3] = ["check", "intentions", "ctr2.type"];
 
 /// That each of these words make their text, which is good.
-fn makes_texts<R: Abort + AllocGlobal + Threads + Wait + Sync>(rt: &R, rows: &[(&str, &str)]) {
+fn makes_texts<R: Abort + AllocGlobal + Clock + Threads + Wait + Sync>(
+    rt: &R,
+    rows: &[(&str, &str)],
+) {
     for (words, text) in rows {
         makes(rt, words, text);
         is_good(rt, text);
@@ -262,7 +266,7 @@ fn makes_texts<R: Abort + AllocGlobal + Threads + Wait + Sync>(rt: &R, rows: &[(
 }
 
 /// That these words make this text.
-fn makes<R: Abort + AllocGlobal + Threads + Wait + Sync>(rt: &R, words: &str, text: &str) {
+fn makes<R: Abort + AllocGlobal + Clock + Threads + Wait + Sync>(rt: &R, words: &str, text: &str) {
     assert!(rt; made(rt, words).is(Status::Yes, text.as_bytes(), ""));
 }
 
@@ -283,7 +287,7 @@ fn ops_of(text: &[u8]) -> usize {
 }
 
 /// That each of these words make a text that begins so, of so many operations.
-fn makes_heads<R: Abort + AllocGlobal + Threads + Wait + Sync>(
+fn makes_heads<R: Abort + AllocGlobal + Clock + Threads + Wait + Sync>(
     rt: &R,
     rows: &[(&str, &str, usize)],
 ) {
@@ -299,7 +303,11 @@ fn makes_up_to_the_limits(rt: HostRuntime) {
 }
 
 /// That nothing is made of each of these words, and this is said.
-fn refuses<R: Abort + AllocGlobal + Threads + Wait + Sync>(rt: &R, rows: &[&str], err: &str) {
+fn refuses<R: Abort + AllocGlobal + Clock + Threads + Wait + Sync>(
+    rt: &R,
+    rows: &[&str],
+    err: &str,
+) {
     for words in rows {
         assert!(rt; made(rt, words).is(Status::BadInput, b"", err));
     }

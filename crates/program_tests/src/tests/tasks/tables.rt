@@ -4,6 +4,7 @@ use super::large::{add_pairs, circle, countdown};
 use super::{says, with_part, writes};
 use command_files::Status;
 use std::process::Abort;
+use std::rt::Clock;
 use std::sync::Wait;
 use std::thread::Threads;
 use test_support::type_texts::{
@@ -74,7 +75,7 @@ conflict intentions 3 3
 ];
 
 /// That of each of these texts its tables are made.
-fn makes_all<R: Abort + AllocGlobal + Threads + Wait + Sync>(
+fn makes_all<R: Abort + AllocGlobal + Clock + Threads + Wait + Sync>(
     rt: &R,
     rows: &[(&str, &str, &str, &str)],
 ) {
@@ -90,7 +91,7 @@ fn makes_tables_anew(rt: HostRuntime) {
 }
 
 /// That of these lines these pairs of states and these conflicts are made.
-fn makes_pairs<R: Abort + AllocGlobal + Threads + Wait + Sync>(
+fn makes_pairs<R: Abort + AllocGlobal + Clock + Threads + Wait + Sync>(
     rt: &R,
     mut text: String,
     both_ways: bool,

@@ -5,6 +5,7 @@ use super::large::{largest, set_of_ten};
 use super::{with_part, writes};
 use command_files::Status;
 use std::process::Abort;
+use std::rt::Clock;
 use std::sync::Wait;
 use std::thread::Threads;
 use table_checker::{CheckRefusal, CheckedType, check, check_parallel};
@@ -256,7 +257,7 @@ static IDLES: [Verdict; 14] = [
 
 /// That a check of this text writes this line, and that one thread and all processors come to the
 /// same verdict of it for each kind.
-fn answers<R: Abort + AllocGlobal + Threads + Wait + Sync>(
+fn answers<R: Abort + AllocGlobal + Clock + Threads + Wait + Sync>(
     rt: &R,
     kind: Kind,
     text: &[u8],
@@ -278,7 +279,7 @@ fn status_of(line: &str) -> Status {
 }
 
 /// That one thread and all processors come to the same verdict.
-fn agree<R: Abort + AllocGlobal + Threads + Wait + Sync>(rt: &R, kind: Kind, text: &[u8]) {
+fn agree<R: Abort + AllocGlobal + Clock + Threads + Wait + Sync>(rt: &R, kind: Kind, text: &[u8]) {
     let file = read_type(rt.alloc(), text).expect(rt, "a fault");
     let copy = file.copy(rt.alloc()).expect(rt, "no memory");
     let one = verdict_of(check(file, kind));
@@ -297,7 +298,10 @@ fn verdict_of(
 }
 
 /// That each of these verdicts is answered.
-fn answers_all<R: Abort + AllocGlobal + Threads + Wait + Sync>(rt: &R, verdicts: &[Verdict]) {
+fn answers_all<R: Abort + AllocGlobal + Clock + Threads + Wait + Sync>(
+    rt: &R,
+    verdicts: &[Verdict],
+) {
     for (kind, whole, old, new, line) in verdicts {
         let text = with_part(rt, whole, old, new.as_bytes());
         answers(rt, *kind, &text, line);
@@ -314,7 +318,7 @@ fn answers_each_verdict(rt: HostRuntime) {
 }
 
 /// That a check of this text writes these lines, for each kind.
-fn answers_both<R: Abort + AllocGlobal + Threads + Wait + Sync>(
+fn answers_both<R: Abort + AllocGlobal + Clock + Threads + Wait + Sync>(
     rt: &R,
     text: &[u8],
     in_place: &str,

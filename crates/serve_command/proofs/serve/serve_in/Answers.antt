@@ -1,16 +1,9 @@
-use Rattle.std.proofs.Common.{inl, inr}
-use Rattle.serve_command.specs.Served.{ServesIn}
-use Rattle.serve_command.proofs.ServedLemmas.{cut-at, on-err, on-ok, served-at}
+use Rattle.outputs.specs.Gathered.{taken_by}
+use Rattle.serve_command.proofs.ServedLemmas.{comes-at}
 use Rattle.serve_command.proofs.serve.serve_in.Goals as goal
 
-pub returns-in-Ok-clause-told : goal.returns-in-Ok-clause-told
-returns-in-Ok-clause-told g c =
-    on-ok c.serve_store.result.0 (λ s held is. served-at (g.S.Store.view c.args.trees).committed c.in-Ok.store held (λ clean. is (c.in-Ok.ensures.clean clean) (c.in-Ok.ensures.was_open clean)) c.in-Ok.ensures.found s)
-    c.serve_store.ensures.told
-
-pub returns-in-Ok-clause-cut : goal.returns-in-Ok-clause-cut
-returns-in-Ok-clause-cut g c =
-    on-err c.serve_store.result.0 (λ cut held is. elim cut [
-      | inl same ↦ inl same
-      | inr s ↦ cut-at (g.S.Store.view c.args.trees).committed c.in-Ok.store held (λ clean. is (c.in-Ok.ensures.clean clean) (c.in-Ok.ensures.was_open clean)) c.in-Ok.ensures.found s
-    ]) c.serve_store.ensures.cut
+pub returns-in-Ok : goal.returns-in-Ok
+returns-in-Ok g c held is =
+    comes-at (g.I.Read.remaining c.args.input.now) (taken_by g.W.Out.taken c.args.client.now.out) (g.I.Read.remaining c.serve_store.new.input) (taken_by g.W.Out.taken c.serve_store.new.client.out)
+    c.serve_store.result.1 (g.S.Store.view c.args.trees).committed c.in-Ok.store held c.serve_store.result.0 (λ clean. is (c.in-Ok.ensures.clean clean) (c.in-Ok.ensures.was_open clean)) c.in-Ok.ensures.found
+    c.serve_store.ensures.yes c.serve_store.ensures.told c.serve_store.ensures.cut

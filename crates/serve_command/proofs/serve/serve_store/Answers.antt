@@ -7,4 +7,4 @@ returns-in-Ok-served-clause-told g c = record { now = c.serve-store.result.0; ar
 
 pub returns-clause-cut : goal.returns-clause-cut
 returns-clause-cut g c =
-    inr (record { now = c.serve-store.result.0; are = c.into_trees-trees.ensures; clean = c.serve-store.ensures.clean; stops = of-err c.serve-store.result.1 c.in-Err.fault c.in-Err.is c.serve-store.ensures.stops })
+    inr (c.fault_of_serving.ensures, record { now = c.serve-store.result.0; are = c.into_trees-trees.ensures; clean = c.serve-store.ensures.clean; stops = of-err c.serve-store.result.1 c.in-Err.fault c.in-Err.is c.serve-store.ensures.stops })
