@@ -1,5 +1,5 @@
 -- What comes of the objects of a new store and the files of their types.
-use Rattle.std.proofs.Common.{◌≡◌, ◌≢◌, ℕ, List, [], map, Option, Some, None, IfSome, OnOk, Result, Ok, Err, inl, inr, refl, subst, ◌∙◌}
+use Rattle.std.proofs.Common.{◌≡◌, ◌≢◌, ℕ, List, [], map, Option, Some, None, IfSome, OnOk, OnErr, Result, Ok, Err, inl, inr, refl, subst, ◌∙◌}
 use Rattle.type_text.specs.declared.type_file.TypeFile.{TypeFile}
 use Rattle.table_checker.specs.Checked.{Checked}
 use Rattle.table_checker.specs.declared.refusal.CheckRefusal.{CheckRefusal}
@@ -19,7 +19,7 @@ use Rattle.store_files.specs.ObjectTypes.{in_type, no_type}
 use Rattle.store_files.specs.Lines.{object_line}
 use Rattle.store_files.specs.Types.{AreFilesAt, Held, IsFirstFaulty}
 use Rattle.store_commands.proofs.Kept.{faulty_kept, files_kept}
-use Rattle.database_commands.specs.Created.{AreFaultyObjects, CreatesStore, DescribesObjects, HasCreateFault, IsMade, Makes}
+use Rattle.database_commands.specs.Created.{AreFaultyObjects, CreatesStore, DescribesObjects, HasCreateFault, IsMade, LeavesWhole, Makes}
 use Rattle.database_commands.proofs.Told.{of_held}
 
 -- ---- the objects
@@ -71,11 +71,21 @@ module _ (holds later : Held) (kept : (other : List ℕ) → later other ≡ hol
 
 -- ---- the file
 
--- what was made in trees that are closed is made at the path
+-- what was made in trees that are published is made at the path
 pub made : {T E : Type 0} (r : Result T E) (clean back : Type 0) (held : Option Trees) (trees : Trees) (files : List TypeFile) (objects : List ObjectLine) (id : List ℕ) (texts : List (List ℕ))
-    → texts ≡ map canonical_text files → (clean → back) → (back → IfSome held (λ db. trees ≡ db)) → OnOk r (back → IsNew id texts objects (contents_of trees))
+    → texts ≡ map canonical_text files → OnOk r (clean → back) → OnOk r (back → IfSome held (λ db. trees ≡ db)) → (back → IsNew id texts objects (contents_of trees))
     → OnOk r (clean → IfSome held (IsMade files objects))
-made (Ok x) clean back held trees files objects id texts same closes holds says = λ is.
-    let b = closes is in
+made (Ok x) clean back held trees files objects id texts same lets_go holds says = λ is.
+    let b = lets_go is in
     of_held held trees (IsMade files objects) (holds b) (id, subst (λ (ts : List (List ℕ)). IsNew id ts objects (contents_of trees)) same (says b))
-made (Err e) clean back held trees files objects id texts same closes holds says = tt
+made (Err e) clean back held trees files objects id texts same lets_go holds says = tt
+
+-- where it isn't, the path has what it had
+pub kept : {T E : Type 0} (r : Result T E) (before between after : Option Trees) → OnErr r (after ≡ between) → between ≡ before → OnErr r (after ≡ before)
+kept (Ok x) before between after same earlier = tt
+kept (Err e) before between after same earlier = same ∙ earlier
+
+-- a file that is made is whole
+pub is_whole : (clean : Type 0) (before after : Option Trees) (files : List TypeFile) (objects : List ObjectLine) → (clean → IfSome after (IsMade files objects)) → LeavesWhole clean before after
+is_whole clean before None files objects made = inr (λ is. tt)
+is_whole clean before (Some db) files objects made = inr (λ is. (files, objects, made is))

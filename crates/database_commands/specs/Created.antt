@@ -52,6 +52,10 @@ CreatesStore clean made holds path words Yes text =
 CreatesStore clean made holds path words No text =
     (objects : List ObjectLine) × IfSome (holds path) (λ text. DescribesObjects text objects) × SaysRefused holds words objects text
 
+-- the path holds what it held, or the file of a new store as a whole
+abbrev pub LeavesWhole : Type 0 → Option Trees → Option Trees → Type 0
+LeavesWhole clean before after = (after ≡ before) ⊎ (clean → IfSome after (λ db. (files : List TypeFile) × (objects : List ObjectLine) × IsMade files objects db))
+
 -- the objects have a fault; or they have none, and a type's text has one, or an object names no type
 abbrev pub HasCreateFault : Held → List ℕ → List (List ℕ) → Type 0
 HasCreateFault = HasFault DescribesObjects AreFaultyObjects (λ (objects : List ObjectLine). objects)

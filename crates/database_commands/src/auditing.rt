@@ -9,10 +9,10 @@ ghost use Rattle.command_files.specs.Answers.{Comes, Refuses};
 ghost use Rattle.database_commands.specs.Audited.{Audits, AuditsDatabase, IsVerdictOf};
 ghost use Rattle.command_files.specs.declared.fault.Fault.TheVariants.{NoMemory};
 
-use crate::faults::{fault_of_journal, fault_of_open};
+use crate::faults::{fault_of_journal, fault_of_open, fault_of_unopened};
 use crate::history::events_of;
 use command_files::{Fault, Verdict, put_answer};
-use database_files::Databases;
+use database_files::{Databases, TornWrites};
 use durable_store::file_types;
 use history_audit::{Audit, AuditFault};
 use journal::{FileContents, Journal};
@@ -56,13 +56,13 @@ fn audit_at<'a, D: Databases>(
     ensures told { IfOk result (λ audited. AuditsDatabase (D.is_clean databases.new) (D.holds databases.old path.now) audited.verdict audited.text.items) }
     ensures refused { IfErr result (Refuses ⊤) }
 {
-    match databases.open(path) {
+    match databases.open(path, TornWrites::AnyBytes) {
         Ok(trees) => {
             let (audited, trees) = audit_in(alloc, path, trees);
             databases.close(path, trees);
             audited
         }
-        Err(fault) => Err(Fault::of_database(path, fault)),
+        Err(fault) => Err(fault_of_unopened(path, fault)),
     }
 }
 

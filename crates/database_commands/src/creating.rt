@@ -1,13 +1,13 @@
 //! `create`: the file of a new store.
 
-ghost use Rattle.std.specs.Prelude.{◌≡◌, ◌≢◌, ℕ, List, [], true, false, None, map, IfOk, IfErr, IfSome, IsTrue, OnOk};
+ghost use Rattle.std.specs.Prelude.{◌≡◌, ◌≢◌, ℕ, List, [], true, false, None, map, IfOk, IfErr, IfSome, IsTrue, OnOk, OnErr};
 ghost use Rattle.sqlite_trees.specs.View.{IsClean};
 ghost use Rattle.journal.specs.Contents.{contents_of};
 ghost use Rattle.durable_store.specs.Created.{IsNew};
 ghost use Rattle.type_text.specs.Canonical.{canonical_text};
 ghost use Rattle.command_files.specs.Answers.{Comes, Refuses};
 ghost use Rattle.command_files.specs.declared.fault.Fault.TheVariants.{NoMemory};
-ghost use Rattle.database_commands.specs.Created.{AreFaultyObjects, CreatesStore, DescribesObjects, FindsAmong, HasCreateFault, IsMade, Makes};
+ghost use Rattle.database_commands.specs.Created.{AreFaultyObjects, CreatesStore, DescribesObjects, FindsAmong, HasCreateFault, IsMade, LeavesWhole, Makes};
 
 use crate::faults::fault_of_making;
 use command_files::{Fault, Source, Verdict, put_answer, read_file};
@@ -33,13 +33,13 @@ pub struct NewStore<'a, 'w> {
 }
 
 /// `create DATABASE OBJECTS TYPE...`: the objects are read and then the types, each parsed before the next is opened;
-/// object by object, its place is tested and its type is checked; and then the file is made. Its texts of types are
-/// the canonical ones.
+/// object by object, its place is tested and its type is checked; and then the file is made, and put at its path when
+/// it is whole. Its texts of types are the canonical ones.
 ///
 /// # Errors
 ///
 /// A text has a fault or can't be read, the objects have events, no TYPE word is at an object's place, the database
-/// isn't made, memory was refused, or the output failed.
+/// isn't made, memory was refused, or the output failed. Only behind the last one there may be a new file at the path.
 pub fn create_store<'a, S: Source, D: Databases, W: Out>(
     alloc: Global,
     asked: NewStore<'a, '_>,
@@ -48,9 +48,10 @@ pub fn create_store<'a, S: Source, D: Databases, W: Out>(
     out: &mut W,
 ) -> Result<Verdict, Fault<'a>>
     requires { W.fault out.old ≡ None }
-    ensures { let words = map (λ p. p.now) asked.entry.types.now in let holds = S.holds source.old in
+    ensures comes { let words = map (λ p. p.now) asked.entry.types.now in let holds = S.holds source.old in
         Comes (CreatesStore (D.is_clean databases.new) (D.holds databases.new asked.entry.database.now) holds asked.entry.objects.now words)
         (HasCreateFault holds asked.entry.objects.now words) result (W.taken out.old) (W.taken out.new) }
+    ensures whole { LeavesWhole (D.is_clean databases.new) (D.holds databases.old asked.entry.database.now) (D.holds databases.new asked.entry.database.now) }
 {
     let objects = read_objects(alloc, asked.objects, source)?;
     let files = read_types(alloc, asked.types, source)?;
@@ -128,7 +129,8 @@ fn make_at<'a, D: Databases, W: Out>(
     out: &mut W,
 ) -> Result<Verdict, Fault<'a>>
     requires { W.fault out.old ≡ None }
-    ensures { Comes (Makes (D.is_clean databases.new) (D.holds databases.new path.now) files.now objects.items) ⊥ result (W.taken out.old) (W.taken out.new) }
+    ensures comes { Comes (Makes (D.is_clean databases.new) (D.holds databases.new path.now) files.now objects.items) ⊥ result (W.taken out.old) (W.taken out.new) }
+    ensures whole { LeavesWhole (D.is_clean databases.new) (D.holds databases.old path.now) (D.holds databases.new path.now) }
 {
     make_store(alloc, path, files, objects, databases)?;
     put_answer(Verdict::Yes, b"", out)
@@ -136,7 +138,8 @@ fn make_at<'a, D: Databases, W: Out>(
 
 /// Bytes that tell a new store from every other.
 fn new_id<'a, D: Databases>(path: &'a str, databases: &mut D) -> Result<[u8; 16], Fault<'a>>
-    ensures { IfErr result (Refuses ⊥) }
+    ensures refused { IfErr result (Refuses ⊥) }
+    ensures kept { D.holds databases.new path.now ≡ D.holds databases.old path.now }
 {
     match databases.id() {
         Ok(id) => Ok(id),
@@ -144,7 +147,19 @@ fn new_id<'a, D: Databases>(path: &'a str, databases: &mut D) -> Result<[u8; 16]
     }
 }
 
-/// Makes the file of a new store at a path.
+/// The trees of a new database for a path.
+fn new_trees<'a, D: Databases>(path: &'a str, databases: &mut D) -> Result<D::Opened, Fault<'a>>
+    ensures numbered { IfOk result (λ trees. IsClean (D.Opened.Store.view trees) → IsTrue (D.Opened.Store.view trees).is_numbered) }
+    ensures refused { IfErr result (Refuses ⊥) }
+    ensures kept { D.holds databases.new path.now ≡ D.holds databases.old path.now }
+{
+    match databases.create(path) {
+        Ok(trees) => Ok(trees),
+        Err(fault) => Err(Fault::of_database(path, fault)),
+    }
+}
+
+/// Makes the file of a new store at a path. Where it isn't made the path has what it had.
 fn make_store<'a, D: Databases>(
     alloc: Global,
     path: &'a str,
@@ -153,17 +168,18 @@ fn make_store<'a, D: Databases>(
     databases: &mut D,
 ) -> Result<(), Fault<'a>>
     ensures made { OnOk result (D.is_clean databases.new → IfSome (D.holds databases.new path.now) (IsMade files.now objects.items)) }
+    ensures kept { OnErr result (D.holds databases.new path.now ≡ D.holds databases.old path.now) }
     ensures refused { IfErr result (Refuses ⊥) }
 {
     let texts = texts_of(alloc, files)?;
     let id = new_id(path, databases)?;
-    match databases.create(path) {
-        Ok(trees) => {
-            let (made, trees) = make_in(alloc, path, trees, id, texts, objects);
-            databases.close(path, trees);
-            made
+    let trees = new_trees(path, databases)?;
+    match make_in(alloc, path, trees, id, texts, objects) {
+        Ok(trees) => publish(path, trees, databases),
+        Err((fault, trees)) => {
+            databases.discard(path, trees);
+            Err(fault)
         }
-        Err(fault) => Err(Fault::of_database(path, fault)),
     }
 }
 
@@ -175,15 +191,32 @@ fn make_in<'a, S: Alter>(
     id: [u8; 16],
     texts: Vec<TypeText>,
     objects: Vec<ObjectLine>,
-) -> (Result<(), Fault<'a>>, S)
+) -> Result<S, (Fault<'a>, S)>
     requires { IsClean (S.Store.view trees) → IsTrue (S.Store.view trees).is_numbered }
-    ensures made { OnOk result.0 (IsClean (S.Store.view result.1) → IsNew id texts.items objects.items (contents_of (S.Store.view result.1).committed)) }
-    ensures is_open { OnOk result.0 (IsClean (S.Store.view result.1) → IsTrue (S.Store.view result.1).is_open) }
-    ensures refused { IfErr result.0 (Refuses ⊥) }
+    ensures made { IfOk result (λ trees. IsClean (S.Store.view trees) → IsNew id texts.items objects.items (contents_of (S.Store.view trees).committed)) }
+    ensures is_open { IfOk result (λ trees. IsClean (S.Store.view trees) → IsTrue (S.Store.view trees).is_open) }
+    ensures refused { IfErr result (λ e. Refuses ⊥ e.0) }
 {
     match create(alloc, trees, id, texts, objects) {
-        Ok(trees) => (Ok(()), trees),
-        Err((error, trees)) => (Err(fault_of_making(path, error)), trees),
+        Ok(trees) => Ok(trees),
+        Err((error, trees)) => Err((fault_of_making(path, error), trees)),
+    }
+}
+
+/// Puts what was made in these trees at a path.
+fn publish<'a, D: Databases>(
+    path: &'a str,
+    trees: D::Opened,
+    databases: &mut D,
+) -> Result<(), Fault<'a>>
+    ensures clean { OnOk result (D.is_clean databases.new → IsClean (D.Opened.Store.view trees)) }
+    ensures held { OnOk result (IsClean (D.Opened.Store.view trees) → IfSome (D.holds databases.new path.now) (λ db. (D.Opened.Store.view trees).committed ≡ db)) }
+    ensures kept { OnErr result (D.holds databases.new path.now ≡ D.holds databases.old path.now) }
+    ensures refused { IfErr result (Refuses ⊥) }
+{
+    match databases.publish(path, trees) {
+        Ok(()) => Ok(()),
+        Err(fault) => Err(Fault::of_database(path, fault)),
     }
 }
 

@@ -4,11 +4,22 @@ ghost use Rattle.std.specs.Prelude.{⊤};
 ghost use Rattle.command_files.specs.Answers.{Refuses};
 
 use command_files::{DatabaseFault, Fault};
+use database_files::OpenFault;
 use durable_store::OpenError;
 use journal::JournalError;
 use sqlite_trees::error::StoreError;
 
-/// Why a database isn't opened as that of a store.
+/// Why a database isn't opened.
+pub fn fault_of_unopened<'a>(path: &'a str, fault: OpenFault) -> Fault<'a>
+    ensures { Refuses ⊤ result }
+{
+    match fault {
+        OpenFault::NoDatabase => Fault::NoStore { path },
+        OpenFault::Database(fault) => Fault::of_database(path, fault),
+    }
+}
+
+/// Why a database that was opened isn't one of a store.
 pub fn fault_of_open<'a>(path: &'a str, error: OpenError) -> Fault<'a>
     ensures { Refuses ⊤ result }
 {

@@ -9,9 +9,9 @@ ghost use Rattle.command_files.specs.Answers.{Comes, Refuses};
 ghost use Rattle.command_files.specs.declared.fault.Fault.TheVariants.{NoMemory};
 ghost use Rattle.database_commands.specs.History.{TellsHistory, history_text};
 
-use crate::faults::fault_of_journal;
+use crate::faults::{fault_of_journal, fault_of_unopened};
 use command_files::{Fault, Verdict, put_answer};
-use database_files::Databases;
+use database_files::{Databases, TornWrites};
 use history_text::write_history;
 use journal::{FileContents, Journal};
 use object_trait::{Event, EventKind};
@@ -48,13 +48,13 @@ fn history_at<'a, D: Databases>(
         → IfSome (D.holds databases.old path.now) (λ db. text.items ≡ history_text (contents_of db))) }
     ensures refused { IfErr result (Refuses ⊤) }
 {
-    match databases.open(path) {
+    match databases.open(path, TornWrites::AnyBytes) {
         Ok(trees) => {
             let (text, trees) = history_in(alloc, path, trees);
             databases.close(path, trees);
             text
         }
-        Err(fault) => Err(Fault::of_database(path, fault)),
+        Err(fault) => Err(fault_of_unopened(path, fault)),
     }
 }
 

@@ -8,5 +8,5 @@ mod history;
 
 pub use auditing::audit_database;
 pub use creating::{NewStore, create_store};
-pub use faults::{fault_of_file, fault_of_open};
+pub use faults::{fault_of_file, fault_of_open, fault_of_unopened};
 pub use history::tell_history;

@@ -1,9 +1,11 @@
 //! Where the databases of the commands come from.
 
-ghost use Rattle.std.specs.Prelude.{◌≡◌, ℕ, List, Option, IfOk, IfSome, IsTrue};
+ghost use Rattle.std.specs.Prelude.{◌≡◌, ℕ, List, Option, IfOk, IfSome, IsTrue, OnOk, OnErr};
 ghost use Rattle.sqlite_trees.specs.Tree.{Trees};
 ghost use Rattle.sqlite_trees.specs.View.{IsClean};
 
+use crate::open_fault::OpenFault;
+use crate::torn_writes::TornWrites;
 use command_files::DatabaseFault;
 use sqlite::Alter;
 
@@ -18,18 +20,36 @@ pub trait Databases {
     /// No wrong answer of a disk was taken as true; over the system's files nothing says so.
     ghost is_clean: { Self → Type 0 };
 
-    /// The trees of the database at a path, as its last commit left them.
-    fn open(&mut self, path: &str) -> Result<Self::Opened, DatabaseFault>
+    /// The trees of the database at a path, as its last commit left them. Of their commits it is supposed that the
+    /// machine's torn writes leave no more than `torn` says.
+    fn open(&mut self, path: &str, torn: TornWrites) -> Result<Self::Opened, OpenFault>
         ensures numbered { IfOk result (λ trees. IsClean (Self.Opened.Store.view trees) → IsTrue (Self.Opened.Store.view trees).is_numbered) }
         ensures held { IfOk result (λ trees. IsClean (Self.Opened.Store.view trees) → IsTrue (Self.Opened.Store.view trees).is_open
             → IfSome (holds self.old path.now) (λ db. (Self.Opened.Store.view trees).committed ≡ db)) };
 
-    /// The trees of a new database at a path, of which there are none yet.
+    /// The trees of a new database for a path, of which there are none yet. The path has nothing before they are
+    /// published.
     fn create(&mut self, path: &str) -> Result<Self::Opened, DatabaseFault>
-        ensures numbered { IfOk result (λ trees. IsClean (Self.Opened.Store.view trees) → IsTrue (Self.Opened.Store.view trees).is_numbered) };
+        ensures numbered { IfOk result (λ trees. IsClean (Self.Opened.Store.view trees) → IsTrue (Self.Opened.Store.view trees).is_numbered) }
+        ensures kept { (other : List ℕ) → holds self.new other ≡ holds self.old other };
 
     /// Bytes that tell a new database from every other.
-    fn id(&mut self) -> Result<[u8; 16], DatabaseFault>;
+    fn id(&mut self) -> Result<[u8; 16], DatabaseFault>
+        ensures kept { (other : List ℕ) → holds self.new other ≡ holds self.old other };
+
+    /// Puts what is committed in the trees of a new database at its path in one step, and lets go of them.
+    ///
+    /// # Errors
+    ///
+    /// `Present` where something has come to the path since, `Failed` or `NoMemory`. The path has what it had.
+    fn publish(&mut self, path: &str, trees: Self::Opened) -> Result<(), DatabaseFault>
+        ensures clean { OnOk result (is_clean self.new → IsClean (Self.Opened.Store.view trees)) }
+        ensures held { OnOk result (IsClean (Self.Opened.Store.view trees) → IfSome (holds self.new path.now) (λ db. (Self.Opened.Store.view trees).committed ≡ db)) }
+        ensures kept { OnErr result ((other : List ℕ) → holds self.new other ≡ holds self.old other) };
+
+    /// Lets go of the trees of a new database, which isn't published.
+    fn discard(&mut self, path: &str, trees: Self::Opened)
+        ensures kept { (other : List ℕ) → holds self.new other ≡ holds self.old other };
 
     /// Lets go of the trees of the database at a path.
     fn close(&mut self, path: &str, trees: Self::Opened)

@@ -3,34 +3,37 @@
 ghost use Rattle.std.specs.Prelude.{None};
 
 use crate::databases::Databases;
-use crate::faults::fault_of_system;
-use crate::files::{create_files, open_files};
+use crate::faults::{fault_of_system, fault_of_trees};
+use crate::files::{ChosenFile, create_files, open_files};
+use crate::new_files::{publish_new, remove_new};
+use crate::open_fault::OpenFault;
+use crate::torn_writes::TornWrites;
 use command_files::DatabaseFault;
-use sqlite::{FileFrom, FileStore, Wary};
+use sqlite::{FileStore, Unknown};
+use sqlite_trees::store::Store;
 use std::fs::File;
 use std::io;
 use std::io::Read;
 
-/// The databases in the files that a runtime reaches. Of a page that was torn or lost when the machine stopped nothing
-/// is taken for granted.
+/// The databases in the files that a runtime reaches.
 #[derive(Drop)]
 pub struct FileDatabases<'a> {
     pub runtime: &'a HostRuntime,
 }
 
 impl Databases for FileDatabases<'_> {
-    type Opened = FileStore<FileFrom<Wary>>;
+    type Opened = FileStore<ChosenFile<Unknown>>;
 
     ghost holds = { λ _ _. None };
 
     ghost is_clean = { λ _. ⊥ };
 
-    fn open(&mut self, path: &str) -> Result<Self::Opened, DatabaseFault> {
-        open_files(self.runtime, path, Wary)
+    fn open(&mut self, path: &str, torn: TornWrites) -> Result<Self::Opened, OpenFault> {
+        open_files(self.runtime, path, Unknown, torn)
     }
 
     fn create(&mut self, path: &str) -> Result<Self::Opened, DatabaseFault> {
-        create_files(self.runtime, path, Wary)
+        create_files(self.runtime, path, Unknown)
     }
 
     fn id(&mut self) -> Result<[u8; 16], DatabaseFault> {
@@ -40,7 +43,30 @@ impl Databases for FileDatabases<'_> {
         }
     }
 
-    fn close(&mut self, _path: &str, _trees: Self::Opened) {}
+    /// What was committed is moved from the log into the file first, which is put at the path alone. The file is held
+    /// until its other name is gone.
+    fn publish(&mut self, path: &str, trees: Self::Opened) -> Result<(), DatabaseFault> {
+        let mut trees = trees;
+        trees.rollback();
+        let published = match trees.checkpoint() {
+            Ok(()) => publish_new(self.runtime, path),
+            Err(error) => Err(fault_of_trees(error)),
+        };
+        remove_new(self.runtime, path);
+        published
+    }
+
+    fn discard(&mut self, path: &str, _trees: Self::Opened) {
+        remove_new(self.runtime, path);
+    }
+
+    /// What was committed is moved from the log into the file, so that a store at rest needs no log. Where that fails it
+    /// stays in the log, from which an open takes it.
+    fn close(&mut self, _path: &str, trees: Self::Opened) {
+        let mut trees = trees;
+        trees.rollback();
+        let _ = trees.checkpoint();
+    }
 }
 
 /// Bytes of the system's source of random ones.

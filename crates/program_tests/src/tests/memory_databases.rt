@@ -1,16 +1,18 @@
 //! Databases that are held in memory, for tests.
 
-ghost use Rattle.std.specs.Prelude.{None};
+ghost use Rattle.std.specs.Prelude.{IfSome, option_map};
+ghost use Rattle.sqlite_trees.specs.Memory.{memory_view};
+ghost use Rattle.sqlite_trees.specs.View.{IsClean};
 
 use command_files::DatabaseFault;
-use database_files::Databases;
+use database_files::{Databases, OpenFault, TornWrites};
 use journal::Journal;
 use object_trait::EventKind;
 use sqlite_trees::memory::MemStore;
 use std::alloc::Global;
 use std::test::Fail;
 
-/// At most one database, at any path.
+/// At most one database, at any path. They tell what they hold, and no disk can lie to them.
 #[derive(Drop)]
 pub struct MemoryDatabases {
     alloc: Global,
@@ -33,7 +35,7 @@ impl MemoryDatabases {
 
     /// Writes an event behind the others of the store in its database, also one that no command makes.
     pub fn write(&mut self, event: EventKind) -> Result<(), Fail> {
-        let trees = self.open("")?;
+        let trees = self.open("", TornWrites::AnyBytes)?;
         match Journal::open(self.alloc, trees) {
             Ok((mut journal, _)) => {
                 journal.append(event)?;
@@ -49,14 +51,14 @@ impl MemoryDatabases {
 impl Databases for MemoryDatabases {
     type Opened = MemStore;
 
-    ghost holds = { λ _ _. None };
+    ghost holds = { λ d _. option_map (λ s. (memory_view s).committed) d.held };
 
-    ghost is_clean = { λ _. ⊥ };
+    ghost is_clean = { λ d. IfSome d.held (λ s. IsClean (memory_view s)) };
 
-    fn open(&mut self, _path: &str) -> Result<MemStore, DatabaseFault> {
+    fn open(&mut self, _path: &str, _torn: TornWrites) -> Result<MemStore, OpenFault> {
         match self.held.take() {
             Some(trees) => Ok(trees),
-            None => Err(DatabaseFault::Missing),
+            None => Err(OpenFault::Database(DatabaseFault::Missing)),
         }
     }
 
@@ -73,6 +75,16 @@ impl Databases for MemoryDatabases {
     fn id(&mut self) -> Result<[u8; 16], DatabaseFault> {
         Ok([7; 16])
     }
+
+    fn publish(&mut self, _path: &str, trees: MemStore) -> Result<(), DatabaseFault> {
+        if self.held.is_some() {
+            return Err(DatabaseFault::Present);
+        }
+        self.held = Some(trees);
+        Ok(())
+    }
+
+    fn discard(&mut self, _path: &str, _trees: MemStore) {}
 
     fn close(&mut self, _path: &str, trees: MemStore) {
         self.held = Some(trees);

@@ -9,16 +9,16 @@ use Rattle.store_commands.proofs.Exits.{exits_early}
 use Rattle.database_commands.proofs.NewStores.{created, refused, type_fault, unplaced}
 use Rattle.database_commands.proofs.creating.create_store.Goals as goal
 
-pub returns-in_err-files : goal.returns-in_err-files
-returns-in_err-files g c =
+pub returns-in_err-files-clause-comes : goal.returns-in_err-files-clause-comes
+returns-in_err-files-clause-comes g c =
     let words = map (λ p. p.now) c.args.asked.types.now in
     exits_early _ _ _ _ _ c.from_residual-in_err-files.result c.in_err-files.field-0.0 _ c.from_residual-in_err-files.ensures.1
     (type_fault (g.S.Source.holds c.args.source.now) (g.S.Source.holds c.read_objects.new.source) c.in_ok-objects.ensures.kept c.args.asked.objects.now words c.in_ok-objects.objects.items
     c.in_ok-objects.ensures.read)
     c.in_err-files.ensures.refused
 
-pub returns-in_err-found : goal.returns-in_err-found
-returns-in_err-found g c =
+pub returns-in_err-found-clause-comes : goal.returns-in_err-found-clause-comes
+returns-in_err-found-clause-comes g c =
     let words = map (λ p. p.now) c.args.asked.types.now in
     let e = c.in_err-found.field-0.0 in
     exits_early _ _ _ _ _ c.from_residual-in_err-found.result e _ c.from_residual-in_err-found.ensures.1
@@ -27,8 +27,8 @@ returns-in_err-found g c =
     (subst (λ (fs : List TypeFile). FindsAmong fs c.in_ok-objects.objects.items (Err e)) c.deref.ensures.value
     (subst (λ (os : List ObjectLine). FindsAmong c.deref.result.now os (Err e)) c.deref-2.ensures.value c.in_err-found.ensures))
 
-pub returns-in-Accepted : goal.returns-in-Accepted
-returns-in-Accepted g c =
+pub returns-in-Accepted-clause-comes : goal.returns-in-Accepted-clause-comes
+returns-in-Accepted-clause-comes g c =
     let words = map (λ p. p.now) c.args.asked.types.now in
     let objects = c.in_ok-objects.objects.items in
     let files = c.in_ok-files.files.items in
@@ -41,10 +41,10 @@ returns-in-Accepted g c =
     (λ v text makes. created (g.S.Source.holds c.args.source.now) (g.S.Source.holds c.read_objects.new.source) c.in_ok-objects.ensures.kept c.args.asked.objects.now words objects
     c.in_ok-objects.ensures.read files c.in_ok-files.ensures.read clean made (map value_of c.in-Accepted.field-0.items) are v text
     (subst (λ (fs : List TypeFile). Makes clean made fs objects v text) c.deref-in-Accepted.ensures.value makes))
-    (λ none. absurd none) c.make_at.ensures
+    (λ none. absurd none) c.make_at.ensures.comes
 
-pub returns : goal.returns
-returns g c =
+pub returns-clause-comes : goal.returns-clause-comes
+returns-clause-comes g c =
     let words = map (λ p. p.now) c.args.asked.types.now in
     let objects = c.in_ok-objects.objects.items in
     let files = c.in_ok-files.files.items in

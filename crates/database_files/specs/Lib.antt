@@ -1,0 +1,2 @@
+pub mod ChosenDisk
+pub mod TornWrites
