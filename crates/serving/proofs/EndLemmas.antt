@@ -8,6 +8,7 @@ use Rattle.sqlite_trees.specs.declared.store.Store.{Ghosts}
 use Rattle.journal.specs.Journal.{Clean, written}
 use Rattle.durable_store.specs.declared.durable.Durable.{Durable}
 use Rattle.request_text.specs.declared.request.Asked.{Asked}
+use Rattle.serving.specs.Archives.{KeptHistory}
 use Rattle.serving.specs.Epochs.{LeavesEpochs, WritesEpochs}
 use Rattle.serving.specs.declared.session.Session.{Session}
 use Rattle.serving.specs.declared.server.Server.{Server}
@@ -17,15 +18,23 @@ use Rattle.serving.specs.Served.{Serves}
 use Rattle.serving.specs.Told.{AppendsPart, answers_text, greeting}
 use Rattle.serving.specs.Serving.{life_of}
 use Rattle.serving.specs.Whole.{ServesClient, StopsServing, session_of}
-use Rattle.serving.proofs.Lasting.{left-then}
+use Rattle.serving.proofs.Lasting.{left-then, writes-on}
 use Rattle.serving.proofs.Groups.{part-then}
 use Rattle.serving.proofs.Telling.{part-of-whole}
 
 -- a server that served a store, and then its end
-pub left-served : {S : Type 0} (g : Ghosts S) {began old mid d : Durable S} (new : Durable S) → old ≡ began → d ≡ mid → (Clean g mid.journal → Clean g old.journal) → WritesEpochs g old mid → LeavesEpochs g old mid
-    → LeavesEpochs g d new → LeavesEpochs g began new
-left-served {S} g {began} {old} {mid} {d} new is_old is_mid clean wrote first second =
-    subst (λ (x : Durable S). LeavesEpochs g x new) is_old (left-then g old mid new clean wrote first (subst (λ (x : Durable S). LeavesEpochs g x new) is_mid second))
+pub writes-served : {S E : Type 0} (g : Ghosts S) {began old mid d : Durable S} (new : Durable S) (kept kept_mid kept_now : Option (List KeptHistory)) (r : Result (Unit {0}) E) → old ≡ began → d ≡ mid
+    → (Clean g new.journal → Clean g d.journal) → WritesEpochs g old mid kept kept_mid → OnOk r (WritesEpochs g d new kept_mid kept_now) → OnOk r (WritesEpochs g began new kept kept_now)
+writes-served {S} {E} g {began} {old} {mid} {d} new kept kept_mid kept_now (Ok u) is_old is_mid clean first second =
+    subst (λ (x : Durable S). WritesEpochs g x new kept kept_now) is_old
+    (writes-on g old mid new kept kept_mid kept_now (subst (λ (x : Durable S). Clean g new.journal → Clean g x.journal) is_mid clean) first (subst (λ (x : Durable S). WritesEpochs g x new kept_mid kept_now) is_mid second))
+writes-served g new kept kept_mid kept_now (Err e) is_old is_mid clean first second = tt
+
+pub left-served : {S : Type 0} (g : Ghosts S) {began old mid d : Durable S} (new : Durable S) (kept kept_mid kept_now : Option (List KeptHistory)) → old ≡ began → d ≡ mid → (Clean g mid.journal → Clean g old.journal)
+    → WritesEpochs g old mid kept kept_mid → LeavesEpochs g old mid kept kept_mid → LeavesEpochs g d new kept_mid kept_now → LeavesEpochs g began new kept kept_now
+left-served {S} g {began} {old} {mid} {d} new kept kept_mid kept_now is_old is_mid clean wrote first second =
+    subst (λ (x : Durable S). LeavesEpochs g x new kept kept_now) is_old
+    (left-then g old mid new kept kept_mid kept_now clean wrote first (subst (λ (x : Durable S). LeavesEpochs g x new kept_mid kept_now) is_mid second))
 
 -- ---- what was told
 

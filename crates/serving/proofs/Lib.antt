@@ -1,8 +1,10 @@
 pub mod Following
 pub mod ByteByByte
+pub mod Keeping
 pub mod Lasting
 pub mod Serving
 pub mod Telling
 pub mod Listed
+pub mod Closing
 pub mod Groups
 pub mod EndLemmas

@@ -111,7 +111,7 @@ line-answered {S} {g} {began} {told} {bytes} {old} {new} b is none clear other d
           subst (λ ended. Serves most file began.life served.lines began.store.store (told ++ old.answers.items) old.session.life old.session.store.store ended) none (served.serves before) in
           let answered : IsAnswered most old.session.life file served.half old.session.store.store does.a new.session.store.store =
           answered-before most old.session.life file (written g old.session.store.journal) old.line.items served.half old.session.store.store does.a new.session.store.store
-          (reaches-same (served.lasts.reaches before)) same
+          (reaches-same (served.lasts.reaches before).1) same
           (subst (λ n. IsAnswered n old.session.life (written g old.session.store.journal) old.line.items old.session.store.store does.a new.session.store.store) served.lasts.most (does.answered clean)) in
           let ends : asks_end served.half ≡ false = ap (λ (x : Asked). is_end x.request) (sym same) ∙ other in
           let ended : new.end ≡ None = ap (λ (s : Server S). s.end) does.others ∙ none in

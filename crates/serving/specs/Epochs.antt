@@ -1,5 +1,5 @@
 -- Epoch after epoch.
-use Rattle.std.specs.Prelude.{◌⊎◌, ◌++◌}
+use Rattle.std.specs.Prelude.{◌⊎◌, List, [], ◌∷◌, ◌++◌, Option}
 use Rattle.sqlite_trees.specs.declared.store.Store.{Ghosts}
 use Rattle.sqlite_trees.specs.Tree.{Trees}
 use Rattle.store_laws.specs.Stored.{Stored}
@@ -10,23 +10,28 @@ use Rattle.journal.specs.Journal.{Clean, may_leave, written}
 use Rattle.durable_store.specs.declared.durable.Durable.{Durable}
 use Rattle.durable_store.specs.Epochs.{renewed}
 use Rattle.durable_store.specs.Recovered.{IsStoreOf}
+use Rattle.serving.specs.Archives.{KeepsAtLeast, KeepsEpochs, KeptHistory}
 use Rattle.serving.specs.Follows.{Follows}
 
 -- with an abort of each transaction that was open
 abbrev pub aborted : Stored → Stored
 aborted s = record s { history = s.history ++ closing s.history }
 
--- what a file comes to: events follow, or it begins anew at the states that the store of what it says has kept
-pub data Reaches (c : Contents) : Contents → Type 0 where
-  none : Reaches c c
-  events : (mid new : Contents) → Reaches c mid → Follows mid new → Reaches c new
-  epoch : (mid : Contents) (old new : Stored) → Reaches c mid → IsStoreOf mid old → Renews old new → Reaches c (renewed mid new.types)
+-- what a file comes to: events follow, or it begins anew at the states that the store of what it says has kept; and what it said at the end of
+-- each epoch that is over, in their order
+pub data Reaches (c : Contents) : List Contents → Contents → Type 0 where
+  none : Reaches c [] c
+  events : (ended : List Contents) (mid new : Contents) → Reaches c ended mid → Follows mid new → Reaches c ended new
+  epoch : (ended : List Contents) (mid : Contents) (old new : Stored) → Reaches c ended mid → IsStoreOf mid old → Renews old new → Reaches c (ended ++ mid ∷ []) (renewed mid new.types)
 
--- a crash leaves what it could have left before, or what the file came to from what was written then
-abbrev pub LeavesEpochs : {S : Type 0} (g : Ghosts S) → Durable S → Durable S → Type 0
-LeavesEpochs g old new = (db : Trees) → may_leave g new.journal db
-    → (Clean g old.journal × IsFile db × Reaches (written g old.journal) (contents_of db)) ⊎ may_leave g old.journal db
+-- a crash leaves what it could have left before, or what the file came to from what was written then; an archive that kept these histories now
+-- keeps, behind them, those of all epochs that are over
+abbrev pub LeavesEpochs : {S : Type 0} (g : Ghosts S) → Durable S → Durable S → Option (List KeptHistory) → Option (List KeptHistory) → Type 0
+LeavesEpochs g old new kept kept_now = (db : Trees) → may_leave g new.journal db
+    → (Clean g old.journal × IsFile db × ((ended : List Contents) × Reaches (written g old.journal) ended (contents_of db) × KeepsAtLeast kept kept_now ended))
+    ⊎ (may_leave g old.journal db × KeepsAtLeast kept kept_now [])
 
--- what is written is what the file came to
-abbrev pub WritesEpochs : {S : Type 0} (g : Ghosts S) → Durable S → Durable S → Type 0
-WritesEpochs g old new = Clean g new.journal → Reaches (written g old.journal) (written g new.journal)
+-- what is written is what the file came to, and the archive keeps the histories of the epochs that are over since, and nothing else since
+abbrev pub WritesEpochs : {S : Type 0} (g : Ghosts S) → Durable S → Durable S → Option (List KeptHistory) → Option (List KeptHistory) → Type 0
+WritesEpochs g old new kept kept_now =
+    Clean g new.journal → (ended : List Contents) × Reaches (written g old.journal) ended (written g new.journal) × KeepsEpochs kept kept_now ended

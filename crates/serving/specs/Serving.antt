@@ -31,14 +31,14 @@ pub record GoesOn {S : Type 0} (g : Ghosts S) (old new : Session S) : Type 0 whe
   pub clean : Clean g new.store.journal → Clean g old.store.journal
   pub crash : LeavesMore g old.store new.store
 
--- the same, epoch after epoch
+-- the same, epoch after epoch; what an archive keeps of them is told beside it
 pub record Lasts {S : Type 0} (g : Ghosts S) (old new : Session S) : Type 0 where
   pub sound : IsDurable g new.store
   pub named : new.life ≡ life_of new.store
   pub most : new.most_events ≡ old.most_events
-  pub reaches : WritesEpochs g old.store new.store
+  pub reaches : WritesEpochs g old.store new.store None None
   pub clean : Clean g new.store.journal → Clean g old.store.journal
-  pub crash : LeavesEpochs g old.store new.store
+  pub crash : LeavesEpochs g old.store new.store None None
 
 -- since it began, its client has asked these bytes; the answers that it was told, and those that wait, are those of a store
 pub record HasServed {S : Type 0} (g : Ghosts S) (began : Session S) (told : List Answered) (bytes : List ℕ) (now : Server S) : Type 0 where

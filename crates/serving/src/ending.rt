@@ -3,16 +3,21 @@
 ghost use Rattle.std.specs.Prelude.{◌≡◌, [], ◌∷◌, None, OnErr, OnOk};
 ghost use Rattle.std.specs.Result.{result_err};
 ghost use Rattle.std.specs.Io.KnownBytes.{Appends};
+ghost use Rattle.store.specs.Ends.{closing};
 ghost use Rattle.store.specs.Renews.{Renews};
 ghost use Rattle.outputs.specs.Gathered.{taken_by, under};
 ghost use Rattle.journal.specs.Journal.{Clean, ShowsCommit, durable, written};
-ghost use Rattle.durable_store.specs.Durable.{IsDurable};
+ghost use Rattle.durable_store.specs.Durable.{IsDurable, with_all};
 ghost use Rattle.durable_store.specs.Epochs.{LeavesEpoch, renewed};
 ghost use Rattle.serving.specs.Told.{AppendsPart, answers_text};
 ghost use Rattle.serving.specs.Ending.{EndsEpoch, end_answers};
-ghost use Rattle.serving.specs.Epochs.{LeavesEpochs, WritesEpochs};
+ghost use Rattle.serving.specs.Archives.{KeepsEpochs};
+ghost use Rattle.serving.specs.Epochs.{LeavesEpochs, WritesEpochs, aborted};
+ghost use Rattle.serving.specs.Requests.{LetsGo};
 
 use crate::answer_line::{AnswerLine, Answered};
+use crate::archive::Archive;
+use crate::archiving::archive_epoch;
 use crate::client::Client;
 use crate::serve_fault::ServeFault;
 use durable_store::Durable;
@@ -21,26 +26,52 @@ use request_text::Asked;
 use sqlite_trees::store::Alter;
 use std::alloc::Global;
 
-/// Aborts what is open and begins another epoch, all of it durable.
+/// Aborts what is open, gives the history of the epoch to the archive, and begins another epoch, all of it durable.
 ///
 /// # Errors
 ///
-/// The file failed, or memory was refused: who opens it again finds what was open aborted.
-pub(crate) fn end_epoch<S: Alter>(
+/// The file or the archive failed, or memory was refused: who opens the file again finds what was open aborted. It has
+/// begun anew only where the archive keeps the history.
+pub(crate) fn end_epoch<S: Alter, A: Archive>(
     alloc: Global,
     mut store: Durable<S>,
+    archive: &mut A,
 ) -> (Durable<S>, Result<(), ServeFault>)
     requires { IsDurable S.Store store }
     ensures sound { OnOk result.1 (IsDurable S.Store result.0) }
     ensures ends { OnOk result.1 (EndsEpoch S.Store store result.0) }
-    ensures writes { OnOk result.1 (WritesEpochs S.Store store result.0) }
+    ensures writes { OnOk result.1 (WritesEpochs S.Store store result.0 (A.kept archive.old) (A.kept archive.new)) }
     ensures clean { Clean S.Store result.0.journal → Clean S.Store store.journal }
-    ensures crash { LeavesEpochs S.Store store result.0 }
+    ensures crash { LeavesEpochs S.Store store result.0 (A.kept archive.old) (A.kept archive.new) }
 {
-    match store.abort_all() {
+    match close_epoch(alloc, &mut store, archive) {
         Ok(()) => renew(alloc, store),
-        Err(error) => (store, Err(ServeFault::Journal(error))),
+        Err(fault) => (store, Err(fault)),
     }
+}
+
+/// Aborts what is open, and gives the history of the epoch to the archive.
+///
+/// # Errors
+///
+/// The file or the archive failed, or memory was refused.
+fn close_epoch<S: Alter, A: Archive>(
+    alloc: Global,
+    store: &mut Durable<S>,
+    archive: &mut A,
+) -> Result<(), ServeFault>
+    requires { IsDurable S.Store store.old }
+    ensures keeps { OnOk result (Clean S.Store store.new.journal → KeepsEpochs (A.kept archive.old) (A.kept archive.new) (written S.Store store.new.journal ∷ [])) }
+    ensures sound { OnOk result (IsDurable S.Store store.new) }
+    ensures store { OnOk result (LetsGo (aborted store.old.store) store.new.store) }
+    ensures life { OnOk result (store.new.journal.header ≡ store.old.journal.header) }
+    ensures written { OnOk result (Clean S.Store store.new.journal
+        → written S.Store store.new.journal ≡ with_all (written S.Store store.old.journal) (closing store.old.store.history)) }
+    ensures clean { Clean S.Store store.new.journal → Clean S.Store store.old.journal }
+    ensures crash { LeavesEpochs S.Store store.old store.new (A.kept archive.old) (A.kept archive.new) }
+{
+    store.abort_all()?;
+    archive_epoch(alloc, store, archive)
 }
 
 /// Begins another epoch, where nothing is open.

@@ -11,6 +11,7 @@ ghost use Rattle.serving.specs.Epochs.{LeavesEpochs, WritesEpochs};
 ghost use Rattle.serving.specs.Group.{HasTold, IsMore, StopsTelling};
 ghost use Rattle.serving.specs.Serving.{life_of};
 
+use crate::archive::Archive;
 use crate::client::Client;
 use crate::doing::is_full;
 use crate::ending::end_epoch;
@@ -25,27 +26,31 @@ use std::rt::Clock;
 use std::time::{Duration, Instant};
 
 impl<S: Alter> Session<S> {
-    /// Aborts what is open and begins another epoch, all of it durable.
+    /// Aborts what is open, gives the history of the epoch to the archive, and begins another epoch, all of it durable.
     ///
     /// # Errors
     ///
-    /// The file failed, or memory was refused: who opens it again finds what was open aborted.
-    fn begin_epoch(self, alloc: Global) -> (Session<S>, Result<(), ServeFault>)
+    /// As `end_epoch`.
+    fn begin_epoch<A: Archive>(
+        self,
+        alloc: Global,
+        archive: &mut A,
+    ) -> (Session<S>, Result<(), ServeFault>)
         requires { IsDurable S.Store self.store }
         ensures sound { OnOk result.1 (IsDurable S.Store result.0.store) }
         ensures ends { OnOk result.1 (EndsEpoch S.Store self.store result.0.store) }
-        ensures writes { OnOk result.1 (WritesEpochs S.Store self.store result.0.store) }
+        ensures writes { OnOk result.1 (WritesEpochs S.Store self.store result.0.store (A.kept archive.old) (A.kept archive.new)) }
         ensures named { result.0.life ≡ life_of result.0.store }
         ensures most { result.0.most_events ≡ self.most_events }
         ensures clean { Clean S.Store result.0.store.journal → Clean S.Store self.store.journal }
-        ensures crash { LeavesEpochs S.Store self.store result.0.store }
+        ensures crash { LeavesEpochs S.Store self.store result.0.store (A.kept archive.old) (A.kept archive.new) }
     {
         let Session {
             store,
             life: _,
             most_events,
         } = self;
-        let (store, ended) = end_epoch(alloc, store);
+        let (store, ended) = end_epoch(alloc, store, archive);
         let life = store.life();
         let session = Session {
             store,
@@ -62,11 +67,12 @@ impl<S: Alter> Server<S> {
     /// # Errors
     ///
     /// As `serve_group`, and as `end_epoch` where the client was told all answers.
-    pub(crate) fn take_turn<C: Clock, R: Read, W: Out>(
+    pub(crate) fn take_turn<C: Clock, A: Archive, R: Read, W: Out>(
         self,
         clock: &C,
         alloc: Global,
         drain: Duration,
+        archive: &mut A,
         input: &mut R,
         buffer: &mut [u8],
         client: &mut Client<W>,
@@ -84,12 +90,13 @@ impl<S: Alter> Server<S> {
         ensures told { OnOk result.1 (result.0.answers.items ≡ []) }
         ensures sound { OnOk result.1 (IsDurable S.Store result.0.session.store) }
         ensures out_takes { OnOk result.1 (W.fault (under client.new.out) ≡ None) }
+        ensures writes { OnOk result.1 (WritesEpochs S.Store self.session.store result.0.session.store (A.kept archive.old) (A.kept archive.new)) }
         ensures clean { Clean S.Store result.0.session.store.journal → Clean S.Store self.session.store.journal }
-        ensures crash { LeavesEpochs S.Store self.session.store result.0.session.store }
+        ensures crash { LeavesEpochs S.Store self.session.store result.0.session.store (A.kept archive.old) (A.kept archive.new) }
     {
         let mut server = self;
         match server.serve_group(alloc, input, buffer, client) {
-            Ok(true) => server.next_epoch(clock, alloc, drain),
+            Ok(true) => server.next_epoch(clock, alloc, drain, archive),
             served => (server, served),
         }
     }
@@ -99,11 +106,12 @@ impl<S: Alter> Server<S> {
     /// # Errors
     ///
     /// As `end_epoch`.
-    fn next_epoch<C: Clock>(
+    fn next_epoch<C: Clock, A: Archive>(
         self,
         clock: &C,
         alloc: Global,
         drain: Duration,
+        archive: &mut A,
     ) -> (Server<S>, Result<bool, ServeFault>)
         requires sound { IsDurable S.Store self.session.store }
         requires asked { self.end ≡ None }
@@ -112,9 +120,10 @@ impl<S: Alter> Server<S> {
         ensures more { IfOk result.1 (λ more. more ≡ true) }
         ensures asked { result.0.end ≡ None }
         ensures told { result.0.answers ≡ self.answers }
+        ensures writes { OnOk result.1 (WritesEpochs S.Store self.session.store result.0.session.store (A.kept archive.old) (A.kept archive.new)) }
         ensures sound { OnOk result.1 (IsDurable S.Store result.0.session.store) }
         ensures clean { Clean S.Store result.0.session.store.journal → Clean S.Store self.session.store.journal }
-        ensures crash { LeavesEpochs S.Store self.session.store result.0.session.store }
+        ensures crash { LeavesEpochs S.Store self.session.store result.0.session.store (A.kept archive.old) (A.kept archive.new) }
     {
         let mut server = self;
         if !server.is_over(clock, drain) {
@@ -127,7 +136,7 @@ impl<S: Alter> Server<S> {
             end,
             full_since: _,
         } = server;
-        let (session, begun) = session.begin_epoch(alloc);
+        let (session, begun) = session.begin_epoch(alloc, archive);
         let next = Server {
             session,
             line,

@@ -2,6 +2,8 @@
 #![tactic(auto)]
 
 mod answer_line;
+mod archive;
+mod archiving;
 mod asking;
 mod client;
 mod doing;
@@ -22,6 +24,7 @@ mod spelling;
 mod whole;
 
 pub use answer_line::{AnswerLine, Answered};
+pub use archive::{Archive, ArchiveFault, NoArchive};
 pub use client::Client;
 pub use epoch_limits::EpochLimits;
 pub use serve_fault::ServeFault;

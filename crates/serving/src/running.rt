@@ -5,9 +5,10 @@ ghost use Rattle.std.specs.Io.KnownBytes.{IsAtEnd};
 ghost use Rattle.outputs.specs.Gathered.{taken_by, under};
 ghost use Rattle.journal.specs.Journal.{Clean};
 ghost use Rattle.durable_store.specs.Durable.{IsDurable};
-ghost use Rattle.serving.specs.Epochs.{LeavesEpochs};
+ghost use Rattle.serving.specs.Epochs.{LeavesEpochs, WritesEpochs};
 ghost use Rattle.serving.specs.Group.{HasTold, IsFresh, StopsTelling};
 
+use crate::archive::Archive;
 use crate::client::Client;
 use crate::serve_fault::ServeFault;
 use crate::server::Server;
@@ -70,18 +71,20 @@ impl<S: Alter> Server<S> {
     }
 
     /// Serves the client, group by group: what it asks is read into the buffer, as much as is there. An epoch that is full
-    /// ends where nothing is open, or where what is open had so long to go on. At `Ok` the client asked for the end, or
-    /// the input has ended, and it was told the answers to all whole lines before, in their order.
+    /// ends where nothing is open, or where what is open had so long to go on; the archive keeps its history, where it
+    /// wants any, before the file begins anew. At `Ok` the client asked for the end, or the input has ended, and it was told
+    /// the answers to all whole lines before, in their order.
     ///
     /// # Errors
     ///
-    /// The file, the input or the output failed, or memory was refused: the client was told a beginning of what some
-    /// of its lines are answered, and the server isn't to be used any more.
-    pub fn run<C: Clock, R: Read, W: Out>(
+    /// The file, the archive, the input or the output failed, or memory was refused: the client was told a beginning of what
+    /// some of its lines are answered, and the server isn't to be used any more.
+    pub fn run<C: Clock, A: Archive, R: Read, W: Out>(
         self,
         clock: &C,
         alloc: Global,
         drain: Duration,
+        archive: &mut A,
         input: &mut R,
         buffer: &mut [u8],
         client: &mut Client<W>,
@@ -94,12 +97,15 @@ impl<S: Alter> Server<S> {
         ensures ended { OnOk result.1 (result.0.end ≡ None → IsAtEnd (R.remaining input.new)) }
         ensures stops { OnErr result.1 (StopsTelling S.Store self.session (taken_by W.taken client.old.out) result.0.session.store (taken_by W.taken client.new.out)) }
         ensures out_takes { OnOk result.1 (W.fault (under client.new.out) ≡ None) }
+        ensures archives { OnOk result.1 (WritesEpochs S.Store self.session.store result.0.session.store (A.kept archive.old) (A.kept archive.new)) }
         ensures clean { Clean S.Store result.0.session.store.journal → Clean S.Store self.session.store.journal }
-        ensures crash { LeavesEpochs S.Store self.session.store result.0.session.store }
+        ensures crash { LeavesEpochs S.Store self.session.store result.0.session.store (A.kept archive.old) (A.kept archive.new) }
     {
         let mut server = self;
         for _turn in 0..u64::MAX {
-            let (next, turned) = server.take_turn(clock, alloc, drain, input, buffer, client);
+            let (next, turned) = server.take_turn(
+                clock, alloc, drain, archive, input, buffer, client,
+            );
             server = next;
             match turned {
                 Ok(true) => {}

@@ -1,3 +1,4 @@
+use crate::archive::ArchiveFault;
 use journal::JournalError;
 use outputs::OutFault;
 use std::alloc::{AllocError, AllocFailed};
@@ -9,6 +10,9 @@ pub enum ServeFault {
     /// The file failed, or memory was refused for it.
     #[error("{0}")]
     Journal(JournalError),
+    /// The archive didn't keep the history of an epoch that was to end: the file has it all.
+    #[error("{0}")]
+    Archive(ArchiveFault),
     /// What is asked can't be read.
     #[error("the input failed")]
     Input,
@@ -25,6 +29,14 @@ impl From<JournalError> for ServeFault {
 
     fn from(error: JournalError) -> ServeFault {
         ServeFault::Journal(error)
+    }
+}
+
+impl From<ArchiveFault> for ServeFault {
+    ghost from_gives = { λ _ _. Unit {0} };
+
+    fn from(fault: ArchiveFault) -> ServeFault {
+        ServeFault::Archive(fault)
     }
 }
 

@@ -5,11 +5,12 @@ ghost use Rattle.outputs.specs.Gathered.{taken_by, under};
 ghost use Rattle.journal.specs.Journal.{Clean};
 ghost use Rattle.durable_store.specs.Durable.{IsDurable};
 ghost use Rattle.serving.specs.Ending.{EndsEpoch, end_answers};
-ghost use Rattle.serving.specs.Epochs.{LeavesEpochs};
+ghost use Rattle.serving.specs.Epochs.{LeavesEpochs, WritesEpochs};
 ghost use Rattle.serving.specs.Told.{AppendsPart, answers_text};
 ghost use Rattle.std.specs.Io.KnownBytes.{Appends};
 ghost use Rattle.serving.specs.Whole.{ServesClient, StopsServing};
 
+use crate::archive::Archive;
 use crate::client::Client;
 use crate::ending::end_epoch;
 use crate::epoch_limits::EpochLimits;
@@ -25,18 +26,20 @@ use std::rt::Clock;
 
 /// Serves a client: greets it, and tells it the answers to its lines, group by group as they are read into the buffer.
 /// Where an epoch is full, as the limits say, no further transaction begins before another epoch has begun. Where the
-/// client has asked for the end, or its input has ended, what is open is aborted and the file begins another epoch; then
-/// it is told that the end is there, where it asked for that.
+/// client has asked for the end, or its input has ended, what is open is aborted and the file begins another epoch. The
+/// history of each epoch that ends is kept by the archive, where it wants any, before the file begins anew. Then the client
+/// is told that the end is there, where it asked for that.
 ///
 /// # Errors
 ///
-/// The file, the input or the output failed, or memory was refused. The client was told a beginning of what it is told
-/// otherwise; no commit was told it that isn't durable.
-pub fn serve<C: Clock, S: Alter, R: Read, W: Out>(
+/// The file, the archive, the input or the output failed, or memory was refused. The client was told a beginning of what
+/// it is told otherwise; no commit was told it that isn't durable.
+pub fn serve<C: Clock, S: Alter, A: Archive, R: Read, W: Out>(
     clock: &C,
     alloc: Global,
     limits: EpochLimits,
     store: Durable<S>,
+    archive: &mut A,
     input: &mut R,
     buffer: &mut [u8],
     client: &mut Client<W>,
@@ -46,19 +49,20 @@ pub fn serve<C: Clock, S: Alter, R: Read, W: Out>(
     requires out_takes { W.fault (under client.old.out) ≡ None }
     ensures told { OnOk result.1 (ServesClient S.Store limits.most_events store (R.remaining input.old) (taken_by W.taken client.old.out) result.0 (R.remaining input.new) (taken_by W.taken client.new.out)) }
     ensures stops { OnErr result.1 (StopsServing S.Store limits.most_events store (taken_by W.taken client.old.out) result.0 (taken_by W.taken client.new.out)) }
+    ensures archives { OnOk result.1 (WritesEpochs S.Store store result.0 (A.kept archive.old) (A.kept archive.new)) }
     ensures sound { OnOk result.1 (IsDurable S.Store result.0) }
     ensures clean { Clean S.Store result.0.journal → Clean S.Store store.journal }
-    ensures crash { LeavesEpochs S.Store store result.0 }
+    ensures crash { LeavesEpochs S.Store store result.0 (A.kept archive.old) (A.kept archive.new) }
 {
     if let Err(fault) = client.greet(store.life()) {
         return (store, Err(ServeFault::Output(fault)));
     }
     let server = Server::new(alloc, store, limits.most_events);
-    let (server, served) = server.run(clock, alloc, limits.drain, input, buffer, client);
+    let (server, served) = server.run(clock, alloc, limits.drain, archive, input, buffer, client);
     let end = server.end();
     let store = server.into_store();
     match served {
-        Ok(()) => end_serving(alloc, store, end, client),
+        Ok(()) => end_serving(alloc, store, archive, end, client),
         Err(fault) => (store, Err(fault)),
     }
 }
@@ -68,9 +72,10 @@ pub fn serve<C: Clock, S: Alter, R: Read, W: Out>(
 /// # Errors
 ///
 /// As `serve`.
-fn end_serving<S: Alter, W: Out>(
+fn end_serving<S: Alter, A: Archive, W: Out>(
     alloc: Global,
     store: Durable<S>,
+    archive: &mut A,
     end: Option<Asked>,
     client: &mut Client<W>,
 ) -> (Durable<S>, Result<(), ServeFault>)
@@ -80,11 +85,12 @@ fn end_serving<S: Alter, W: Out>(
     ensures told { OnOk result.1 (Appends (taken_by W.taken client.old.out) (taken_by W.taken client.new.out) (answers_text (end_answers end))) }
     ensures part { OnErr result.1 ((taken_by W.taken client.new.out ≡ taken_by W.taken client.old.out)
         ⊎ (EndsEpoch S.Store store result.0 × AppendsPart (taken_by W.taken client.old.out) (taken_by W.taken client.new.out) (answers_text (end_answers end)))) }
+    ensures writes { OnOk result.1 (WritesEpochs S.Store store result.0 (A.kept archive.old) (A.kept archive.new)) }
     ensures sound { OnOk result.1 (IsDurable S.Store result.0) }
     ensures clean { Clean S.Store result.0.journal → Clean S.Store store.journal }
-    ensures crash { LeavesEpochs S.Store store result.0 }
+    ensures crash { LeavesEpochs S.Store store result.0 (A.kept archive.old) (A.kept archive.new) }
 {
-    let (store, ended) = end_epoch(alloc, store);
+    let (store, ended) = end_epoch(alloc, store, archive);
     if let Err(fault) = ended {
         return (store, Err(fault));
     }

@@ -5,7 +5,7 @@ ghost use Rattle.sqlite_trees.specs.View.{IsClean};
 
 use super::counters::{no_trees, opened};
 use super::serving_lines::output;
-use serving::{Client, Server};
+use serving::{Client, NoArchive, Server};
 use sqlite_trees::store::Alter;
 use std::process::Abort;
 use std::rt::Clock;
@@ -26,7 +26,15 @@ fn are_told<S: Alter + Drop>(
     let mut client = Client::new(output(rt, 1_000));
     let server = Server::new(alloc, opened(rt, trees), 4);
     let (mut input, mut byte) = (lines, [0; 1]);
-    let (server, served) = server.run(rt, alloc, drain, &mut input, &mut byte, &mut client);
+    let (server, served) = server.run(
+        rt,
+        alloc,
+        drain,
+        &mut NoArchive,
+        &mut input,
+        &mut byte,
+        &mut client,
+    );
     let said = client.into_out().into_inner().into_inner().held;
     let _ = server.into_store().into_trees();
     assert!(rt; said.as_slice() == answers && served.is_ok());

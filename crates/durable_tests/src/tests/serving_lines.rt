@@ -9,7 +9,7 @@ ghost use Rattle.outputs.specs.Out.{sink_fault};
 use super::counters::{has, no_trees, opened, restarted};
 use durable_store::Durable;
 use outputs::{Gathered, OutFault, Sink};
-use serving::{Client, EpochLimits, ServeFault, Server, serve};
+use serving::{Client, EpochLimits, NoArchive, ServeFault, Server, serve};
 use sqlite_trees::store::{Alter, Reopen};
 use std::process::Abort;
 use std::rt::Clock;
@@ -113,6 +113,7 @@ fn told<S: Alter + Drop>(
         rt,
         alloc,
         drain,
+        &mut NoArchive,
         &mut input,
         &mut buffer[..piece],
         &mut client,
@@ -236,6 +237,7 @@ fn is_served<S: Alter + Drop>(
         alloc,
         limits,
         store,
+        &mut NoArchive,
         &mut input,
         &mut buffer,
         &mut client,

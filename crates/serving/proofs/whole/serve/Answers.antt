@@ -1,8 +1,9 @@
-use Rattle.std.proofs.Common.{subst}
+use Rattle.std.proofs.Common.{refl, subst}
 use Rattle.std.specs.Io.KnownBytes.{Appends}
 use Rattle.outputs.specs.Gathered.{taken_by}
 use Rattle.serving.specs.Told.{AppendsPart, greeting}
-use Rattle.serving.proofs.EndLemmas.{left-served, same-session, serves-whole, stops-greeting, stops-served, stops-whole}
+use Rattle.serving.proofs.EndLemmas.{left-served, same-session, serves-whole, stops-greeting, stops-served, stops-whole, writes-served}
+use Rattle.serving.proofs.Lasting.{left-nowhere}
 use Rattle.serving.proofs.Telling.{of-err, of-ok}
 use Rattle.serving.proofs.whole.serve.Goals as goal
 
@@ -22,9 +23,18 @@ returns-in-Ok-clause-stops g c =
     (subst (λ n. Appends (taken_by g.W.Out.taken c.args.client.now.out) (taken_by g.W.Out.taken c.greet.new.self.out) (greeting n)) c.life.ensures c.in_default.ensures.told)
     (of-ok c.run-server.result.1 c.in-Ok.field-0 c.in-Ok.is c.run-server.ensures.told) c.into_store-store.ensures c.end-end.ensures c.end_serving.ensures.clean c.end_serving.ensures.part
 
+pub returns-in-Ok-clause-archives : goal.returns-in-Ok-clause-archives
+returns-in-Ok-clause-archives g c =
+    writes-served g.S.Store c.end_serving.result.0 (g.A.Archive.kept c.args.archive.now) (g.A.Archive.kept c.run-server.new.archive) (g.A.Archive.kept c.end_serving.new.archive) c.end_serving.result.1
+    c.new-server.ensures.store c.into_store-store.ensures c.end_serving.ensures.clean (of-ok c.run-server.result.1 c.in-Ok.field-0 c.in-Ok.is c.run-server.ensures.archives) c.end_serving.ensures.writes
+
 pub returns-in-Ok-clause-crash : goal.returns-in-Ok-clause-crash
 returns-in-Ok-clause-crash g c =
-    left-served g.S.Store c.end_serving.result.0 c.new-server.ensures.store c.into_store-store.ensures c.run-server.ensures.clean (of-ok c.run-server.result.1 c.in-Ok.field-0 c.in-Ok.is c.run-server.ensures.told).served.lasts.reaches c.run-server.ensures.crash c.end_serving.ensures.crash
+    left-served g.S.Store c.end_serving.result.0 (g.A.Archive.kept c.args.archive.now) (g.A.Archive.kept c.run-server.new.archive) (g.A.Archive.kept c.end_serving.new.archive) c.new-server.ensures.store
+    c.into_store-store.ensures c.run-server.ensures.clean (of-ok c.run-server.result.1 c.in-Ok.field-0 c.in-Ok.is c.run-server.ensures.archives) c.run-server.ensures.crash c.end_serving.ensures.crash
+
+pub returns-in-Err-clause-crash : goal.returns-in-Err-clause-crash
+returns-in-Err-clause-crash g c = left-nowhere g.S.Store c.args.store c.args.store (g.A.Archive.kept c.args.archive.now) refl
 
 pub returns-in-Err-served-clause-stops : goal.returns-in-Err-served-clause-stops
 returns-in-Err-served-clause-stops g c =

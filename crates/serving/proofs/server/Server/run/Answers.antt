@@ -1,21 +1,41 @@
+use Rattle.std.proofs.Common.{refl, rules}
 use Rattle.outputs.specs.Gathered.{taken_by}
 use Rattle.serving.proofs.Groups.{stops-before, told-none}
-use Rattle.serving.proofs.Lasting.{left-then}
-use Rattle.serving.proofs.Telling.{of-err}
+use Rattle.serving.proofs.Lasting.{left-nowhere, left-then, writes-nowhere, writes-on}
+use Rattle.serving.proofs.Telling.{of-err, of-ok}
 use Rattle.serving.proofs.server.Server.run.Goals as goal
 
 pub loop-turn-init : goal.loop-turn-init
 loop-turn-init g c = record {
   told = told-none (g.R.Read.remaining c.args.input.now) (taken_by g.W.Out.taken c.args.client.now.out) c.args.self c.requires.sound c.requires.fresh;
+  writes = writes-nowhere g.S.Store c.args.self.session.store c.args.self.session.store (g.A.Archive.kept c.args.archive.now) refl;
+  crash = left-nowhere g.S.Store c.args.self.session.store c.args.self.session.store (g.A.Archive.kept c.args.archive.now) refl;
   none = c.requires.fresh.end;
   out_takes = c.requires.out_takes;
   room = c.requires.room;
 }
 
+pub loop-turn-preserved : goal.loop-turn-preserved
+loop-turn-preserved g c = record {
+  told = of-ok c.take_turn-next.result.1 c.in-Ok-true.field-0 c.in-Ok-true.is c.take_turn-next.ensures.serves c.args.self.session (g.R.Read.remaining c.args.input.now) (taken_by g.W.Out.taken c.args.client.now.out) c.loop-turn.invariant.told;
+  writes = writes-on g.S.Store c.args.self.session.store c.loop-turn.server.session.store c.take_turn-next.result.0.session.store (g.A.Archive.kept c.args.archive.now) (g.A.Archive.kept c.loop-turn.archive)
+      (g.A.Archive.kept c.take_turn-next.new.archive) c.take_turn-next.ensures.clean c.loop-turn.invariant.writes (of-ok c.take_turn-next.result.1 c.in-Ok-true.field-0 c.in-Ok-true.is c.take_turn-next.ensures.writes);
+  crash = left-then g.S.Store c.args.self.session.store c.loop-turn.server.session.store c.take_turn-next.result.0.session.store (g.A.Archive.kept c.args.archive.now) (g.A.Archive.kept c.loop-turn.archive)
+      (g.A.Archive.kept c.take_turn-next.new.archive) c.loop-turn.invariant.told.served.lasts.clean c.loop-turn.invariant.writes c.loop-turn.invariant.crash c.take_turn-next.ensures.crash;
+  none = search rules;
+  out_takes = search rules;
+  room = search rules;
+}
+
+pub returns-in-Ok-false-clause-archives : goal.returns-in-Ok-false-clause-archives
+returns-in-Ok-false-clause-archives g c =
+    writes-on g.S.Store c.args.self.session.store c.loop-turn.server.session.store c.take_turn-next.result.0.session.store (g.A.Archive.kept c.args.archive.now) (g.A.Archive.kept c.loop-turn.archive)
+    (g.A.Archive.kept c.take_turn-next.new.archive) c.take_turn-next.ensures.clean c.loop-turn.invariant.writes (of-ok c.take_turn-next.result.1 c.in-Ok-false.field-0 c.in-Ok-false.is c.take_turn-next.ensures.writes)
+
 pub returns-in-Ok-false-clause-crash : goal.returns-in-Ok-false-clause-crash
 returns-in-Ok-false-clause-crash g c =
-    let so_far = c.loop-turn.invariant.told.served.lasts in
-    left-then g.S.Store c.args.self.session.store c.loop-turn.server.session.store c.take_turn-next.result.0.session.store so_far.clean so_far.reaches so_far.crash c.take_turn-next.ensures.crash
+    left-then g.S.Store c.args.self.session.store c.loop-turn.server.session.store c.take_turn-next.result.0.session.store (g.A.Archive.kept c.args.archive.now) (g.A.Archive.kept c.loop-turn.archive)
+    (g.A.Archive.kept c.take_turn-next.new.archive) c.loop-turn.invariant.told.served.lasts.clean c.loop-turn.invariant.writes c.loop-turn.invariant.crash c.take_turn-next.ensures.crash
 
 pub returns-in-Err-clause-stops : goal.returns-in-Err-clause-stops
 returns-in-Err-clause-stops g c =
@@ -24,8 +44,8 @@ returns-in-Err-clause-stops g c =
 
 pub returns-in-Err-clause-crash : goal.returns-in-Err-clause-crash
 returns-in-Err-clause-crash g c =
-    let so_far = c.loop-turn.invariant.told.served.lasts in
-    left-then g.S.Store c.args.self.session.store c.loop-turn.server.session.store c.take_turn-next.result.0.session.store so_far.clean so_far.reaches so_far.crash c.take_turn-next.ensures.crash
+    left-then g.S.Store c.args.self.session.store c.loop-turn.server.session.store c.take_turn-next.result.0.session.store (g.A.Archive.kept c.args.archive.now) (g.A.Archive.kept c.loop-turn.archive)
+    (g.A.Archive.kept c.take_turn-next.new.archive) c.loop-turn.invariant.told.served.lasts.clean c.loop-turn.invariant.writes c.loop-turn.invariant.crash c.take_turn-next.ensures.crash
 
 pub returns-clause-stops : goal.returns-clause-stops
 returns-clause-stops g c = stops-before c.loop-turn.server.session.store (λ clean. clean) c.loop-turn.invariant.told

@@ -1,0 +1,46 @@
+-- What an archive keeps.
+use Rattle.std.specs.Prelude.{◌≡◌, ◌⊎◌, ℕ, List, [], ◌∷◌, ◌++◌, map, Option}
+use Rattle.std.specs.Option.{option_map}
+use Rattle.history_text.specs.Canonical.{canonical_text}
+use Rattle.journal.specs.Contents.{Contents}
+use Rattle.journal.specs.declared.header.Header.{Header}
+use Rattle.durable_store.specs.Durable.{events}
+
+-- the text of a history that is kept, under the number of the life in which its epoch ended
+pub record KeptHistory : Type 0 where
+  pub life : ℕ
+  pub text : List ℕ
+
+-- known histories, and these behind them
+abbrev pub with_kept : Option (List KeptHistory) → List KeptHistory → Option (List KeptHistory)
+with_kept known more = option_map (λ all. all ++ more) known
+
+-- one more is kept
+abbrev pub KeepsText : Option (List KeptHistory) → Option (List KeptHistory) → ℕ → List ℕ → Type 0
+KeepsText old new life text = new ≡ with_kept old (record { life = life; text = text } ∷ [])
+
+-- one more is kept, or none
+abbrev pub MayKeepText : Option (List KeptHistory) → Option (List KeptHistory) → ℕ → List ℕ → Type 0
+MayKeepText old new life text = (new ≡ old) ⊎ KeepsText old new life text
+
+-- ---- epochs
+
+-- the life of a file
+abbrev pub life_in : List Header → ℕ
+life_in [] = 0
+life_in (h ∷ hs) = h.life
+
+-- the text of the epoch that a file has: its objects, and the events since it began, by worker 0
+abbrev pub history_text : Contents → List ℕ
+history_text c = canonical_text c.objects (events c.events)
+
+abbrev pub history_of : Contents → KeptHistory
+history_of c = record { life = life_in c.headers; text = history_text c }
+
+-- the histories of these epochs are kept behind the others, in their order, and nothing else
+abbrev pub KeepsEpochs : Option (List KeptHistory) → Option (List KeptHistory) → List Contents → Type 0
+KeepsEpochs old new ended = new ≡ with_kept old (map history_of ended)
+
+-- the same, and maybe more behind them
+abbrev pub KeepsAtLeast : Option (List KeptHistory) → Option (List KeptHistory) → List Contents → Type 0
+KeepsAtLeast old new ended = (more : List KeptHistory) × (new ≡ with_kept old (map history_of ended ++ more))

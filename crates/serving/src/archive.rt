@@ -1,0 +1,65 @@
+//! Where the histories of epochs are kept that are over.
+
+ghost use Rattle.std.specs.Prelude.{◌≡◌, false, List, Option, None, OnErr, OnOk};
+ghost use Rattle.serving.specs.Archives.{KeepsText, KeptHistory, MayKeepText};
+
+use std::alloc::AllocError;
+use thiserror::Error;
+
+/// Why an archive didn't keep a history.
+#[derive(Clone, Copy, Debug, PartialEq, Eq, Error)]
+pub enum ArchiveFault {
+    /// It couldn't be written, or not be made durable.
+    #[error("the archive failed")]
+    Device,
+    /// A history of this life is there already.
+    #[error("the archive has a history of this life")]
+    Taken,
+    /// Memory was refused.
+    #[error("no memory")]
+    NoMemory,
+}
+
+impl From<AllocError> for ArchiveFault {
+    ghost from_gives = { λ _ _. Unit {0} };
+
+    fn from(_: AllocError) -> ArchiveFault {
+        ArchiveFault::NoMemory
+    }
+}
+
+/// An archive, which keeps the histories of epochs as texts.
+pub trait Archive {
+    // The histories that it keeps, oldest first, of which no crash takes one away, where it tells them.
+    ghost kept: { Self → Option (List KeptHistory) };
+
+    /// Whether it is to be given any.
+    fn wants(&self) -> bool
+        ensures { result ≡ false → kept self.now ≡ None };
+
+    /// Keeps the text of a history, under the number of the life in which its epoch ended: at `Ok` no crash takes it
+    /// away. No life comes twice.
+    ///
+    /// # Errors
+    ///
+    /// What stopped it. The whole text is kept, or nothing of it.
+    fn keep(&mut self, life: u32, text: &[u8]) -> Result<(), ArchiveFault>
+        ensures kept { OnOk result (KeepsText (kept self.old) (kept self.new) life text.now) }
+        ensures part { OnErr result (MayKeepText (kept self.old) (kept self.new) life text.now) };
+}
+
+/// No archive: the histories of epochs that are over are let go.
+#[derive(Clone, Copy, Debug)]
+pub struct NoArchive;
+
+impl Archive for NoArchive {
+    ghost kept = { λ _. None };
+
+    fn wants(&self) -> bool {
+        false
+    }
+
+    fn keep(&mut self, _life: u32, _text: &[u8]) -> Result<(), ArchiveFault> {
+        Ok(())
+    }
+}
