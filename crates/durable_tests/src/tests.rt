@@ -1,3 +1,4 @@
+mod archives;
 mod counters;
 mod epochs;
 mod faults;
@@ -6,3 +7,4 @@ mod new_files;
 mod outages;
 mod serving_lines;
 mod stops;
+mod stops_served;

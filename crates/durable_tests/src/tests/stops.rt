@@ -29,7 +29,7 @@ enum Reached {
 }
 
 /// Trees that are found again in their files after the machine stopped and came back.
-trait FoundAgain: Alter {
+pub trait FoundAgain: Alter {
     /// The trees that are listed there.
     fn found_again<R: Abort + AllocGlobal>(self, rt: &R) -> Self
         ensures { IsTrue (Self.Store.view result).is_numbered };
@@ -80,7 +80,7 @@ fn unopened<D: Disk + Drop>(rt: &(impl Abort + AllocGlobal), files: Files<D>) ->
 }
 
 /// The trees of new files, or none where the disk stops before.
-fn new_trees<D: Disk + Drop>(
+pub fn new_trees<D: Disk + Drop>(
     rt: &(impl Abort + AllocGlobal),
     files: Files<D>,
 ) -> Option<FileStore<D>>
@@ -171,7 +171,7 @@ fn counted_once<S: Alter>(store: &mut Durable<S>) -> Result<(), JournalError>
 }
 
 /// The journal of a new file of two counters, or none where the disk stopped.
-fn new_journal<S: Alter + Drop>(rt: &(impl Abort + AllocGlobal), trees: S) -> Option<Journal<S>>
+pub fn new_journal<S: Alter + Drop>(rt: &(impl Abort + AllocGlobal), trees: S) -> Option<Journal<S>>
     requires { IsClean (S.Store.view trees) → IsTrue (S.Store.view trees).is_numbered }
     ensures { IfSome result (λ j. IsJournal S.Store j) }
 {

@@ -1,0 +1,119 @@
+//! What is found after the disk stopped while a client was served.
+
+ghost use Rattle.std.specs.Prelude.{IsTrue};
+ghost use Rattle.sqlite_trees.specs.View.{IsClean};
+ghost use Rattle.durable_store.specs.Durable.{IsDurable};
+
+use super::serving_lines::output;
+use super::stops::{FoundAgain, new_journal, new_trees};
+use durable_store::{Durable, open};
+use serving::{Client, EpochLimits, NoArchive, serve};
+use sqlite_disk::{Crash, Files, Fuse, Memory};
+use sqlite_trees::store::Alter;
+use std::process::Abort;
+use std::rt::Clock;
+use std::time::Duration;
+
+/// Two transactions count up, one after another, and the end is asked for.
+const LINES: &[u8] =
+    b"a begin\nb call 1.0 0 inc:1\ndone commit 1.0\na begin\nb call 1.1 0 inc:1\ndone commit 1.1\ne end\n";
+
+/// How many commits a client was told, and in which state the object is found behind that.
+#[derive(Clone, Copy)]
+struct Found {
+    told: usize,
+    kept: Option<u16>,
+}
+
+/// How many commits were told.
+fn commits_in(said: &[u8]) -> usize {
+    said.split(|byte| *byte == b'\n')
+        .filter(|line| *line == b"done ok".as_slice())
+        .count()
+}
+
+/// How many commits a client is told by this store, until its disk stops, where each line is a group of its own.
+fn commits_told<S: Alter + Drop>(
+    rt: &(impl Abort + AllocGlobal + Clock),
+    store: Durable<S>,
+) -> (usize, S)
+    requires { IsDurable S.Store store }
+{
+    let mut client = Client::new(output(rt, 1_000));
+    let limits = EpochLimits {
+        most_events: 1_000,
+        drain: Duration::from_secs(3_600),
+    };
+    let (mut input, mut byte) = (LINES, [0; 1]);
+    let (store, _) = serve(
+        rt,
+        rt.alloc(),
+        limits,
+        store,
+        &mut NoArchive,
+        &mut input,
+        &mut byte,
+        &mut client,
+    );
+    let said = client.into_out().into_inner().into_inner().held;
+    (commits_in(&said), store.into_trees())
+}
+
+/// The state in which the first object is found.
+fn kept_in<S: Alter + Drop>(rt: &(impl Abort + AllocGlobal), trees: S) -> Option<u16>
+    requires { IsClean (S.Store.view trees) → IsTrue (S.Store.view trees).is_numbered }
+{
+    let store = open(rt.alloc(), trees).ok();
+    let store = store.expect(rt, "no store is found");
+    let kept = store.store().kept(0);
+    let _ = store.into_trees();
+    kept
+}
+
+/// What comes of a client at a new store in these trees, until the disk stops. None where it stops before it is served.
+fn found_in<S: FoundAgain + Drop>(
+    rt: &(impl Abort + AllocGlobal + Clock),
+    trees: S,
+) -> Option<Found>
+    requires { IsClean (S.Store.view trees) → IsTrue (S.Store.view trees).is_numbered }
+{
+    let journal = new_journal(rt, trees)?;
+    let store = open(rt.alloc(), journal.into_store()).ok()?;
+    let (told, trees) = commits_told(rt, store);
+    let kept = kept_in(rt, trees.found_again(rt));
+    Some(Found { told, kept })
+}
+
+/// The same of a store in new files, over any disk.
+fn found_over<D: Crash + Drop>(
+    rt: &(impl Abort + AllocGlobal + Clock),
+    files: Files<D>,
+) -> Option<Found>
+    requires log { IsTrue (D.Disk.is_usable files.log) }
+    requires db { IsTrue (D.Disk.is_usable files.db) }
+{
+    found_in(rt, new_trees(rt, files)?)
+}
+
+/// The same of files in memory: so many calls on the log are passed on, and each one after fails.
+fn found_after(rt: &(impl Abort + AllocGlobal + Clock), calls: u64) -> Option<Found> {
+    let files = Files {
+        log: Fuse::new(Memory::new(rt.alloc()), calls),
+        db: Fuse::new(Memory::new(rt.alloc()), u64::MAX),
+    };
+    found_over(rt, files)
+}
+
+/// Wherever the disk stops, each commit that was told is found, and nothing that wasn't asked.
+#[test]
+fn a_commit_that_was_told_is_found(rt: HostRuntime) {
+    let mut stops = [0u32; 3];
+    for calls in 0..1_000 {
+        if let Some(found) = found_after(&rt, calls) {
+            let kept = usize::from(found.kept.expect(&rt, "no object"));
+            assert!(rt; found.told <= kept && kept <= 2);
+            stops[kept] = stops[kept].saturating_add(1);
+        }
+    }
+    assert!(rt; stops.iter().all(|count| *count > 3));
+}
