@@ -1,6 +1,7 @@
 //! The program: it hands the words and the handles to their task, and ends with its status.
 #![tactic(auto)]
 
+use archive_files::FolderArchives;
 use command_files::{Fault, FileSource, say_fault};
 use commands::{Console, Given, do_words, given_words};
 use database_files::FileDatabases;
@@ -14,6 +15,7 @@ fn main(rt: HostRuntime) -> ExitCode {
             let mut given = Given {
                 source: FileSource { runtime: &rt },
                 databases: FileDatabases { runtime: &rt },
+                archives: FolderArchives { runtime: &rt },
                 input: rt.stdin(),
             };
             let (status, _) = do_words(&rt, given_words(&rt), &mut given, Console { out, err });

@@ -5,9 +5,9 @@ use Rattle.clap.specs.Walk.{Row, finished}
 use Rattle.clap.specs.Simple.{Shape}
 use Rattle.clap.specs.declared.builder.value_parser.Reading.TheVariants.{AsWritten}
 use Rattle.clap.specs.declared.builder.value_parser.ValueParser.TheVariants as parser
-use Rattle.command_words.specs.Lines.{Audit, Line, SaysAudit, Setting, following, line_words, seed, tries, values_of, workers}
+use Rattle.command_words.specs.Lines.{Audit, IsPlain, Line, SaysAudit, Setting, following, line_words, seed, tries, values_of, workers}
 use Rattle.command_words.specs.Program.{HasAuditRows, audit_app}
-use Rattle.command_words.specs.Words.{IsPlain, IsPlainAudit, Text}
+use Rattle.command_words.specs.Words.{IsPlainAudit, Text}
 use Rattle.command_words.proofs.LeafLemmas.{at, end_of, faults, start}
 use Rattle.command_words.proofs.Leaves.{leaf_of}
 use Rattle.command_words.proofs.LineAnswers.{Answered, line_answered}

@@ -1,9 +1,12 @@
 -- What words ask for, worked by hand, and the texts.
-use Rattle.std.proofs.Common.{◌≡◌, ◌≢◌, ◌++◌, ap, arith, refl, sym, inr, ℕ, List, [], ◌∷◌}
+use Rattle.std.proofs.Common.{◌≡◌, ◌≢◌, ◌∙◌, ◌++◌, ap, arith, refl, sym, inr, true, false, ℕ, List, [], ◌∷◌}
 use Rattle.std.specs.Prelude.{codes, slice_index, Some, None}
 use Rattle.type_table.specs.declared.kind.Kind.TheVariants.{Undo}
 use Rattle.command_words.specs.Help.{EndsLine, text_of_topic, version_text}
 use Rattle.command_words.specs.Lines.{Audit, IsClear, IsGiven, IsNumber, IsWholeWork, Line, SaysAudit, Setting, Work, apart, dashes, done, following, joined, line_words, operand, seed, tries, values_of, workers}
+use Rattle.command_words.specs.Serve.{Parts, Say, no_parts}
+use Rattle.command_words.specs.Serve as says
+use Rattle.command_words.proofs.ServeLemmas.{fast_says}
 use Rattle.command_words.specs.Words.{AskFor, Text, audit, audit_database, order, check, create, history, make, run, serve, work, help, version}
 use Rattle.command_words.specs.declared.task.Topic.{Topic}
 use Rattle.command_words.specs.declared.task.Topic.TheVariants as topic
@@ -35,10 +38,42 @@ creates = (omega arith, refl)
 no_types_of_new : AskFor (codes "create" ∷ codes "a.db" ∷ codes "a.objects" ∷ []) (order (create (codes "a.db") (codes "a.objects") [])) → ⊥
 no_types_of_new (some, are) = omega (arith, some)
 
--- a store is served, or its history written, by its path alone
-serves : AskFor (codes "serve" ∷ codes "a.db" ∷ []) (order (serve (codes "a.db")))
-serves = (tt, refl)
+-- a store is served by its path, where what is open has five seconds
+serves : AskFor (codes "serve" ∷ codes "a.db" ∷ []) (serve (record { database = codes "a.db"; fast = false; archive = None; drain = 5 }))
+serves = (
+  codes "a.db" ∷ [],
+  refl,
+  record {
+    parts = record { database = Some (codes "a.db"); fast = false; archive = None; drain = None };
+    say = says.database (codes "a.db") [] no_parts says.nothing refl refl;
+    whole = record { database = refl; fast = refl; archive = refl; drain = refl };
+  },
+)
 
+-- its options stand anywhere, and a path that begins with a hyphen follows `--`
+serves_fast : AskFor (codes "serve" ∷ codes "--drain" ∷ codes "7" ∷ codes "--archive" ∷ codes "old" ∷ codes "--" ∷ codes "-a.db" ∷ codes "--fast" ∷ [])
+    (serve (record { database = codes "-a.db"; fast = true; archive = Some (codes "old"); drain = 7 }))
+serves_fast = (
+  codes "--drain" ∷ codes "7" ∷ codes "--archive" ∷ codes "old" ∷ codes "--" ∷ codes "-a.db" ∷ codes "--fast" ∷ [],
+  refl,
+  record {
+    parts = record { database = Some (codes "-a.db"); fast = true; archive = Some (codes "old"); drain = Some 7 };
+    say =
+        says.drain (codes "7") 7 _ _ (says.archive (codes "old") _ _ (says.dashes (codes "-a.db") _ _ (says.fast [] no_parts says.nothing refl) refl) refl) refl
+        ((omega arith, (omega arith, tt)), refl) (omega arith);
+    whole = record { database = refl; fast = refl; archive = refl; drain = refl };
+  },
+)
+
+-- nothing is said twice
+not_twice : (p : Parts) → Say (codes "--fast" ∷ codes "--fast" ∷ []) p → ⊥
+not_twice p said =
+    let outer = fast_says _ (codes "--fast" ∷ []) p said refl in
+    let inner = fast_says _ [] outer.0 outer.1 refl in
+    let twice : true ≡ false = sym (ap (λ (q : Parts). q.fast) inner.3) ∙ outer.2 in
+    cc
+
+-- a history is written by its path alone
 writes : AskFor (codes "history" ∷ codes "a.db" ∷ []) (order (history (codes "a.db")))
 writes = (tt, refl)
 

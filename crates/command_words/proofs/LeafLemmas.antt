@@ -8,7 +8,8 @@ use Rattle.clap.specs.Walk.{Held, Row, Waiting, Walk, arg_by_index, finished, id
 use Rattle.clap.specs.Kinds.{Kinds, or_else}
 use Rattle.clap.specs.Faults.{check_fault, defaults_fault, settle_fault, step_fault, turn_fault, walk_fault}
 use Rattle.clap.specs.Simple.{Shape}
-use Rattle.command_words.specs.Words.{IsPlain, Text, without_dashes}
+use Rattle.command_words.specs.Lines.{IsPlain}
+use Rattle.command_words.specs.Words.{Text, without_dashes}
 use Rattle.command_words.proofs.OptionLemmas.{IsFree, RefusesOptions, by_test, holding, no_option, or_else_none}
 
 -- ---- where the walk stands

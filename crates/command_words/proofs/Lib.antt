@@ -18,6 +18,7 @@ pub mod WorkLeaf
 pub mod WorkAnswers
 pub mod WorkPlain
 pub mod AuditLemmas
+pub mod ServeLemmas
 pub mod ParseLemmas
 pub mod ProgramLemmas
 pub mod Examples

@@ -10,8 +10,8 @@ use Rattle.clap.specs.Kinds.{value_kinds}
 use Rattle.clap.specs.Faults.{turn_fault, use_fault, walk_fault}
 use Rattle.clap.specs.Simple.{Shape}
 use Rattle.clap.specs.declared.builder.value_parser.ValueParser.TheVariants as parser
-use Rattle.command_words.specs.Lines.{Line, Setting, apart, dashes, done, following, joined, line_words, operand, operands_of, seed, setting_name, tries, value_for, values_of, workers}
-use Rattle.command_words.specs.Words.{IsPlain, Text}
+use Rattle.command_words.specs.Lines.{IsPlain, Line, Setting, apart, dashes, done, following, joined, line_words, operand, operands_of, seed, setting_name, tries, value_for, values_of, workers}
+use Rattle.command_words.specs.Words.{Text}
 use Rattle.command_words.proofs.LeafLemmas.{IsBetween, Place, Reads, after_reads, at, both_none, dashes_pass, ends, faults, held_at, plain_reads, start}
 use Rattle.command_words.proofs.OptionLemmas.{or_else_none}
 use Rattle.command_words.proofs.LineLemmas.{Stands, after_apart, after_joined, after_operand, apart_moves, apart_stands, begins, joined_moves, joined_stands, operand_moves, operand_stands, position_fault, rows_at, settles, value_moves, value_settles, waiting_at}

@@ -16,7 +16,8 @@ use Rattle.type_table.specs.Kind.{kind_word}
 use Rattle.type_table.specs.declared.kind.Kind.{Kind}
 use Rattle.type_table.specs.declared.kind.Kind.TheVariants.{Undo, Intentions}
 use Rattle.command_words.specs.Program.{check_app, entry_of, item_rows, kind_words, make_app, row, store_rows}
-use Rattle.command_words.specs.Words.{Order, IsPlainOrder, HasPlainWords, IsPlain, IsWhole, Text, without_dashes, order_words}
+use Rattle.command_words.specs.Lines.{IsPlain}
+use Rattle.command_words.specs.Words.{Order, IsPlainOrder, HasPlainWords, IsWhole, Text, without_dashes, order_words}
 use Rattle.command_words.specs.Words as asked
 use Rattle.command_words.proofs.Leaves.{last_added, last_joined, last_of, leaf_of, waits}
 use Rattle.command_words.proofs.OptionLemmas.{by_test, holding, never, or_else_none, refuses}
@@ -190,7 +191,6 @@ pub data Command : Type 0 where
   tables : Command
   run : Command
   create : Command
-  serve : Command
   history : Command
 
 -- its name
@@ -200,7 +200,6 @@ name_of make = codes "make"
 name_of tables = codes "tables"
 name_of run = codes "run"
 name_of create = codes "create"
-name_of serve = codes "serve"
 name_of history = codes "history"
 
 -- the subcommand as it is built
@@ -210,7 +209,6 @@ leaf listed make = make_leaf listed
 leaf listed tables = file_leaf listed (codes "tables")
 leaf listed run = store_leaf listed (codes "run")
 leaf listed create = create_leaf listed
-leaf listed serve = file_leaf listed (codes "serve")
 leaf listed history = file_leaf listed (codes "history")
 
 -- where its walk stands after these operands
@@ -220,7 +218,6 @@ place make = make_place
 place tables = file_place
 place run = store_place
 place create = create_place
-place serve = file_place
 place history = file_place
 
 -- what holds of operands that it took
@@ -230,7 +227,6 @@ Took listed make = MakeTook
 Took listed tables = FileTook
 Took listed run = StoreTook
 Took listed create = CreateTook
-Took listed serve = FileTook
 Took listed history = FileTook
 
 -- the subcommand by its operands
@@ -240,7 +236,6 @@ takes listed make = make_takes listed
 takes listed tables = file_takes listed (codes "tables")
 takes listed run = store_takes listed (codes "run")
 takes listed create = create_takes listed
-takes listed serve = file_takes listed (codes "serve")
 takes listed history = file_takes listed (codes "history")
 
 -- its walk begins where each walk does
@@ -250,7 +245,6 @@ begins make = refl
 begins tables = refl
 begins run = refl
 begins create = refl
-begins serve = refl
 begins history = refl
 
 -- ---- what operands ask for
@@ -365,8 +359,6 @@ answers listed are tables operands took none =
 answers listed are run operands took none =
     store_asked (codes "run") _ _ operands asked.run (λ _. some_types) (λ _ _. refl) (λ _ _. refl) (store_answers listed (codes "run") operands none)
 answers listed are create operands took none = create_asked _ _ operands (create_answers listed operands none)
-answers listed are serve operands took none =
-    file_asked (codes "serve") _ _ operands asked.serve (λ _. tt) (λ _. refl) (λ _. refl) (file_answers listed (codes "serve") operands took none)
 answers listed are history operands took none =
     file_asked (codes "history") _ _ operands asked.history (λ _. tt) (λ _. refl) (λ _. refl) (file_answers listed (codes "history") operands took none)
 
@@ -388,7 +380,6 @@ command_of (asked.make family size items) = make
 command_of (asked.tables path) = tables
 command_of (asked.run script types) = run
 command_of (asked.create database objects types) = create
-command_of (asked.serve path) = serve
 command_of (asked.history path) = history
 
 -- and its operands
@@ -398,7 +389,6 @@ operands_of (asked.make family size items) = family ∷ size ∷ items
 operands_of (asked.tables path) = path ∷ []
 operands_of (asked.run script types) = script ∷ types
 operands_of (asked.create database objects types) = database ∷ objects ∷ types
-operands_of (asked.serve path) = path ∷ []
 operands_of (asked.history path) = path ∷ []
 
 -- the word of a kind begins with no hyphen
@@ -436,7 +426,6 @@ all_pass listed are (asked.run script []) whole = absurd (omega (arith, whole))
 all_pass listed are (asked.run script (type ∷ types)) whole = store_passes listed (codes "run") script type types
 all_pass listed are (asked.create database objects []) whole = absurd (omega (arith, whole))
 all_pass listed are (asked.create database objects (type ∷ types)) whole = create_passes listed database objects type types
-all_pass listed are (asked.serve path) whole = file_passes listed (codes "serve") path
 all_pass listed are (asked.history path) whole = file_passes listed (codes "history") path
 
 -- where plain words are asked for, the operands are plain
@@ -446,7 +435,6 @@ all_plain (asked.make family size items) plain = all_with IsPlain family (size �
 all_plain (asked.tables path) plain = all_with IsPlain path [] plain (all_of_none IsPlain)
 all_plain (asked.run script types) plain = all_with IsPlain script types plain.0 plain.1
 all_plain (asked.create database objects types) plain = all_with IsPlain database (objects ∷ types) plain.0 (all_with IsPlain objects types plain.1 plain.2)
-all_plain (asked.serve path) plain = all_with IsPlain path [] plain (all_of_none IsPlain)
 all_plain (asked.history path) plain = all_with IsPlain path [] plain (all_of_none IsPlain)
 
 -- plain words of a subcommand come to no fault

@@ -2,8 +2,8 @@
 use Rattle.std.proofs.Common.{◌≡◌, ◌∙◌, ap, arith, refl, subst, sym, true, false, ℕ, List, [], ◌∷◌, Bor}
 use Rattle.std.specs.Prelude.{All, is_some, length, Option, Some, None, ◌<◌, ◌≤◌, ◌^◌, IfSome}
 use Rattle.clap.specs.Kinds.{value_kinds}
-use Rattle.command_words.specs.Lines.{IsGiven, IsGivenAny, IsGivenOr, IsNumber, IsWholeWork, Line, Says, Setting, Work, following, line_words, seed, tries, values_of, workers}
-use Rattle.command_words.specs.Words.{IsPlain, IsPlainWork, Text}
+use Rattle.command_words.specs.Lines.{IsGiven, IsGivenAny, IsGivenOr, IsNumber, IsPlain, IsWholeWork, Line, Says, Setting, Work, following, line_words, seed, tries, values_of, workers}
+use Rattle.command_words.specs.Words.{IsPlainWork, Text}
 use Rattle.command_words.proofs.LeafLemmas.{at, faults, start}
 use Rattle.command_words.proofs.LineEnds.{is_wanted, some_given}
 use Rattle.command_words.proofs.LinePlain.{HasPlainValues, IsGood, with_line, words_pass}

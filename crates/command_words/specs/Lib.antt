@@ -2,3 +2,4 @@ pub mod Lines
 pub mod Words
 pub mod Program
 pub mod Help
+pub mod Serve

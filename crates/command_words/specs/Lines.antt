@@ -1,7 +1,11 @@
 -- Command lines with options: of the commands that set workers to work, and of `audit`.
-use Rattle.std.specs.Prelude.{◌≡◌, ◌≢◌, ℕ, ◌<◌, ◌≤◌, ◌^◌, length, List, [], ◌∷◌, ◌++◌, Option, Some, None, IfSome, ⊤, slice_index, codes}
+use Rattle.std.specs.Prelude.{◌≡◌, ◌≢◌, ◌==◌, false, ℕ, ◌<◌, ◌≤◌, ◌^◌, length, List, [], ◌∷◌, ◌++◌, Option, Some, None, IfSome, ⊤, slice_index, codes}
 use Rattle.std.specs.Str.Parse.{IsNumeral, digits_value, without_leading_plus}
 use Rattle.clap.specs.Walk.{Text}
+
+-- the word begins with no hyphen
+abbrev pub IsPlain : Text → Type 0
+IsPlain word = (slice_index word 0 == 45) ≡ false
 
 -- an option with a value
 pub data Setting : Type 0 where

@@ -132,10 +132,10 @@ abbrev pub script_program : ValueParser → App
 script_program kinds = with_subcommand (with_subcommand (with_subcommand (with_subcommand (type_program kinds)
     (store_app (codes "run")).top) audit_app.top) work_app.top) stress_app.top
 
--- the program: with those over the file of a store too
+-- the program: with those over the file of a store too, but for `serve`
 abbrev pub program : ValueParser → App
-program kinds = with_subcommand (with_subcommand (with_subcommand (script_program kinds)
-    create_app.top) (file_app (codes "serve")).top) (file_app (codes "history")).top
+program kinds = with_subcommand (with_subcommand (script_program kinds)
+    create_app.top) (file_app (codes "history")).top
 
 -- the command is read as this one, and has no argument of the commands below it
 abbrev pub IsCommand : App → Command → Type 0
@@ -190,7 +190,6 @@ entry_of (asked.make family size items) =
 entry_of (asked.tables path) = (codes "tables", row (codes "path") path ∷ [])
 entry_of (asked.run script types) = (codes "run", store_rows script types)
 entry_of (asked.create database objects types) = (codes "create", row (codes "database") database ∷ store_rows objects types)
-entry_of (asked.serve database) = (codes "serve", row (codes "path") database ∷ [])
 entry_of (asked.history database) = (codes "history", row (codes "path") database ∷ [])
 
 -- an argument was given this number, or has it by default

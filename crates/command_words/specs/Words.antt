@@ -1,5 +1,6 @@
 -- What the words of the command line say.
-use Rattle.std.specs.Prelude.{◌≡◌, ◌≢◌, ◌==◌, ◌⊎◌, ℕ, ◌<◌, length, false, List, [], ◌∷◌, Some, None, ⊤, All, slice_index, codes, if◌then◌else◌}
+use Rattle.std.specs.Borrow.{Bor}
+use Rattle.std.specs.Prelude.{◌≡◌, ◌≢◌, ◌⊎◌, ℕ, ◌<◌, length, List, [], ◌∷◌, Some, None, option_map, ⊤, All, codes, if◌then◌else◌}
 use Rattle.std.specs.Str.{bytes_eq}
 use Rattle.clap.specs.Walk.{texts}
 use Rattle.type_table.specs.declared.kind.Kind.{Kind}
@@ -10,7 +11,8 @@ use Rattle.command_words.specs.declared.task.Topic.{Topic}
 use Rattle.command_words.specs.declared.task.Topic.TheVariants as topic
 use Rattle.command_words.specs.declared.task.WordFault.{WordFault}
 use Rattle.command_words.specs.declared.task.WordFault.TheVariants.{Usage, NoMemory}
-use Rattle.command_words.specs.Lines.{AreAuditWords, AreWorkWords, Audit, IsWholeAudit, IsWholeWork, Work}
+use Rattle.command_words.specs.Lines.{AreAuditWords, AreWorkWords, Audit, IsPlain, IsWholeAudit, IsWholeWork, Work}
+use Rattle.command_words.specs.Serve.{AreServeWords, Serve}
 
 abbrev pub Text : Type 0
 Text = List ℕ
@@ -27,8 +29,6 @@ pub data Order : Type 0 where
   run : Text → List Text → Order
   -- `create DATABASE OBJECTS TYPE...`
   create : Text → Text → List Text → Order
-  -- `serve DATABASE`
-  serve : Text → Order
   -- `history DATABASE`
   history : Text → Order
 
@@ -40,6 +40,8 @@ pub data Asked : Type 0 where
   audit : Audit → Asked
   -- what workers are to do: `work` or `stress`
   work : Work → Asked
+  -- how a store is to be served
+  serve : Serve → Asked
   -- the path of the store whose history is to be audited
   audit_database : Text → Asked
   -- a text of help
@@ -54,7 +56,6 @@ order_words (make family size items) = codes "make" ∷ family ∷ size ∷ item
 order_words (tables path) = codes "tables" ∷ path ∷ []
 order_words (run script types) = codes "run" ∷ script ∷ types
 order_words (create database objects types) = codes "create" ∷ database ∷ objects ∷ types
-order_words (serve database) = codes "serve" ∷ database ∷ []
 order_words (history database) = codes "history" ∷ database ∷ []
 
 -- it has the operands that it can't be without: at least one TYPE
@@ -82,6 +83,7 @@ abbrev pub AreFor : List Text → Asked → Type 0
 AreFor words (order o) = words ≡ order_words o
 AreFor words (audit a) = AreAuditWords words a
 AreFor words (work w) = AreWorkWords words w
+AreFor words (serve s) = AreServeWords words s
 AreFor words (audit_database path) = words ≡ codes "audit" ∷ codes "--database" ∷ path ∷ []
 AreFor words (help topic) = words ≡ help_words topic
 AreFor words version = (words ≡ codes "--version" ∷ []) ⊎ (words ≡ codes "-V" ∷ [])
@@ -99,7 +101,7 @@ asked_of (task.Work jobs types workers tries) =
 asked_of (task.Stress jobs types workers tries seed) =
     work (record { jobs = jobs.now; types = texts types.items; workers = workers; tries = tries; seed = Some seed })
 asked_of (task.Create database objects types) = order (create database.now objects.now (texts types.items))
-asked_of (task.Serve database) = order (serve database.now)
+asked_of (task.Serve database fast archive drain) = serve (record { database = database.now; fast = fast; archive = option_map (λ (folder : Bor Text). folder.now) archive; drain = drain })
 asked_of (task.History database) = order (history database.now)
 asked_of (task.AuditDatabase database) = audit_database database.now
 asked_of (task.Help topic) = help topic
@@ -122,10 +124,6 @@ AskFor words asked = AreFor words asked
 abbrev pub AreWordsOf : List Text → Task → Type 0
 AreWordsOf words task = AskFor words (asked_of task)
 
--- the word begins with no hyphen
-abbrev pub IsPlain : Text → Type 0
-IsPlain word = (slice_index word 0 == 45) ≡ false
-
 -- none of the words that a user chooses begins with a hyphen
 abbrev pub HasPlainWords : Order → Type 0
 HasPlainWords (check kind path) = IsPlain path
@@ -133,7 +131,6 @@ HasPlainWords (make family size items) = IsPlain family × IsPlain size × All I
 HasPlainWords (tables path) = IsPlain path
 HasPlainWords (run script types) = IsPlain script × All IsPlain types
 HasPlainWords (create database objects types) = IsPlain database × IsPlain objects × All IsPlain types
-HasPlainWords (serve database) = IsPlain database
 HasPlainWords (history database) = IsPlain database
 
 -- the same, and it is whole
@@ -155,10 +152,14 @@ AsksPlainly (audit a) = IsPlainAudit a
 AsksPlainly (work w) = IsPlainWork w
 AsksPlainly asked = ⊤
 
--- the words ask for neither help nor version, nor for the audit of a store: what else they ask for is read by `clap`
+-- the words don't begin with `serve`
+abbrev pub AreOfNoServe : List Text → Type 0
+AreOfNoServe words = (rest : List Text) → words ≢ codes "serve" ∷ rest
+
+-- the words ask for neither help nor version, nor for the audit of a store, nor to serve one: what else they ask for is read by `clap`
 abbrev pub AreLeftToClap : List Text → Type 0
 AreLeftToClap words =
-    ((topic : Topic) → words ≢ help_words topic) × ((path : Text) → ¬ (AreFor words (audit_database path))) × ¬ (AreFor words version)
+    ((topic : Topic) → words ≢ help_words topic) × ((path : Text) → ¬ (AreFor words (audit_database path))) × ¬ (AreFor words version) × AreOfNoServe words
 
 -- the words are no task's that has plain words
 abbrev pub AreNoTask : List Text → Type 0

@@ -29,7 +29,8 @@ Commands:
                              history.
   create DATABASE OBJECTS TYPE...
                              Make the file of a new store.
-  serve DATABASE             Answer requests at the store in a file.
+  serve [--fast] [--archive FOLDER] [--drain S] DATABASE
+                             Answer requests at the store in a file.
   history DATABASE           Write the history of the store in a file.
   help [COMMAND]             Write this text, or the text on a command.
 
@@ -280,13 +281,27 @@ that is at DATABASE already, want of memory, or an output that failed.
 pub(crate) const SERVE: &str = "\
 Answer requests at the store in a file.
 
-Usage: colock serve DATABASE
+Usage: colock serve [--fast] [--archive FOLDER] [--drain S] DATABASE
 
 DATABASE is the path of the file of a store, as colock create makes it. The
 store is opened, and what was open in it is aborted. Then the requests on
 standard input are answered, a line each, until the request end or the end of
 the input. A commit is answered when it is durable. docs/formats.md has the
 requests.
+
+Options, each at most once, before DATABASE or behind it. A DATABASE that begins
+with a hyphen follows --.
+  --fast             A write that is torn where the machine stops is supposed to
+                     leave each byte old or new. A commit then syncs once, and
+                     else twice.
+  --archive FOLDER   Before an epoch ends, its history is written to a file of
+                     FOLDER, LIFE.history, where LIFE is the number of its last
+                     life.
+  --drain S          How many seconds what is open may go on in an epoch that is
+                     full, 0 to 4294967295, and 5 by default.
+
+One line on standard error says what was found: how many events, how many
+transactions were open and are aborted, and how many milliseconds it took.
 
 Example: colock serve bank.db
 

@@ -3,6 +3,7 @@
 
 mod help;
 mod program;
+mod serve;
 mod task;
 mod words;
 

@@ -11,15 +11,13 @@ use std::alloc::{AllocError, Global};
 /// The words of the kinds of recovery.
 static KINDS: [&str; 2] = ["undo", "intentions"];
 
-/// The program with its ten commands.
+/// The program with its commands, but for `serve`.
 pub(crate) fn program<'a>(alloc: Global) -> Result<Command<'a>, AllocError>
     ensures { (kinds : _) × ReadsKinds kinds × IfOk result (λ command. app_of command ≡ program kinds) }
 {
     let with_create = with_command(script_program(alloc), create_command(alloc));
-    let serve = file_command(alloc, "serve", Topic::Serve, "DATABASE");
-    let with_serve = with_command(with_create, serve);
     let history = file_command(alloc, "history", Topic::History, "DATABASE");
-    with_command(with_serve, history)
+    with_command(with_create, history)
 }
 
 /// The program without its commands over the file of a store.

@@ -80,6 +80,12 @@ pub enum Task<'a> {
     Serve {
         /// The path of the store.
         database: &'a str,
+        /// Whether a torn write is supposed to leave each byte old or new.
+        fast: bool,
+        /// The folder where the histories of epochs that are over are kept, if any.
+        archive: Option<&'a str>,
+        /// How many seconds what is open may go on in an epoch that is full.
+        drain: u32,
     },
     /// What is the history of the present epoch of the store in a file?
     History {

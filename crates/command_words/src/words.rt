@@ -6,11 +6,12 @@ ghost use Rattle.clap.specs.declared.parser.matches.ArgMatches.{ArgMatches};
 ghost use Rattle.command_words.specs.Program.{AskSomething, Asks, HasAudit, HasNumber, HasRows, HasStoreRows, HasWork, Parses};
 ghost use Rattle.command_words.specs.declared.task.Topic.{Topic};
 ghost use Rattle.type_table.specs.declared.kind.Kind.{Kind};
-ghost use Rattle.command_words.specs.Words.{AreLeftToClap, AreNoTask, AreWordsOf, Asked, OnUsage, Text, asked_of, help_words};
+ghost use Rattle.command_words.specs.Words.{AreLeftToClap, AreNoTask, AreOfNoServe, AreWordsOf, Asked, OnUsage, Text, asked_of, help_words};
 ghost use Rattle.command_words.specs.Words as asked;
 ghost use Rattle.command_words.specs.Lines.{Audit, Work};
 
 use crate::program::program;
+use crate::serve::read_serve;
 use crate::{Task, Topic, WordFault};
 use clap::error::ErrorKind;
 use clap::{ArgMatches, Error};
@@ -21,9 +22,21 @@ use type_table::Kind;
 /// have one `--` among them. The options of `audit`, `work` and `stress` stand anywhere before it, in
 /// either form. A fault of the command line comes of no words of a task, where none of the paths,
 /// FAMILY, SIZE and the ITEMs begins with a hyphen; `--help` among the words is such a fault. Which
-/// of the two faults comes is `clap`'s. Behind `audit --database` stands one word, which is the path
-/// whatever it is.
+/// of the two faults comes is `clap`'s, but for `serve`. Behind `audit --database` stands one word, which
+/// is the path whatever it is.
 pub fn read_words<'a>(alloc: Global, words: &'a [&'a str]) -> Result<Task<'a>, WordFault>
+    ensures taken { IfOk result (AreWordsOf (texts words.now)) }
+    ensures refused { IfErr result (λ fault. OnUsage fault (AreNoTask (texts words.now))) }
+{
+    match words {
+        ["serve", rest @ ..] => read_serve(alloc, rest),
+        _ => read_other(alloc, words),
+    }
+}
+
+/// The task of words that don't begin with `serve`.
+fn read_other<'a>(alloc: Global, words: &'a [&'a str]) -> Result<Task<'a>, WordFault>
+    requires { AreOfNoServe (texts words.now) }
     ensures taken { IfOk result (AreWordsOf (texts words.now)) }
     ensures refused { IfErr result (λ fault. OnUsage fault (AreNoTask (texts words.now))) }
 {
@@ -35,6 +48,7 @@ pub fn read_words<'a>(alloc: Global, words: &'a [&'a str]) -> Result<Task<'a>, W
 
 /// The task of words that aren't left to `clap`.
 fn direct_task<'a>(words: &[&'a str]) -> Option<Task<'a>>
+    requires { AreOfNoServe (texts words.now) }
     ensures taken { IfSome result (AreWordsOf (texts words.now)) }
     ensures other { IfNone result (AreLeftToClap (texts words.now)) }
 {
@@ -110,7 +124,6 @@ fn task_of<'a>(alloc: Global, matches: &ArgMatches<'a>) -> Result<Task<'a>, Allo
         "work" => work_task(alloc, values),
         "stress" => stress_task(alloc, values),
         "create" => create_task(alloc, values),
-        "serve" => Ok(serve_task(values)),
         _ => Ok(history_task(values)),
     }
 }
@@ -145,15 +158,6 @@ fn tables_task<'a>(values: &ArgMatches<'a>) -> Task<'a>
 {
     Task::Tables {
         path: file_word(values),
-    }
-}
-
-fn serve_task<'a>(values: &ArgMatches<'a>) -> Task<'a>
-    requires { (path : Text) × HasRows values.now (asked.serve path) }
-    ensures { (path : Text) → HasRows values.now (asked.serve path) → asked_of result ≡ asked.order (asked.serve path) }
-{
-    Task::Serve {
-        database: file_word(values),
     }
 }
 

@@ -1,6 +1,7 @@
 -- How a task ends, from what came of it and what was handed on.
-use Rattle.std.proofs.Common.{◌≡◌, ◌∙◌, ◌⊎◌, true, false, Bool, ℕ, zero, suc, List, [], ◌∷◌, ◌++◌, length, take, Option, Some, None, IfErr, IfSome, Result, Ok, Err, refl, sym, ap, subst, inl, inr, ⊎_elim, append-nil, take_at}
+use Rattle.std.proofs.Common.{◌≡◌, ◌∙◌, ◌⊎◌, true, false, Bool, ℕ, zero, suc, Bor, List, [], ◌∷◌, ◌++◌, length, take, Option, Some, None, IfErr, IfSome, Result, Ok, Err, refl, sym, ap, subst, inl, inr, ⊎_elim, append-nil, take_at}
 use Rattle.std.proofs.Math.Seq.{take-length}
+use Rattle.std.specs.Prelude.{OnOk}
 use Rattle.std.specs.Io.KnownBytes.{Appends, append_known}
 use Rattle.command_files.specs.Answers.{ComesOr, Refuses}
 use Rattle.command_files.specs.Status.{is_input, status_at, status_of}
@@ -14,7 +15,9 @@ use Rattle.command_words.specs.Words.{AreNoTask, AreWordsOf}
 use Rattle.command_words.specs.declared.task.Task.{Task}
 use Rattle.commands.specs.Concluded.{Concludes, IsBegun, IsHandedOn}
 use Rattle.command_words.specs.declared.task.Task.TheVariants as task
-use Rattle.commands.specs.Doing.{Answer, Begun, Does, DoesNothing, DoesTask, DoesWords, IsAmiss, IsToServe, Shown, Started, Written}
+use Rattle.commands.specs.Doing.{Answer, Begun, Does, DoesNothing, DoesTask, DoesWords, IsAmiss, IsToServe, PassesOn, Says, SaysOfServing, Shown, Started, Written}
+use Rattle.serve_command.proofs.Unsaid.{nothing_said}
+use Rattle.serve_command.specs.Found.{SaysFound}
 use Rattle.serve_command.specs.Served.{ComesOfServing}
 
 -- ---- bytes
@@ -71,11 +74,57 @@ may_be_amiss given (task.Work jobs types workers tries) is = absurd is
 may_be_amiss given (task.Stress jobs types workers tries seed) is = absurd is
 may_be_amiss given (task.Audit history later types) is = absurd is
 may_be_amiss given (task.Create database objects types) is = absurd is
-may_be_amiss given (task.Serve database) is = tt
+may_be_amiss given (task.Serve database fast archive drain) is = tt
 may_be_amiss given (task.History database) is = tt
 may_be_amiss given (task.AuditDatabase database) is = tt
 may_be_amiss given (task.Help topic) is = absurd is
 may_be_amiss given task.Version is = absurd is
+
+-- ---- standard error
+
+-- what is said of a task that has an answer
+unchanged : (given : Shown) (task : Task) (err : Option (List ℕ)) → Says given task err err
+unchanged given (task.Check kind path) err = refl
+unchanged given (task.Make family size items) err = refl
+unchanged given (task.Tables path) err = refl
+unchanged given (task.Run script types) err = refl
+unchanged given (task.Work jobs types workers tries) err = refl
+unchanged given (task.Stress jobs types workers tries seed) err = refl
+unchanged given (task.Audit history later types) err = refl
+unchanged given (task.Create database objects types) err = refl
+unchanged given (task.Serve database fast archive drain) err = nothing_said given.clean (given.databases database.now) database.now err
+unchanged given (task.History database) err = refl
+unchanged given (task.AuditDatabase database) err = refl
+unchanged given (task.Help topic) err = refl
+unchanged given task.Version err = refl
+
+of_serving : (given : Shown) (task : Task) (v : Verdict) (err new_err : Option (List ℕ)) → SaysOfServing given task (Ok v) err new_err → Says given task err new_err
+of_serving given (task.Check kind path) v err new_err says = absurd says
+of_serving given (task.Make family size items) v err new_err says = absurd says
+of_serving given (task.Tables path) v err new_err says = absurd says
+of_serving given (task.Run script types) v err new_err says = absurd says
+of_serving given (task.Work jobs types workers tries) v err new_err says = absurd says
+of_serving given (task.Stress jobs types workers tries seed) v err new_err says = absurd says
+of_serving given (task.Audit history later types) v err new_err says = absurd says
+of_serving given (task.Create database objects types) v err new_err says = absurd says
+of_serving given (task.Serve database fast archive drain) v err new_err says = says
+of_serving given (task.History database) v err new_err says = absurd says
+of_serving given (task.AuditDatabase database) v err new_err says = absurd says
+of_serving given (task.Help topic) v err new_err says = absurd says
+of_serving given task.Version v err new_err says = absurd says
+
+-- of a store that was served
+pub served : (given : Shown) (database : Bor (List ℕ)) (fast : Bool) (archive : Option (Bor (List ℕ))) (drain : ℕ) (answer : Result Verdict Fault) (err new_err : Option (List ℕ))
+    → OnOk answer (SaysFound given.clean (given.databases database.now) database.now err new_err) → PassesOn given (task.Serve database fast archive drain) answer err new_err
+served given database fast archive drain (Ok v) err new_err says = inr says
+served given database fast archive drain (Err fault) err new_err says = inr tt
+
+passed_on : (given : Shown) (task : Task) (answer : Result Verdict Fault) (err new_err : Option (List ℕ)) → PassesOn given task answer err new_err → OnOk answer (Says given task err new_err)
+passed_on given task (Ok v) err new_err passes = elim passes [
+  | inl same ↦ subst (Says given task err) (sym same) (unchanged given task err)
+  | inr says ↦ of_serving given task v err new_err says
+]
+passed_on given task (Err fault) err new_err passes = tt
 
 -- ---- statuses
 
@@ -111,9 +160,10 @@ module _ (old gathered new err new_err : Option (List ℕ)) (status : Status) (n
       let none = does_nothing fault same ended in
       (amiss_or_failed bad fault refused none.0, none.1)
 
-  module _ (given : Shown) (task : Task) where
+  -- where standard error had taken `err` before the end, of which `first` was there before the task
+  module _ (given : Shown) (task : Task) (first : Option (List ℕ)) where
     abbrev Ends : Status → Type 0
-    Ends s = Does given task s old new err new_err
+    Ends s = Does given task s old new first new_err
 
     abbrev Comes : Result Verdict Fault → Type 0
     Comes answer = ComesOr (Written given task) (Begun given task) (Answer given task) (IsAmiss given task) answer (append_known old []) gathered
@@ -127,12 +177,12 @@ module _ (old gathered new err new_err : Option (List ℕ)) (status : Status) (n
         inr (text, length text, started, subst (λ (bytes : List ℕ). Appends old new bytes) (sym (take-length text)) (handed_on old gathered new text more all))
 
     -- of an answer
-    answered : (v : Verdict) → Comes (Ok v) → Concludes (Ok v) gathered status new err new_err → Ends status
-    answered verdict.Yes c ended =
-        ⊎_elim (λ all. subst Ends (sym all.0) (c.0, c.1, handed_on old gathered new c.0 c.2 all.1, all.2))
+    answered : (v : Verdict) → Says given task first err → Comes (Ok v) → Concludes (Ok v) gathered status new err new_err → Ends status
+    answered verdict.Yes says c ended =
+        ⊎_elim (λ all. subst Ends (sym all.0) (c.0, c.1, handed_on old gathered new c.0 c.2 all.1, subst (Says given task first) (sym all.2) says))
         (λ part. subst Ends (sym part.0) (failed_behind c.0 (inl (verdict.Yes, c.1)) c.2 part.1)) ended
-    answered verdict.No c ended =
-        ⊎_elim (λ all. subst Ends (sym all.0) (c.0, c.1, handed_on old gathered new c.0 c.2 all.1, all.2))
+    answered verdict.No says c ended =
+        ⊎_elim (λ all. subst Ends (sym all.0) (c.0, c.1, handed_on old gathered new c.0 c.2 all.1, subst (Says given task first) (sym all.2) says))
         (λ part. subst Ends (sym part.0) (failed_behind c.0 (inl (verdict.No, c.1)) c.2 part.1)) ended
 
     -- of a fault of what the user gave
@@ -166,21 +216,21 @@ module _ (old gathered new err new_err : Option (List ℕ)) (status : Status) (n
         ⊎_elim (λ all. subst Ends (sym (all.0 ∙ is_failed)) (inr (text, n, started, handed_on old gathered new (take n text) more all.1)))
         (λ part. subst Ends (sym part.0) (shorter text n started (begun old gathered new (take n text) nothing more part.1))) ended
 
-    pub does : (answer : Result Verdict Fault) → Comes answer → Concludes answer gathered status new err new_err → Ends status
-    does (Ok v) c ended = answered v c ended
-    does (Err (Usage text)) c ended = amiss (Usage text) refl c ended
-    does (Err (Text path fault)) c ended = amiss (Text path fault) refl c ended
-    does (Err (NoType path x place)) c ended = amiss (NoType path x place) refl c ended
-    does (Err (OtherObjects path first)) c ended = amiss (OtherObjects path first) refl c ended
-    does (Err (HasEvents path)) c ended = amiss (HasEvents path) refl c ended
-    does (Err BadParameter) c ended = amiss BadParameter refl c ended
-    does (Err TooLarge) c ended = amiss TooLarge refl c ended
-    does (Err (CannotRead path)) c ended = failed (CannotRead path) refl c ended
-    does (Err (Database path fault)) c ended = failed (Database path fault) refl c ended
-    does (Err (NoStore path)) c ended = amiss (NoStore path) refl c ended
-    does (Err NoMemory) c ended =
+    pub does : (answer : Result Verdict Fault) → OnOk answer (Says given task first err) → Comes answer → Concludes answer gathered status new err new_err → Ends status
+    does (Ok v) says c ended = answered v says c ended
+    does (Err (Usage text)) says c ended = amiss (Usage text) refl c ended
+    does (Err (Text path fault)) says c ended = amiss (Text path fault) refl c ended
+    does (Err (NoType path x place)) says c ended = amiss (NoType path x place) refl c ended
+    does (Err (OtherObjects path first)) says c ended = amiss (OtherObjects path first) refl c ended
+    does (Err (HasEvents path)) says c ended = amiss (HasEvents path) refl c ended
+    does (Err BadParameter) says c ended = amiss BadParameter refl c ended
+    does (Err TooLarge) says c ended = amiss TooLarge refl c ended
+    does (Err (CannotRead path)) says c ended = failed (CannotRead path) refl c ended
+    does (Err (Database path fault)) says c ended = failed (Database path fault) refl c ended
+    does (Err (NoStore path)) says c ended = amiss (NoStore path) refl c ended
+    does (Err NoMemory) says c ended =
         ⊎_elim (λ same. failed NoMemory refl same ended) (λ b. failed_text NoMemory refl b.0 (inr (inr b.1)) b.2 ended) c
-    does (Err Output) c ended = failed_output Output refl c.0 c.1 (inr (inl c.2)) c.3 ended
+    does (Err Output) says c ended = failed_output Output refl c.0 c.1 (inr (inl c.2)) c.3 ended
 
     -- of serving, which takes no fault of what the user gave for one behind a text
     abbrev Serves : Result Verdict Fault → Type 0
@@ -194,21 +244,21 @@ module _ (old gathered new err new_err : Option (List ℕ)) (status : Status) (n
           | false ↦ λ is. failed fault (ap status_at is) same ended
         ] refl
 
-    pub serves : (answer : Result Verdict Fault) → IsAmiss given task → Serves answer → Concludes answer gathered status new err new_err → Ends status
-    serves (Ok v) bad c ended = answered v c ended
-    serves (Err fault) bad c ended = elim c [
+    pub serves : (answer : Result Verdict Fault) → OnOk answer (Says given task first err) → IsAmiss given task → Serves answer → Concludes answer gathered status new err new_err → Ends status
+    serves (Ok v) says bad c ended = answered v says c ended
+    serves (Err fault) says bad c ended = elim c [
       | inl same ↦ silent_fault fault bad same ended
       | inr part ↦ let (text, begins, (n, within, more)) = part.1 in failed_output fault (ap status_at part.0) text n (inr (inl begins)) more ended
     ]
 
-  -- a task is done, where standard error was passed on as it was
-  pub does_task : (given : Shown) (words : List (List ℕ)) (waits : List ℕ) (task : Task) (answer : Result Verdict Fault) (passed : Option (List ℕ)) → waits ≡ [] → passed ≡ err
-      → AreWordsOf words task → DoesTask given task answer (append_known old waits) gathered → Concludes answer gathered status new passed new_err
-      → DoesWords given words status old new err new_err
-  does_task given words waits task answer passed none same are comes ended =
+  -- a task is done
+  pub does_task : (given : Shown) (words : List (List ℕ)) (waits : List ℕ) (task : Task) (answer : Result Verdict Fault) (first : Option (List ℕ)) → waits ≡ []
+      → PassesOn given task answer first err → AreWordsOf words task → DoesTask given task answer (append_known old waits) gathered → Concludes answer gathered status new err new_err
+      → DoesWords given words status old new first new_err
+  does_task given words waits task answer first none passes are comes ended =
       let here = subst (λ (b : List ℕ). DoesTask given task answer (append_known old b) gathered) none comes in
-      let over = subst (λ (e : Option (List ℕ)). Concludes answer gathered status new e new_err) same ended in
-      ⊎_elim (λ serve. inl (task, are, serves given task answer (may_be_amiss given task serve.0) serve.1 over)) (λ done. inl (task, are, does given task answer done over)) here
+      let says = passed_on given task answer first err passes in
+      ⊎_elim (λ serve. inl (task, are, serves given task first answer says (may_be_amiss given task serve.0) serve.1 ended)) (λ done. inl (task, are, does given task first answer says done ended)) here
 
 -- what is done of words is done of the same words
 pub same_words : (old new err new_err : Option (List ℕ)) (status : Status) (given : Shown) (words words' : List (List ℕ)) → words ≡ words' → DoesWords given words status old new err new_err

@@ -1,5 +1,5 @@
 -- What the program does, from its words to its status: this page is read from top to bottom.
-use Rattle.std.specs.Prelude.{◌≡◌, ◌⊎◌, ⊤, ℕ, List, [], take, Option, IfSome, Result}
+use Rattle.std.specs.Prelude.{◌≡◌, ◌⊎◌, ⊤, ℕ, List, [], take, Option, IfSome, Result, Ok, Err}
 use Rattle.std.specs.Io.KnownBytes.{Appends}
 use Rattle.command_files.specs.Answers.{Answers, AnyAnswer, ComesOr, IsThis}
 use Rattle.command_files.specs.Files.{IsFaulty}
@@ -16,6 +16,7 @@ use Rattle.command_words.specs.declared.task.Task.TheVariants.{Check, Make, Tabl
 use Rattle.database_commands.specs.Audited.{AuditsDatabase}
 use Rattle.database_commands.specs.Created.{CreatesStore, HasCreateFault}
 use Rattle.database_commands.specs.History.{TellsHistory}
+use Rattle.serve_command.specs.Found.{SaysFound}
 use Rattle.serve_command.specs.Served.{BeginsServing, ComesOfServing, ServesDatabase}
 use Rattle.sqlite_trees.specs.Tree.{Trees}
 use Rattle.store_commands.specs.Audited.{AuditsFiles, HasAuditFault}
@@ -51,7 +52,7 @@ Answer given (Audit history later types) = AuditsFiles given.files history.now (
 Answer given (Create database objects types) = CreatesStore given.clean (given.made database.now) given.files objects.now (texts types.items)
 Answer given (History database) = TellsHistory given.clean (given.databases database.now)
 Answer given (AuditDatabase database) = AuditsDatabase given.clean (given.databases database.now)
-Answer given (Serve database) = ServesDatabase given.clean (given.databases database.now) (given.made database.now) given.input given.rest
+Answer given (Serve database fast archive drain) = ServesDatabase given.clean (given.databases database.now) (given.made database.now) given.input given.rest
 Answer given (Help topic) = IsThis verdict.Yes (text_of_topic topic)
 Answer given Version = IsThis verdict.Yes version_text
 
@@ -68,7 +69,7 @@ IsAmiss given (Audit history later types) = HasAuditFault given.files history.no
 IsAmiss given (Create database objects types) = HasCreateFault given.files objects.now (texts types.items)
 IsAmiss given (History database) = ⊤
 IsAmiss given (AuditDatabase database) = ⊤
-IsAmiss given (Serve database) = ⊤
+IsAmiss given (Serve database fast archive drain) = ⊤
 IsAmiss given task = ⊥
 
 -- the texts that may have been written as a whole where memory was refused: of a run without an audit, and of workers of which one
@@ -84,19 +85,24 @@ abbrev pub Begun : Shown → Task → List ℕ → Type 0
 Begun given (Run script types) text = BeginsRunFile given.files script.now (texts types.items) text
 Begun given (Work jobs types workers tries) text = BeginsWorkFile given.files workers tries jobs.now (texts types.items) text
 Begun given (Stress jobs types workers tries seed) text = BeginsWorkFile given.files workers tries jobs.now (texts types.items) text
-Begun given (Serve database) text = BeginsServing given.clean (given.databases database.now) text
+Begun given (Serve database fast archive drain) text = BeginsServing given.clean (given.databases database.now) text
 Begun given task text = AnyAnswer (Answer given task) text
 
 -- a text that the output may have begun where the program failed
 abbrev pub Started : Shown → Task → List ℕ → Type 0
 Started given task text = AnyAnswer (Answer given task) text ⊎ (Begun given task text ⊎ Written given task text)
 
--- by the status of a task, what the output took where it tells: yes or no, a text that answers it, and standard error took nothing; what
+-- what standard error took of a task that has an answer: of serving the line that tells what was found, and else nothing
+abbrev pub Says : Shown → Task → Option (List ℕ) → Option (List ℕ) → Type 0
+Says given (Serve database fast archive drain) err new_err = SaysFound given.clean (given.databases database.now) database.now err new_err
+Says given task err new_err = new_err ≡ err
+
+-- by the status of a task, what the output took where it tells: yes or no, a text that answers it, and standard error took what is said; what
 -- the user gave has a fault, and the output took nothing; or the program failed, and it took a beginning of such a text, perhaps nothing
 -- or the whole
 abbrev pub Does : Shown → Task → Status → Option (List ℕ) → Option (List ℕ) → Option (List ℕ) → Option (List ℕ) → Type 0
-Does given task Yes old new err new_err = (text : List ℕ) × Answer given task verdict.Yes text × Appends old new text × (new_err ≡ err)
-Does given task No old new err new_err = (text : List ℕ) × Answer given task verdict.No text × Appends old new text × (new_err ≡ err)
+Does given task Yes old new err new_err = (text : List ℕ) × Answer given task verdict.Yes text × Appends old new text × Says given task err new_err
+Does given task No old new err new_err = (text : List ℕ) × Answer given task verdict.No text × Appends old new text × Says given task err new_err
 Does given task BadInput old new err new_err = IsAmiss given task × Appends old new []
 Does given task Failed old new err new_err =
     Appends old new [] ⊎ ((text : List ℕ) × (n : ℕ) × Started given task text × Appends old new (take n text))
@@ -115,7 +121,7 @@ DoesNothing fault status old new = ((status ≡ status_of fault) ⊎ (status ≡
 
 -- the task is to serve
 abbrev pub IsToServe : Task → Type 0
-IsToServe (Serve database) = ⊤
+IsToServe (Serve database fast archive drain) = ⊤
 IsToServe task = ⊥
 
 -- what comes of a task before the output hands on what it gathered; what is served is told while it is done
@@ -123,3 +129,12 @@ abbrev pub DoesTask : Shown → Task → Result Verdict Fault → Option (List �
 DoesTask given task result old new =
     (IsToServe task × ComesOfServing (Begun given task) (Answer given task) result old new)
     ⊎ ComesOr (Written given task) (Begun given task) (Answer given task) (IsAmiss given task) result old new
+
+-- what standard error took before the task's end: nothing, or what is said where a store is served
+abbrev pub SaysOfServing : Shown → Task → Result Verdict Fault → Option (List ℕ) → Option (List ℕ) → Type 0
+SaysOfServing given (Serve database fast archive drain) (Ok verdict) err new_err = SaysFound given.clean (given.databases database.now) database.now err new_err
+SaysOfServing given (Serve database fast archive drain) (Err fault) err new_err = ⊤
+SaysOfServing given task result err new_err = ⊥
+
+abbrev pub PassesOn : Shown → Task → Result Verdict Fault → Option (List ℕ) → Option (List ℕ) → Type 0
+PassesOn given task result err new_err = (new_err ≡ err) ⊎ SaysOfServing given task result err new_err

@@ -1,6 +1,7 @@
 //! How the program ends.
 
-ghost use Rattle.std.specs.Prelude.{◌≡◌, None, OnOk, OnErr};
+ghost use Rattle.std.specs.Prelude.{◌≡◌, ◌⊎◌, OnOk, OnErr};
+ghost use Rattle.command_files.specs.Status.{status_of};
 ghost use Rattle.commands.specs.Concluded.{Concludes, IsBegun, IsHandedOn};
 ghost use Rattle.outputs.specs.Gathered.{taken_by, under};
 
@@ -16,16 +17,25 @@ pub(crate) fn conclude<W: Out, E: Out>(
     answer: Result<Verdict, Fault<'_>>,
     console: Console<W, E>,
 ) -> (Status, Console<W, E>)
-    requires err_takes { E.fault console.err ≡ None }
     ensures { Concludes answer.entry (taken_by W.taken console.out) result.0 (W.taken (under result.1.out)) (E.taken console.err) (E.taken result.1.err) }
 {
     let mut console = console;
     let status = match (hand_on(&mut console.out), answer) {
         (Err(_), _) => Status::Failed,
         (Ok(()), Ok(verdict)) => verdict.status(),
-        (Ok(()), Err(fault)) => say_fault(alloc, &fault, &mut console.err),
+        (Ok(()), Err(fault)) => say(alloc, &fault, &mut console.err),
     };
     (status, console)
+}
+
+/// Says a fault where standard error didn't fail before, and answers its status.
+fn say<E: Out>(alloc: Global, fault: &Fault<'_>, err: &mut E) -> Status
+    ensures { (result ≡ status_of fault.now) ⊎ (result ≡ Status.Failed) }
+{
+    match err.fault() {
+        None => say_fault(alloc, fault, err),
+        Some(_) => fault.status(),
+    }
 }
 
 /// Hands on what is gathered.

@@ -7,10 +7,11 @@ pub struct Console<W, E> {
     pub err: E,
 }
 
-/// What the program is given beside its words: files, databases, and what a client asks.
+/// What the program is given beside its words: files, databases, archives, and what a client asks.
 #[derive(Drop)]
-pub struct Given<S, D, I> {
+pub struct Given<S, D, K, I> {
     pub source: S,
     pub databases: D,
+    pub archives: K,
     pub input: I,
 }

@@ -1,21 +1,23 @@
 //! The program, between the words and the status.
 
-ghost use Rattle.std.specs.Prelude.{◌≡◌, [], None, map, IfOk, IfErr, IfSome};
+ghost use Rattle.std.specs.Prelude.{◌≡◌, [], None, map, IfOk, IfErr, IfSome, OnOk};
 ghost use Rattle.command_files.specs.Answers.{Refuses};
 ghost use Rattle.command_words.specs.Words.{AreNoTask, AreWordsOf};
-ghost use Rattle.commands.specs.Doing.{DoesNothing, DoesTask, DoesWords, shown};
+ghost use Rattle.commands.specs.Doing.{DoesNothing, DoesTask, DoesWords, PassesOn, shown};
 ghost use Rattle.outputs.specs.Gathered.{taken_by, under, waiting};
+ghost use Rattle.serve_command.specs.Found.{SaysFound};
 ghost use Rattle.serve_command.specs.Served.{BeginsServing, ComesOfServing, ServesDatabase};
 
 use crate::concluding::conclude;
 use crate::console::{Console, Given};
 use crate::words::borrowed;
+use archive_files::Archives;
 use command_files::{Fault, Source, Status, Verdict, put_answer};
 use command_words::{Task, VERSION, WordFault, read_words};
 use database_commands::{NewStore, audit_database, create_store, tell_history};
-use database_files::Databases;
+use database_files::{Databases, TornWrites};
 use outputs::Out;
-use serve_command::serve_database;
+use serve_command::{Serving, serve_database};
 use std::alloc::Global;
 use std::io::Read;
 use std::rt::Clock;
@@ -25,25 +27,23 @@ use std::time::Duration;
 use store_commands::{Schedule, Work, audit_histories, run_file, work_file};
 use type_commands::{check_file, make_family, make_tables_of};
 
-/// How many seconds transactions may go on in an epoch that is full.
-const DRAIN: u64 = 5;
-
 /// Does what the words after the program's name ask for, with what is given, and answers the status; or says
 /// why there are no words.
 ///
-/// Standard error takes the line of a fault, and nothing where there is an answer. What the status says of
-/// the words, of what is given and of what the output took is `DoesWords`.
+/// Standard error takes the line of a fault, and where a store is served a line that tells what was found; else
+/// nothing. What the status says of the words, of what is given and of what both took is `DoesWords`.
 pub fn do_words<
     R: AllocGlobal + Clock + Threads + Wait + Sync,
     S: Source,
     D: Databases,
+    K: Archives,
     I: Read,
     W: Out,
     E: Out,
 >(
     rt: &R,
     words: Result<Vec<String>, Fault<'static>>,
-    given: &mut Given<S, D, I>,
+    given: &mut Given<S, D, K, I>,
     console: Console<W, E>,
 ) -> (Status, Console<W, E>)
     requires out_takes { W.fault (under console.out) ≡ None }
@@ -65,13 +65,14 @@ fn do_given<
     R: AllocGlobal + Clock + Threads + Wait + Sync,
     S: Source,
     D: Databases,
+    K: Archives,
     I: Read,
     W: Out,
     E: Out,
 >(
     rt: &R,
     words: &[String],
-    given: &mut Given<S, D, I>,
+    given: &mut Given<S, D, K, I>,
     console: Console<W, E>,
 ) -> (Status, Console<W, E>)
     requires out_takes { W.fault (under console.out) ≡ None }
@@ -93,13 +94,14 @@ fn do_read<
     R: AllocGlobal + Clock + Threads + Wait + Sync,
     S: Source,
     D: Databases,
+    K: Archives,
     I: Read,
     W: Out,
     E: Out,
 >(
     rt: &R,
     words: &[&str],
-    given: &mut Given<S, D, I>,
+    given: &mut Given<S, D, K, I>,
     console: Console<W, E>,
 ) -> (Status, Console<W, E>)
     requires out_takes { W.fault (under console.out) ≡ None }
@@ -135,29 +137,51 @@ fn task_of<'a>(alloc: Global, words: &'a [&'a str]) -> Result<Task<'a>, Fault<'a
     }
 }
 
+/// How a store is to be served.
+fn serving<'a>(path: &'a str, fast: bool, archive: Option<&'a str>, drain: u32) -> Serving<'a>
+    ensures { result.path ≡ path.entry }
+{
+    let torn = if fast {
+        TornWrites::OldOrNew
+    } else {
+        TornWrites::AnyBytes
+    };
+    Serving {
+        path,
+        torn,
+        archive,
+        drain: Duration::from_secs(u64::from(drain)),
+    }
+}
+
 /// Serves the store in the database at a path: its client is told by the console's output.
-fn do_serve<'a, R: AllocGlobal + Clock, S, D: Databases, I: Read, W: Out, E>(
+fn do_serve<'a, R: AllocGlobal + Clock, S, D: Databases, K: Archives, I: Read, W: Out, E: Out>(
     rt: &R,
-    database: &'a str,
-    given: &mut Given<S, D, I>,
+    asked: Serving<'a>,
+    given: &mut Given<S, D, K, I>,
     console: Console<W, E>,
 ) -> (Result<Verdict, Fault<'a>>, Console<W, E>)
-    requires { W.fault (under console.out) ≡ None }
-    ensures comes { ComesOfServing (BeginsServing (D.is_clean given.new.databases) (D.holds given.old.databases database.now))
-        (ServesDatabase (D.is_clean given.new.databases) (D.holds given.old.databases database.now) (D.holds given.new.databases database.now) (I.remaining given.old.input) (I.remaining given.new.input))
+    requires out_takes { W.fault (under console.out) ≡ None }
+    requires err_takes { E.fault console.err ≡ None }
+    ensures comes { let path = asked.entry.path in ComesOfServing (BeginsServing (D.is_clean given.new.databases) (D.holds given.old.databases path.now))
+        (ServesDatabase (D.is_clean given.new.databases) (D.holds given.old.databases path.now) (D.holds given.new.databases path.now) (I.remaining given.old.input) (I.remaining given.new.input))
         result.0 (taken_by W.taken console.out) (taken_by W.taken result.1.out) }
     ensures source { given.new.source ≡ given.old.source }
-    ensures err { result.1.err ≡ console.err }
+    ensures says { OnOk result.0 (SaysFound (D.is_clean given.new.databases) (D.holds given.old.databases asked.entry.path.now) asked.entry.path.now (E.taken console.err) (E.taken result.1.err)) }
 {
-    let Console { out, err } = console;
+    let Console { out, mut err } = console;
+    let Ok(mut archive) = given.archives.archive(asked.archive) else {
+        return (Err(Fault::NoMemory), Console { out, err });
+    };
     let (answer, out) = serve_database(
         rt,
         rt.alloc(),
-        Duration::from_secs(DRAIN),
-        database,
+        asked,
         &mut given.databases,
+        &mut archive,
         &mut given.input,
         out,
+        &mut err,
     );
     (answer, Console { out, err })
 }
@@ -168,19 +192,22 @@ fn do_task<
     R: AllocGlobal + Clock + Threads + Wait + Sync,
     S: Source,
     D: Databases,
+    K: Archives,
     I: Read,
     W: Out,
-    E,
+    E: Out,
 >(
     rt: &R,
     task: Task<'a>,
-    given: &mut Given<S, D, I>,
+    given: &mut Given<S, D, K, I>,
     mut console: Console<W, E>,
 ) -> (Result<Verdict, Fault<'a>>, Console<W, E>)
-    requires { W.fault (under console.out) ≡ None }
+    requires out_takes { W.fault (under console.out) ≡ None }
+    requires err_takes { E.fault console.err ≡ None }
     ensures does { DoesTask (shown (S.holds given.old.source) (D.holds given.old.databases) (D.holds given.new.databases) (D.is_clean given.new.databases) (I.remaining given.old.input) (I.remaining given.new.input))
         task.entry result.0 (taken_by W.taken console.out) (taken_by W.taken result.1.out) }
-    ensures err { result.1.err ≡ console.err }
+    ensures err { PassesOn (shown (S.holds given.old.source) (D.holds given.old.databases) (D.holds given.new.databases) (D.is_clean given.new.databases) (I.remaining given.old.input) (I.remaining given.new.input))
+        task.entry result.0 (E.taken console.err) (E.taken result.1.err) }
 {
     let alloc = rt.alloc();
     let source = &mut given.source;
@@ -256,7 +283,12 @@ fn do_task<
                 console,
             )
         }
-        Task::Serve { database } => do_serve(rt, database, given, console),
+        Task::Serve {
+            database,
+            fast,
+            archive,
+            drain,
+        } => do_serve(rt, serving(database, fast, archive, drain), given, console),
         Task::Help { topic } => {
             (
                 put_answer(Verdict::Yes, topic.text().as_bytes(), out),

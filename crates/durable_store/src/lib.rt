@@ -18,5 +18,5 @@ pub use begun_types::file_types;
 pub use creating::create;
 pub use durable::Durable;
 pub use open_error::OpenError;
-pub use opening::open;
+pub use opening::{open, open_counted};
 pub use outage::{restart, settle_and_restart};

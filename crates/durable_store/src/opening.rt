@@ -1,6 +1,6 @@
 //! Opening a durable store: it is made again of its file.
 
-ghost use Rattle.std.specs.Prelude.{◌≡◌, ◌⊎◌, IfOk, IfErr, OnOk, IsTrue};
+ghost use Rattle.std.specs.Prelude.{◌≡◌, ◌⊎◌, length, IfOk, IfErr, OnOk, IsTrue};
 ghost use Rattle.sqlite_trees.specs.Tree.{Trees};
 ghost use Rattle.sqlite_trees.specs.View.{IsClean};
 ghost use Rattle.journal.specs.Contents.{IsFile, contents_of};
@@ -33,11 +33,40 @@ pub fn open<S: Alter>(alloc: Global, trees: S) -> Result<Durable<S>, (OpenError,
     ensures crash { IfErr result (λ e. (db : Trees) → S.Store.recovers e.1 db
         → (IsFile db × (contents_of db ≡ recovered (contents_of (S.Store.view trees).committed))) ⊎ S.Store.recovers trees db) }
 {
+    match open_counted(alloc, trees) {
+        Ok((store, _)) => Ok(store),
+        Err(stopped) => Err(stopped),
+    }
+}
+
+/// The same, and how many events the file had.
+///
+/// # Errors
+///
+/// As `open`.
+pub fn open_counted<S: Alter>(
+    alloc: Global,
+    trees: S,
+) -> Result<(Durable<S>, usize), (OpenError, S)>
+    requires { IsClean (S.Store.view trees) → IsTrue (S.Store.view trees).is_numbered }
+    ensures sound { IfOk result (λ r. IsDurable S.Store r.0) }
+    ensures clean { IfOk result (λ r. Clean S.Store r.0.journal → IsClean (S.Store.view trees)) }
+    ensures is_open { IfOk result (λ r. Clean S.Store r.0.journal → IsOpen S.Store r.0.journal) }
+    ensures shows { IfOk result (λ r. ShowsCommit S.Store r.0.journal) }
+    ensures was_open { IfOk result (λ r. Clean S.Store r.0.journal → IsTrue (S.Store.view trees).is_open) }
+    ensures found { IfOk result (λ r. Clean S.Store r.0.journal → IsRecovered S.Store (contents_of (S.Store.view trees).committed) r.0) }
+    ensures counted { IfOk result (λ r. Clean S.Store r.0.journal → r.1 ≡ length (contents_of (S.Store.view trees).committed).events) }
+    ensures crash { IfErr result (λ e. (db : Trees) → S.Store.recovers e.1 db
+        → (IsFile db × (contents_of db ≡ recovered (contents_of (S.Store.view trees).committed))) ⊎ S.Store.recovers trees db) }
+{
     let (journal, said) = match Journal::open(alloc, trees) {
         Ok(opened) => opened,
         Err((error, trees)) => return Err((OpenError::Journal(error), trees)),
     };
-    resume(alloc, journal, &said)
+    match resume(alloc, journal, &said) {
+        Ok(store) => Ok((store, said.events.len())),
+        Err(stopped) => Err(stopped),
+    }
 }
 
 /// The same of a journal that was just opened, and what it says.

@@ -4,6 +4,7 @@ mod audit_words;
 mod gathered;
 mod memory_databases;
 mod memory_source;
+mod no_archives;
 mod programs;
 mod source;
 mod tasks;

@@ -1,8 +1,8 @@
 -- What is served at trees is served at the path of their database.
-use Rattle.std.proofs.Common.{◌≡◌, ◌∙◌, inl, inr, ℕ, ◌+◌, List, ◌++◌, refl, sym, ap, subst, Option, Some, None, Result, Ok, Err, arith, ◌⊎◌, false}
+use Rattle.std.proofs.Common.{◌≡◌, ◌∙◌, inl, inr, ℕ, ◌+◌, ◌-◌, List, length, ◌++◌, refl, sym, ap, subst, Option, Some, None, Result, Ok, Err, arith, ◌⊎◌, false}
 use Rattle.std.proofs.Math.Seq.{take-append-le}
 use Rattle.std.proofs.KnownBytes.{Appends-trans}
-use Rattle.std.proofs.lemmas.List.{append-nil, length-append}
+use Rattle.std.proofs.lemmas.List.{append-nil, length-append, length-map}
 use Rattle.std.specs.Prelude.{IfErr, IfOk, IfSome, OnErr, OnOk}
 use Rattle.std.specs.Io.KnownBytes.{Appends}
 use Rattle.sqlite_trees.specs.declared.store.Store.{Ghosts}
@@ -13,7 +13,7 @@ use Rattle.journal.specs.Contents.{Contents, contents_of}
 use Rattle.journal.specs.Journal.{Clean, durable, written}
 use Rattle.durable_store.specs.declared.durable.Durable.{Durable}
 use Rattle.store.specs.Ends.{closing}
-use Rattle.durable_store.specs.Durable.{with_all}
+use Rattle.durable_store.specs.Durable.{events, with_all}
 use Rattle.durable_store.specs.Epochs.{firsts, renewed}
 use Rattle.durable_store.specs.Recovered.{IsRecovered}
 use Rattle.request_text.specs.declared.request.Asked.{Asked}
@@ -29,6 +29,7 @@ use Rattle.command_files.specs.declared.fault.Fault.{Fault}
 use Rattle.command_files.specs.declared.fault.Fault.TheVariants.{Usage, Text, NoType, OtherObjects, HasEvents, BadParameter, TooLarge, CannotRead, Database, NoStore, NoMemory, Output}
 use Rattle.command_files.specs.declared.status.Verdict.{Verdict}
 use Rattle.command_files.specs.declared.status.Verdict.TheVariants.{Yes}
+use Rattle.serve_command.specs.Found.{Finds, SaysFound, found_text}
 use Rattle.serve_command.specs.Served.{Begins, BeginsServing, ComesOfServing, IsOpened, IsServed, ServesDatabase, ServesIn, StopsIn, Work, epoch_events, told_text}
 
 -- ---- under another premise
@@ -193,3 +194,39 @@ is-no-input (Database path f) refused = refl
 is-no-input (NoStore path) refused = absurd refused
 is-no-input NoMemory refused = refl
 is-no-input Output refused = refl
+
+-- ---- what was found
+
+-- of the file that the store was opened of
+found-at : {S : Type 0} (g : Ghosts S) (db : Trees) (began : Durable S) (held : Option Trees) (clean : Type 0) (count aborted time : ℕ) (path : List ℕ) (err err_now : Option (List ℕ))
+    → (clean → Clean g began.journal) → (Clean g began.journal → IfSome held (λ x. db ≡ x)) → (Clean g began.journal → IsRecovered g (contents_of db) began)
+    → (Clean g began.journal → count ≡ length (contents_of db).events) → aborted ≡ length began.store.history - count → AppendsPart err err_now (found_text path count aborted time)
+    → SaysFound clean held path err err_now
+found-at g db began held clean count aborted time path err err_now sure same found counted rest said = record {
+  count = count;
+  aborted = aborted;
+  time = time;
+  finds = λ c.
+      let begins : Clean g began.journal = sure c in
+      let file = (contents_of db).events in
+      let all = ap length (found begins).history ∙ length-append (events file) (closing (events file)) in
+      let many : length (events file) ≡ length file = length-map file _ in
+      at-path db (λ x. Finds (contents_of x) count aborted) held (same begins)
+      (record { happened = counted begins; were_open = omega (arith, rest, all, many, counted begins) });
+  said = said;
+}
+
+-- where it was served
+pub says-at : {S : Type 0} {g : Ghosts S} (given taken given_now taken_now : Option (List ℕ)) (trees : S) (db : Trees) (began : Durable S) (held : Option Trees) (r : Result Verdict Fault) (count aborted time : ℕ)
+    (path : List ℕ) (err err_now : Option (List ℕ)) → (Clean g began.journal → IfSome held (λ x. db ≡ x)) → (Clean g began.journal → IsRecovered g (contents_of db) began)
+    → (Clean g began.journal → count ≡ length (contents_of db).events) → aborted ≡ length began.store.history - count → AppendsPart err err_now (found_text path count aborted time)
+    → OnOk r (ServesIn g began given taken trees given_now taken_now) → OnOk r (SaysFound (IsClean (g.view trees)) held path err err_now)
+says-at {S} {g} given taken given_now taken_now trees db began held (Ok v) count aborted time path err err_now same found counted rest said s =
+    found-at g db began held (IsClean (g.view trees)) count aborted time path err err_now (λ c. s.clean (subst (λ (x : S). IsClean (g.view x)) s.are c)) same found counted rest said
+says-at given taken given_now taken_now trees db began held (Err fault) count aborted time path err err_now same found counted rest said s = tt
+
+-- under another premise
+pub says-under : {clean clean' : Type 0} (held : Option Trees) (r : Result Verdict Fault) (path : List ℕ) (err err_now : Option (List ℕ)) → (clean' → clean)
+    → OnOk r (SaysFound clean held path err err_now) → OnOk r (SaysFound clean' held path err err_now)
+says-under held (Ok v) path err err_now sure s = record { count = s.count; aborted = s.aborted; time = s.time; finds = λ c. s.finds (sure c); said = s.said }
+says-under held (Err fault) path err err_now sure s = tt

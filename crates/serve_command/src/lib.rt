@@ -1,6 +1,7 @@
 //! `serve`: a store in a file answers what one client asks.
 #![tactic(auto)]
 
+mod found;
 mod serve;
 
-pub use serve::serve_database;
+pub use serve::{Serving, serve_database};

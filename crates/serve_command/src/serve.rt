@@ -5,20 +5,23 @@ ghost use Rattle.sqlite_trees.specs.Tree.{Trees};
 ghost use Rattle.sqlite_trees.specs.View.{IsClean};
 ghost use Rattle.outputs.specs.Gathered.{taken_by, under};
 ghost use Rattle.durable_store.specs.Durable.{IsDurable};
+ghost use Rattle.serve_command.specs.Found.{SaysFound};
 ghost use Rattle.serve_command.specs.Served.{BeginsServing, ComesOfServing, IsHeld, ServesDatabase, ServesIn, StopsIn};
+ghost use Rattle.command_files.specs.Answers.{Refuses};
 ghost use Rattle.command_files.specs.Status.{is_input};
 
-use command_files::{Fault, Verdict};
-use database_commands::{fault_of_file, fault_of_open};
-use database_files::Databases;
-use durable_store::{Durable, open};
+use crate::found::{Found, milliseconds_since, say_found};
+use command_files::{DatabaseFault, Fault, Verdict};
+use database_commands::{fault_of_file, fault_of_open, fault_of_unopened};
+use database_files::{Databases, TornWrites};
+use durable_store::{Durable, open_counted};
 use outputs::{Gathered, Out};
-use serving::{Client, EpochLimits, ServeFault, serve};
+use serving::{Archive, ArchiveFault, Client, EpochLimits, ServeFault, serve};
 use sqlite_trees::store::Alter;
 use std::alloc::Global;
 use std::io::Read;
 use std::rt::Clock;
-use std::time::Duration;
+use std::time::{Duration, Instant};
 
 /// With how many events an epoch is full: 20,000 fewer than a text of a history may have, for what is open then.
 const EPOCH_EVENTS: u32 = 980_000;
@@ -26,69 +29,106 @@ const EPOCH_EVENTS: u32 = 980_000;
 /// The most bytes that are read at once.
 const MOST_READ: usize = 65_536;
 
-/// `serve DATABASE`: the store is opened, and what was open in it is aborted. Then the lines of the input are done one
-/// after another, and the output is told what they are answered, until the end is asked for or the input has ended.
-/// What is open then is aborted, and the file begins a new epoch. After 980,000 events another epoch begins too: no
-/// further transaction begins before, and what is open is aborted where it goes on so long as `drain`.
+/// How a store is to be served: the path of its database, what is supposed of torn writes, the folder of its archive, if
+/// any, and how long what is open may go on in an epoch that is full.
+#[derive(Clone, Copy)]
+pub struct Serving<'a> {
+    pub path: &'a str,
+    pub torn: TornWrites,
+    pub archive: Option<&'a str>,
+    pub drain: Duration,
+}
+
+/// `serve DATABASE`: the store is opened, what was open in it is aborted, and what was found is said in a line. Then the
+/// lines of the input are done one after another, and the output is told what they are answered, until the end is asked
+/// for or the input has ended. What is open then is aborted, and the file begins a new epoch. After 980,000 events
+/// another epoch begins too: no further transaction begins before, and what is open is aborted where it goes on so long
+/// as it may. Before an epoch begins, the archive keeps the history of the one before.
 ///
 /// # Errors
 ///
-/// The database isn't opened or isn't one of a store, it failed, the input or the output failed, or memory was refused.
-pub fn serve_database<'a, C: Clock, D: Databases, I: Read, W: Out>(
+/// The database isn't opened or isn't one of a store, it failed, the archive, the input or the output failed, or memory was
+/// refused.
+pub fn serve_database<'a, C: Clock, D: Databases, A: Archive, I: Read, W: Out, E: Out>(
     clock: &C,
     alloc: Global,
-    drain: Duration,
-    path: &'a str,
+    asked: Serving<'a>,
     databases: &mut D,
+    archive: &mut A,
     input: &mut I,
     out: Gathered<W>,
+    err: &mut E,
 ) -> (Result<Verdict, Fault<'a>>, Gathered<W>)
-    requires { W.fault (under out) ≡ None }
-    ensures { ComesOfServing (BeginsServing (D.is_clean databases.new) (D.holds databases.old path.now))
+    requires out_takes { W.fault (under out) ≡ None }
+    requires err_takes { E.fault err.old ≡ None }
+    ensures comes { let path = asked.entry.path in ComesOfServing (BeginsServing (D.is_clean databases.new) (D.holds databases.old path.now))
         (ServesDatabase (D.is_clean databases.new) (D.holds databases.old path.now) (D.holds databases.new path.now) (I.remaining input.old) (I.remaining input.new))
         result.0 (taken_by W.taken out) (taken_by W.taken result.1) }
+    ensures says { OnOk result.0 (SaysFound (D.is_clean databases.new) (D.holds databases.old asked.entry.path.now) asked.entry.path.now (E.taken err.old) (E.taken err.new)) }
 {
-    match databases.open(path) {
+    match databases.open(asked.path, asked.torn) {
         Ok(trees) => {
             let mut client = Client::new(out);
-            let (served, trees) = serve_in(clock, alloc, drain, path, trees, input, &mut client);
-            databases.close(path, trees);
+            let (served, trees) = serve_in(
+                clock,
+                alloc,
+                asked,
+                trees,
+                archive,
+                input,
+                &mut client,
+                err,
+            );
+            databases.close(asked.path, trees);
             (served, client.into_out())
         }
-        Err(fault) => (Err(Fault::of_database(path, fault)), out),
+        Err(fault) => (Err(fault_of_unopened(asked.path, fault)), out),
     }
 }
 
 /// Serves the store in these trees, which come back.
-fn serve_in<'a, C: Clock, S: Alter, I: Read, W: Out>(
+fn serve_in<'a, C: Clock, S: Alter, A: Archive, I: Read, W: Out, E: Out>(
     clock: &C,
     alloc: Global,
-    drain: Duration,
-    path: &'a str,
+    asked: Serving<'a>,
     trees: S,
+    archive: &mut A,
     input: &mut I,
     client: &mut Client<W>,
+    err: &mut E,
 ) -> (Result<Verdict, Fault<'a>>, S)
     requires numbered { IsClean (S.Store.view trees) → IsTrue (S.Store.view trees).is_numbered }
     requires out_takes { W.fault (under client.old.out) ≡ None }
-    ensures { (held : Option Trees) → IsHeld (S.Store.view trees) held
+    requires err_takes { E.fault err.old ≡ None }
+    ensures comes { (held : Option Trees) → IsHeld (S.Store.view trees) held
         → ComesOfServing (BeginsServing (IsClean (S.Store.view result.1)) held)
         (ServesDatabase (IsClean (S.Store.view result.1)) held (Some (S.Store.view result.1).committed) (I.remaining input.old) (I.remaining input.new))
         result.0 (taken_by W.taken client.old.out) (taken_by W.taken client.new.out) }
+    ensures says { (held : Option Trees) → IsHeld (S.Store.view trees) held
+        → OnOk result.0 (SaysFound (IsClean (S.Store.view result.1)) held asked.entry.path.now (E.taken err.old) (E.taken err.new)) }
 {
-    match open(alloc, trees) {
-        Ok(store) => serve_store(clock, alloc, drain, path, store, input, client),
-        Err((error, trees)) => (Err(fault_of_open(path, error)), trees),
+    let began = Instant::now(clock).ok();
+    match open_counted(alloc, trees) {
+        Ok((store, events)) => {
+            let found = Found {
+                events,
+                aborted: (store.store().event_count() as usize).saturating_sub(events),
+                time: milliseconds_since(clock, began),
+            };
+            say_found(asked.path, found, err);
+            serve_store(clock, alloc, asked, store, archive, input, client)
+        }
+        Err((error, trees)) => (Err(fault_of_open(asked.path, error)), trees),
     }
 }
 
 /// Serves a store that was opened. Its trees come back.
-fn serve_store<'a, C: Clock, S: Alter, I: Read, W: Out>(
+fn serve_store<'a, C: Clock, S: Alter, A: Archive, I: Read, W: Out>(
     clock: &C,
     alloc: Global,
-    drain: Duration,
-    path: &'a str,
+    asked: Serving<'a>,
     store: Durable<S>,
+    archive: &mut A,
     input: &mut I,
     client: &mut Client<W>,
 ) -> (Result<Verdict, Fault<'a>>, S)
@@ -104,26 +144,47 @@ fn serve_store<'a, C: Clock, S: Alter, I: Read, W: Out>(
     };
     let limits = EpochLimits {
         most_events: EPOCH_EVENTS,
-        drain,
+        drain: asked.drain,
     };
-    let (store, served) = serve(clock, alloc, limits, store, input, &mut buffer, client);
+    let (store, served) = serve(
+        clock,
+        alloc,
+        limits,
+        store,
+        archive,
+        input,
+        &mut buffer,
+        client,
+    );
     let trees = store.into_trees();
     match served {
         Ok(()) => (Ok(Verdict::Yes), trees),
-        Err(fault) => (Err(fault_of_serving(path, fault)), trees),
+        Err(fault) => (Err(fault_of_serving(asked, fault)), trees),
     }
 }
 
 /// Why a store isn't served any more: nothing of what the user gave.
-fn fault_of_serving<'a>(path: &'a str, fault: ServeFault) -> Fault<'a>
+fn fault_of_serving<'a>(asked: Serving<'a>, fault: ServeFault) -> Fault<'a>
     ensures { is_input result ≡ false }
 {
     match fault {
-        ServeFault::Journal(error) => fault_of_file(path, error),
+        ServeFault::Journal(error) => fault_of_file(asked.path, error),
+        ServeFault::Archive(fault) => fault_of_archive(asked.archive.unwrap_or(asked.path), fault),
         ServeFault::Input => Fault::CannotRead {
             path: "standard input",
         },
         ServeFault::Output(_) => Fault::Output,
         ServeFault::NoMemory => Fault::NoMemory,
+    }
+}
+
+/// Why the archive in a folder doesn't keep a history.
+fn fault_of_archive<'a>(folder: &'a str, fault: ArchiveFault) -> Fault<'a>
+    ensures { Refuses ⊥ result }
+{
+    match fault {
+        ArchiveFault::Taken => Fault::of_database(folder, DatabaseFault::Present),
+        ArchiveFault::Device => Fault::of_database(folder, DatabaseFault::Failed),
+        ArchiveFault::NoMemory => Fault::NoMemory,
     }
 }

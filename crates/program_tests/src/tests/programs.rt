@@ -21,6 +21,7 @@ mod stopped;
 mod texts;
 
 use crate::tests::memory_databases::MemoryDatabases;
+use crate::tests::no_archives::NoArchives;
 use command_files::{Fault, Source, SourceFault, Status, say_fault};
 use commands::{Console, Given, do_words};
 use database_files::Databases;
@@ -58,10 +59,23 @@ pub struct Played {
     err: Vec<u8>,
 }
 
+/// What is said behind a line that begins so and ends with how many milliseconds it took.
+fn behind_time<'a>(said: &'a [u8], found: &[u8]) -> Option<&'a [u8]> {
+    let time = said.strip_prefix(found)?;
+    let digits = time.iter().position(|byte| !byte.is_ascii_digit())?;
+    time[digits..].strip_prefix(b" ms\n".as_slice())
+}
+
 impl Played {
     /// Whether it is this.
     pub fn is(&self, status: Status, out: &[u8], err: &str) -> bool {
         self.status == status && self.out.as_slice() == out && self.err.as_slice() == err.as_bytes()
+    }
+
+    /// The same, where first a line is said that begins so and ends with how many milliseconds it took.
+    pub fn is_found(&self, status: Status, out: &[u8], found: &str, err: &str) -> bool {
+        let said = behind_time(self.err.as_slice(), found.as_bytes());
+        self.status == status && self.out.as_slice() == out && said == Some(err.as_bytes())
     }
 
     /// What standard output took, where there is this status and no fault is said.
@@ -142,7 +156,7 @@ fn owned(alloc: Global, words: &[&str]) -> Result<Vec<String>, Fault<'static>> {
 fn play_given<R: AllocGlobal + Clock + Threads + Wait + Sync, S: Source, D: Databases, I: Read>(
     rt: &R,
     words: &[&str],
-    given: &mut Given<S, D, I>,
+    given: &mut Given<S, D, NoArchives, I>,
     out: Held,
     mut err: Held,
 ) -> Played
@@ -177,6 +191,7 @@ fn play_over<R: AllocGlobal + Clock + Threads + Wait + Sync, S: Source + Drop>(
     let mut given = Given {
         source,
         databases: MemoryDatabases::new(rt.alloc()),
+        archives: NoArchives,
         input: b"".as_slice(),
     };
     play_given(rt, words, &mut given, out, err)

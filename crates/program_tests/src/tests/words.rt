@@ -42,7 +42,18 @@ fn has_parts(task: &Task<'_>, parts: &Parts) -> bool {
                 & (second == *objects)
                 & (types.as_slice() == rest)
         }
-        Task::Serve { database } => (command == "serve") & (first == *database),
+        Task::Serve {
+            database,
+            fast,
+            archive,
+            drain,
+        } => {
+            (command == "serve")
+                & (first == *database)
+                & (second == if *fast { "fast" } else { "" })
+                & (archive.as_slice() == rest)
+                & (*drain == 5)
+        }
         Task::History { database } => (command == "history") & (first == *database),
         Task::AuditDatabase { database } => (command == "audit") & (first == *database),
         Task::Audit { .. } | Task::Work { .. } | Task::Stress { .. } => false,
@@ -68,7 +79,7 @@ fn word_of(topic: Topic) -> &'static str {
 }
 
 /// Words, and the task that they ask for.
-static TASKS: [(&[&str], Parts); 32] = [
+static TASKS: [(&[&str], Parts); 35] = [
     (
         &["check", "undo", "ctr2.type"],
         ("check", "undo", "ctr2.type", &[]),
@@ -129,6 +140,15 @@ static TASKS: [(&[&str], Parts); 32] = [
         ("create", "-a.db", "--", &["-x"]),
     ),
     (&["serve", "--", "-a.db"], ("serve", "-a.db", "", &[])),
+    (&["serve", "--fast", "a.db"], ("serve", "a.db", "fast", &[])),
+    (
+        &["serve", "a.db", "--drain", "5", "--fast"],
+        ("serve", "a.db", "fast", &[]),
+    ),
+    (
+        &["serve", "--archive", "--fast", "a.db"],
+        ("serve", "a.db", "", &["--fast"]),
+    ),
     (
         &["audit", "--database", "--help"],
         ("audit", "--help", "", &[]),
@@ -420,7 +440,7 @@ fn refuses_other_words_of_workers(rt: HostRuntime) {
 }
 
 /// Words that ask for no task.
-static REFUSED: [&[&str]; 49] = [
+static REFUSED: [&[&str]; 57] = [
     &[],
     &["prove"],
     &["check"],
@@ -459,6 +479,14 @@ static REFUSED: [&[&str]; 49] = [
     &["serve"],
     &["serve", "a.db", "b.db"],
     &["serve", "-x"],
+    &["serve", "--fast"],
+    &["serve", "--archive", "a.db"],
+    &["serve", "a.db", "--archive"],
+    &["serve", "--fast", "a.db", "--fast"],
+    &["serve", "--drain", "a.db"],
+    &["serve", "--drain", "-1", "a.db"],
+    &["serve", "--drain", "4294967296", "a.db"],
+    &["serve", "a.db", "--"],
     &["serve", "--database", "a.db"],
     &["history"],
     &["history", "a.db", "a.type"],

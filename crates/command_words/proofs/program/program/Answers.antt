@@ -4,5 +4,4 @@ pub returns : goal.returns
 returns c =
     let scripts = c.script_program.ensures in
     let create_added = c.with_command-with_create.ensures _ _ scripts.2 c.create_command.ensures in
-    let serve_added = c.with_command-with_serve.ensures _ _ create_added c.file_command-serve.ensures in
-    (scripts.0, scripts.1, c.with_command.ensures _ _ serve_added c.file_command-history.ensures)
+    (scripts.0, scripts.1, c.with_command.ensures _ _ create_added c.file_command-history.ensures)

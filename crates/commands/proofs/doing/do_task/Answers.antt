@@ -2,8 +2,12 @@ use Rattle.std.proofs.Common.{ℕ, Bor, List, map, subst, sym, inl, inr}
 use Rattle.command_files.specs.Answers.{Comes, ComesOr}
 use Rattle.command_files.proofs.Comes.{comes_or}
 use Rattle.command_words.specs.declared.task.Task.{Task}
-use Rattle.commands.specs.Doing.{DoesTask, shown}
+use Rattle.commands.proofs.Done.{served}
+use Rattle.commands.specs.Doing.{DoesTask, PassesOn, shown}
+use Rattle.std.specs.Prelude.{OnOk}
 use Rattle.outputs.specs.Gathered.{taken_by}
+use Rattle.serve_command.specs.Found.{SaysFound}
+use Rattle.serve_command.specs.Served.{BeginsServing, ComesOfServing, ServesDatabase}
 use Rattle.database_commands.specs.Created.{CreatesStore, HasCreateFault}
 use Rattle.store_commands.specs.Audited.{AuditsFiles, HasAuditFault}
 use Rattle.store_commands.specs.Runs.{BeginsRunFile, HasRunFault, RunsFile, WritesRunFile}
@@ -96,7 +100,7 @@ returns-in-Create-clause-does g c =
     let Does : Task → Type 0 = λ t. DoesTask given t c.create_store.result old new in
     let Of : List (Bor (List ℕ)) → Type 0 = λ ws. let words = map (λ p. p.now) ws in
     Comes (CreatesStore clean made holds c.in-Create.objects.now words) (HasCreateFault holds c.in-Create.objects.now words) c.create_store.result old new in
-    let done = subst Of c.deref-in-Create.ensures.value c.create_store.ensures in
+    let done = subst Of c.deref-in-Create.ensures.value c.create_store.ensures.comes in
     subst Does (sym c.in-Create.is) (inr (comes_or _ _ _ _ _ _ _ _ c.create_store.result old new (λ text whole. whole) (λ text begun. begun) (λ v text answer. answer) (λ bad. bad) done))
 
 pub returns-in-Serve-clause-does : goal.returns-in-Serve-clause-does
@@ -105,49 +109,22 @@ returns-in-Serve-clause-does g c =
     let behind = c.do_serve.new.given in
     let given = shown (g.S.Source.holds before.source) (g.D.Databases.holds before.databases) (g.D.Databases.holds behind.databases) (g.D.Databases.is_clean behind.databases)
     (g.I.Read.remaining before.input) (g.I.Read.remaining behind.input) in
-    let Does : Task → Type 0 = λ t. DoesTask given t c.do_serve.result.0 (taken_by g.W.Out.taken c.args.console.out) (taken_by g.W.Out.taken c.do_serve.result.1.out) in
-    subst Does (sym c.in-Serve.is) (inl (tt, c.do_serve.ensures.comes))
-
-pub returns-in-Check-clause-does : goal.returns-in-Check-clause-does
-returns-in-Check-clause-does g c =
-    let holds = g.S.Source.holds c.args.given.now.source in
-    let databases = c.args.given.now.databases in
-    let input = g.I.Read.remaining c.args.given.now.input in
-    let given = shown holds (g.D.Databases.holds c.args.given.now.databases) (g.D.Databases.holds databases) (g.D.Databases.is_clean databases) input input in
     let old = taken_by g.W.Out.taken c.args.console.out in
-    let new = taken_by g.W.Out.taken c.check_file.new.out in
-    let Does : Task → Type 0 = λ t. DoesTask given t c.check_file.result old new in
-    subst Does (sym c.in-Check.is) (inr (comes_or _ _ _ _ _ _ _ _ c.check_file.result old new (λ text whole. whole) (λ text begun. begun) (λ v text answer. answer) (λ bad. bad) c.check_file.ensures))
+    let new = taken_by g.W.Out.taken c.do_serve.result.1.out in
+    let Does : Task → Type 0 = λ t. DoesTask given t c.do_serve.result.0 old new in
+    let At : Bor (List ℕ) → Type 0 = λ p. ComesOfServing (BeginsServing given.clean (given.databases p.now))
+    (ServesDatabase given.clean (given.databases p.now) (given.made p.now) given.input given.rest) c.do_serve.result.0 old new in
+    subst Does (sym c.in-Serve.is) (inl (tt, subst At c.serving.ensures c.do_serve.ensures.comes))
 
-pub returns-in-Tables-clause-does : goal.returns-in-Tables-clause-does
-returns-in-Tables-clause-does g c =
-    let holds = g.S.Source.holds c.args.given.now.source in
-    let databases = c.args.given.now.databases in
-    let input = g.I.Read.remaining c.args.given.now.input in
-    let given = shown holds (g.D.Databases.holds c.args.given.now.databases) (g.D.Databases.holds databases) (g.D.Databases.is_clean databases) input input in
-    let old = taken_by g.W.Out.taken c.args.console.out in
-    let new = taken_by g.W.Out.taken c.make_tables_of.new.out in
-    let Does : Task → Type 0 = λ t. DoesTask given t c.make_tables_of.result old new in
-    subst Does (sym c.in-Tables.is) (inr (comes_or _ _ _ _ _ _ _ _ c.make_tables_of.result old new (λ text whole. whole) (λ text begun. begun) (λ v text answer. answer) (λ bad. bad) c.make_tables_of.ensures))
-
-pub returns-in-History-clause-does : goal.returns-in-History-clause-does
-returns-in-History-clause-does g c =
-    let holds = g.S.Source.holds c.args.given.now.source in
-    let databases = c.tell_history.new.databases in
-    let input = g.I.Read.remaining c.args.given.now.input in
-    let given = shown holds (g.D.Databases.holds c.args.given.now.databases) (g.D.Databases.holds databases) (g.D.Databases.is_clean databases) input input in
-    let old = taken_by g.W.Out.taken c.args.console.out in
-    let new = taken_by g.W.Out.taken c.tell_history.new.out in
-    let Does : Task → Type 0 = λ t. DoesTask given t c.tell_history.result old new in
-    subst Does (sym c.in-History.is) (inr (comes_or _ _ _ _ _ _ _ _ c.tell_history.result old new (λ text whole. whole) (λ text begun. begun) (λ v text answer. answer) (λ bad. bad) c.tell_history.ensures))
-
-pub returns-in-AuditDatabase-clause-does : goal.returns-in-AuditDatabase-clause-does
-returns-in-AuditDatabase-clause-does g c =
-    let holds = g.S.Source.holds c.args.given.now.source in
-    let databases = c.audit_database.new.databases in
-    let input = g.I.Read.remaining c.args.given.now.input in
-    let given = shown holds (g.D.Databases.holds c.args.given.now.databases) (g.D.Databases.holds databases) (g.D.Databases.is_clean databases) input input in
-    let old = taken_by g.W.Out.taken c.args.console.out in
-    let new = taken_by g.W.Out.taken c.audit_database.new.out in
-    let Does : Task → Type 0 = λ t. DoesTask given t c.audit_database.result old new in
-    subst Does (sym c.in-AuditDatabase.is) (inr (comes_or _ _ _ _ _ _ _ _ c.audit_database.result old new (λ text whole. whole) (λ text begun. begun) (λ v text answer. answer) (λ bad. bad) c.audit_database.ensures))
+pub returns-in-Serve-clause-err : goal.returns-in-Serve-clause-err
+returns-in-Serve-clause-err g c =
+    let before = c.args.given.now in
+    let behind = c.do_serve.new.given in
+    let given = shown (g.S.Source.holds before.source) (g.D.Databases.holds before.databases) (g.D.Databases.holds behind.databases) (g.D.Databases.is_clean behind.databases)
+    (g.I.Read.remaining before.input) (g.I.Read.remaining behind.input) in
+    let err = g.E.Out.taken c.args.console.err in
+    let new_err = g.E.Out.taken c.do_serve.result.1.err in
+    let Passes : Task → Type 0 = λ t. PassesOn given t c.do_serve.result.0 err new_err in
+    let Says : Bor (List ℕ) → Type 0 = λ p. OnOk c.do_serve.result.0 (SaysFound given.clean (given.databases p.now) p.now err new_err) in
+    subst Passes (sym c.in-Serve.is)
+    (served given c.in-Serve.database c.in-Serve.fast c.in-Serve.archive c.in-Serve.drain c.do_serve.result.0 err new_err (subst Says c.serving.ensures c.do_serve.ensures.says))

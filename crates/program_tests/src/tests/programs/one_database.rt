@@ -5,6 +5,7 @@ ghost use Rattle.outputs.specs.Out.{sink_fault};
 
 use super::{CaseFiles, File, Held, Played, held_output, made_of, play_given};
 use crate::tests::memory_databases::MemoryDatabases;
+use crate::tests::no_archives::NoArchives;
 use command_files::Status;
 use commands::Given;
 use object_trait::EventKind;
@@ -84,15 +85,19 @@ const SERVE: [&str; 2] = ["serve", "a.db"];
 
 const CREATE: [&str; 4] = ["create", "a.db", "two.objects", "ctr2.type"];
 
-/// A command, what its client asks, and what comes of it.
+/// A command, what its client asks, and what comes of it: where a store is served, how what is said to be found begins.
 #[derive(Clone, Copy)]
 struct Step<'a> {
     words: &'a [&'a str],
     asked: &'a str,
     out: &'a str,
+    found: &'a str,
     err: &'a str,
     status: Status,
 }
+
+/// That a new epoch was found.
+const NOTHING: &str = "colock: a.db: 0 events, 0 aborted, ";
 
 /// A command without a client that answers yes, or does what is asked for.
 const fn yes<'a>(words: &'a [&'a str], out: &'a str) -> Step<'a> {
@@ -100,6 +105,7 @@ const fn yes<'a>(words: &'a [&'a str], out: &'a str) -> Step<'a> {
         words,
         asked: "",
         out,
+        found: "",
         err: "",
         status: Status::Yes,
     }
@@ -111,24 +117,26 @@ const fn fault<'a>(words: &'a [&'a str], err: &'a str, status: Status) -> Step<'
         words,
         asked: "",
         out: "",
+        found: "",
         err,
         status,
     }
 }
 
 /// A client that is served to the end.
-const fn served<'a>(asked: &'a str, out: &'a str) -> Step<'a> {
+const fn served<'a>(asked: &'a str, out: &'a str, found: &'a str) -> Step<'a> {
     Step {
         words: &SERVE,
         asked,
         out,
+        found,
         err: "",
         status: Status::Yes,
     }
 }
 
 /// The files and a database from one command to the next, and what the present client asks.
-type Kept<'a> = Given<CaseFiles<'a>, MemoryDatabases, &'a [u8]>;
+type Kept<'a> = Given<CaseFiles<'a>, MemoryDatabases, NoArchives, &'a [u8]>;
 
 /// The files, and these databases.
 fn kept<'a>(rt: &impl AllocGlobal, databases: MemoryDatabases) -> Kept<'a> {
@@ -138,6 +146,7 @@ fn kept<'a>(rt: &impl AllocGlobal, databases: MemoryDatabases) -> Kept<'a> {
             files: &FILES,
         },
         databases,
+        archives: NoArchives,
         input: b"".as_slice(),
     }
 }
@@ -149,6 +158,15 @@ fn all_taken(rt: &(impl Abort + AllocGlobal)) -> Held
     held_output(rt, usize::MAX, AtEnd::Fails)
 }
 
+/// Whether it is what is said of a step.
+fn comes(played: &Played, step: &Step<'_>) -> bool {
+    if step.found.is_empty() {
+        played.is(step.status, step.out.as_bytes(), step.err)
+    } else {
+        played.is_found(step.status, step.out.as_bytes(), step.found, step.err)
+    }
+}
+
 /// That each step does what is said of it, in their order.
 fn all_come<'a, R: Abort + AllocGlobal + Clock + Threads + Wait + Sync>(
     rt: &R,
@@ -158,7 +176,7 @@ fn all_come<'a, R: Abort + AllocGlobal + Clock + Threads + Wait + Sync>(
     for step in steps {
         given.input = step.asked.as_bytes();
         let played = play_given(rt, step.words, given, all_taken(rt), all_taken(rt));
-        assert!(rt; played.is(step.status, step.out.as_bytes(), step.err));
+        assert!(rt; comes(&played, step));
     }
 }
 
@@ -176,6 +194,7 @@ fn a_store_is_created_once(rt: HostRuntime) {
         words: &["create", "a.db", "two.objects", "less.type"],
         asked: "",
         out: "# object 0 no NotCommuting 1 0 0\n",
+        found: "",
         err: "",
         status: Status::No,
     };
@@ -220,10 +239,10 @@ f ok
 ";
     let mut given = created(&rt);
     let steps = [
-        served(ASKED, ANSWERED),
+        served(ASKED, ANSWERED, NOTHING),
         yes(&HISTORY, OBJECTS),
         yes(&AUDIT, "# audit yes\n# serial 0 1\n# serial 1 1\n"),
-        served(next, answered),
+        served(next, answered, NOTHING),
         yes(&HISTORY, OBJECTS),
         yes(&AUDIT, "# audit yes\n# serial 0 1\n# serial 1 0\n"),
     ];
@@ -245,13 +264,14 @@ fn cut_off<'a, R: Abort + AllocGlobal + Clock + Threads + Wait + Sync>(
 fn an_epoch_goes_on_where_the_output_stops(rt: HostRuntime) {
     let mut given = created(&rt);
     let played = cut_off(&rt, &mut given, ASKED);
-    assert!(rt; played.is(Status::Failed, b"colock 1 1\n", ""));
+    assert!(rt; played.is_found(Status::Failed, b"colock 1 1\n", NOTHING, ""));
     let audited = "# audit yes\n# commit 0\n# serial 0 1\n# serial 1 1\n";
     let counted = "colock 1 2\na ok events 7 begun 2 open 0\n";
+    let found = "colock: a.db: 6 events, 1 aborted, ";
     let steps = [
         yes(&HISTORY, SERVED),
         yes(&AUDIT, audited),
-        served("a stats\n", counted),
+        served("a stats\n", counted, found),
     ];
     all_come(&rt, &mut given, &steps);
 }
@@ -276,11 +296,12 @@ fn an_input_that_fails_is_told(rt: HostRuntime) {
     let mut given = Given {
         source,
         databases,
+        archives: NoArchives,
         input: Broken,
     };
     let played = play_given(&rt, &SERVE, &mut given, all_taken(&rt), all_taken(&rt));
     let err = "colock: standard input: cannot read\n";
-    assert!(rt; played.is(Status::Failed, b"colock 1 1\n", err));
+    assert!(rt; played.is_found(Status::Failed, b"colock 1 1\n", NOTHING, err));
 }
 
 #[test]
@@ -304,6 +325,7 @@ fn an_event_that_no_command_makes_is_found(rt: HostRuntime) {
         words: &AUDIT,
         asked: "",
         out: "# audit no BadEvent 0\n",
+        found: "",
         err: "",
         status: Status::No,
     };

@@ -1,0 +1,17 @@
+//! Archives of no folder, which want no histories.
+
+use archive_files::Archives;
+use serving::NoArchive;
+use std::alloc::AllocError;
+
+/// Gives no other archive than one that wants nothing.
+#[derive(Drop)]
+pub struct NoArchives;
+
+impl Archives for NoArchives {
+    type Kept = NoArchive;
+
+    fn archive(&self, _folder: Option<&str>) -> Result<NoArchive, AllocError> {
+        Ok(NoArchive)
+    }
+}
