@@ -1,4 +1,5 @@
-//! durable serve PROGRAM DATABASE WINDOW COUNT: COUNT transactions at `PROGRAM serve DATABASE`, WINDOW of them at a time.
+//! durable serve PROGRAM DATABASE WINDOW COUNT [--fast]: COUNT transactions at `PROGRAM serve [--fast] DATABASE`, WINDOW of
+//! them at a time.
 //! durable fill PROGRAM DATABASE COUNT: the same, 1,000 at a time, and then the service is killed.
 //! durable open PROGRAM DATABASE: how long it takes to be greeted; the service is killed then.
 //! durable loop FILE GROUP COUNT: COUNT times a write of GROUP pages and an fdatasync, over a file that is there.
@@ -22,8 +23,8 @@ unsafe extern "C" {
 }
 
 /// A service that has greeted, and its pipe.
-fn greeted(program: &str, database: &str) -> (Child, ChildStdin, ChildStdout) {
-    let mut child = Command::new(program).args(["serve", database]).stdin(Stdio::piped()).stdout(Stdio::piped()).spawn().unwrap();
+fn greeted(program: &str, database: &str, options: &[String]) -> (Child, ChildStdin, ChildStdout) {
+    let mut child = Command::new(program).args(["serve", database]).args(options).stderr(Stdio::null()).stdin(Stdio::piped()).stdout(Stdio::piped()).spawn().unwrap();
     let (input, mut output) = (child.stdin.take().unwrap(), child.stdout.take().unwrap());
     let mut line = [0; 64];
     let length = output.read(&mut line).unwrap();
@@ -32,8 +33,8 @@ fn greeted(program: &str, database: &str) -> (Child, ChildStdin, ChildStdout) {
 }
 
 /// So many transactions, so many at a time: each begins, makes a call and commits.
-fn serve(program: &str, database: &str, window: usize, count: usize, is_ended: bool) {
-    let (mut child, mut input, mut output) = greeted(program, database);
+fn serve(program: &str, database: &str, options: &[String], window: usize, count: usize, is_ended: bool) {
+    let (mut child, mut input, mut output) = greeted(program, database, options);
     let mut buffer = vec![0; 1 << 16];
     let (mut begun, mut ended, mut reads) = (0, 0, 0);
     let (mut asked, mut half) = (String::new(), String::new());
@@ -86,7 +87,7 @@ fn serve(program: &str, database: &str, window: usize, count: usize, is_ended: b
 
 fn open(program: &str, database: &str) {
     let start = Instant::now();
-    let (mut child, _input, _output) = greeted(program, database);
+    let (mut child, _input, _output) = greeted(program, database, &[]);
     println!("{}", start.elapsed().as_secs_f64());
     child.kill().unwrap();
     child.wait().unwrap();
@@ -129,8 +130,8 @@ fn main() {
     let words: Vec<String> = args().skip(1).collect();
     let number = |at: usize| words[at].parse().unwrap();
     match words[0].as_str() {
-        "serve" => serve(&words[1], &words[2], number(3), number(4), true),
-        "fill" => serve(&words[1], &words[2], 1000, number(3), false),
+        "serve" => serve(&words[1], &words[2], &words[5..], number(3), number(4), true),
+        "fill" => serve(&words[1], &words[2], &[], 1000, number(3), false),
         "open" => open(&words[1], &words[2]),
         "loop" => write_loop(&words[1], number(2), number(3)),
         "sqlite" => sqlite(&words[1], number(2)),

@@ -1,4 +1,5 @@
 """Times of `colock serve` beside a loop of writes and syncs, SQLite's C library, and PostgreSQL where it is."""
+import itertools
 import os
 import re
 import shutil
@@ -30,10 +31,10 @@ def database(colock, folder, name):
     return path
 
 
-def syncs(colock, program, folder, window):
-    """How often `serve` asks for a sync, of which a commit of its log takes two."""
-    path, log = database(colock, folder, f"traced{window}.db"), os.path.join(folder, "trace")
-    words = ["strace", "-f", "-qq", "-e", "trace=fsync,fdatasync", "-o", log, program, "serve", colock, path, str(window), str(COUNT)]
+def syncs(colock, program, folder, window, options):
+    """How often `serve` asks for a sync, of which a commit of its log takes two, or one where it is fast."""
+    path, log = database(colock, folder, f"traced{window}{''.join(options)}.db"), os.path.join(folder, "trace")
+    words = ["strace", "-f", "-qq", "-e", "trace=fsync,fdatasync", "-o", log, program, "serve", colock, path, str(window), str(COUNT), *options]
     subprocess.run(words, check=True, capture_output=True)
     with open(log, encoding="ascii") as file:
         return len(re.findall("fdatasync|fsync", file.read()))
@@ -86,12 +87,12 @@ def time_durable():
             file.write("\n".join(store_times.modulo()) + "\n")
         once = COUNT / seconds(program, "sqlite", os.path.join(folder, "sqlite.db"), COUNT)[0]
         print(f"SQLite, an UPDATE each: {once:.0f} commits a second")
-        for window in WINDOWS:
-            took = seconds(program, "serve", colock, database(colock, folder, f"{window}.db"), window, COUNT)[0]
+        for window, options in itertools.product(WINDOWS, ((), ("--fast",))):
+            took = seconds(program, "serve", colock, database(colock, folder, f"{window}{''.join(options)}.db"), window, COUNT, *options)[0]
             loop = COUNT / seconds(program, "loop", os.path.join(folder, "loop"), window, COUNT)[0]
-            groups = syncs(colock, program, folder, window) / 2
+            groups = syncs(colock, program, folder, window, options) / (1 if options else 2)
             rate, groups_rate = COUNT / took, groups / took
-            print(f"{window} in flight: {rate:.0f} commits a second, {COUNT / groups:.1f} a group, {groups_rate:.0f} groups a second,"
+            print(f"{' '.join((str(window), *options))} in flight: {rate:.0f} commits a second, {COUNT / groups:.1f} a group, {groups_rate:.0f} groups a second,"
                   f" {groups_rate / loop:.2f} of the loop's {loop:.0f} syncs, {rate / once:.1f} of SQLite")
         for clients, rate in postgres(folder).items():
             print(f"PostgreSQL, one row, {clients} clients: {rate:.0f} commits a second")
