@@ -8,9 +8,9 @@ use Rattle.std.specs.List.{range_with_len}
 use Rattle.object_trait.specs.declared.event.Event.{Event}
 use Rattle.object_trait.specs.declared.event.EventKind.{EventKind}
 use Rattle.object_trait.specs.declared.event.EventKind.TheVariants.{Begin, Op, Busy, None, Commit, Abort, Rollback}
-use Rattle.serial_order.specs.History.{seen, is_open}
+use Rattle.serial_order.specs.History.{seen}
 use Rattle.serial_order.specs.After.{beginners}
-use Rattle.store.specs.Ends.{closing}
+use Rattle.store.specs.Ends.{closing_but, is_other}
 use Rattle.store_laws.specs.Stored.{Stored}
 use Rattle.journal.specs.Journal.{written}
 use Rattle.durable_store.specs.declared.durable.Durable.{Durable}
@@ -34,16 +34,16 @@ each-by-zero : (who : ℕ → ℕ) → ((t : ℕ) → who t ≡ 0) → (ts : Lis
 each-by-zero who is [] = refl
 each-by-zero who is (t ∷ ts) = ap₂ (λ w more. (let e : Event = record { worker = w; kind = Abort t } in e) ∷ more) (is t) (each-by-zero who is ts)
 
-pub closing-by-zero : (happened : List EventKind) → closing (events happened) ≡ events (kinds (closing (events happened)))
-closing-by-zero happened =
+pub closing-by-zero : (those : List ℕ) (happened : List EventKind) → closing_but those (events happened) ≡ events (kinds (closing_but those (events happened)))
+closing-by-zero those happened =
     each-by-zero (λ t. slice_index_or (beginners (events happened)) t 0) (began-zero happened)
-    (filter (is_open (seen (events happened))) (range_with_len 0 (seen (events happened)).begun))
+    (filter (is_other those (seen (events happened))) (range_with_len 0 (seen (events happened)).begun))
 
--- the aborts of what was open are what the journal hasn't yet
-pub aborts-behind : {S : Type 0} (g : Ghosts S) (d : Durable S) (s : Stored) (count : ℕ) → IsDurable g d → count ≡ length d.store.history → d.store.forgotten ≤ count
-    → s ≡ record d.store { history = d.store.history ++ closing d.store.history } → IsBehind g (record { store = s; journal = d.journal }) count
-aborts-behind g d s count sound is remembered aborted =
-    let more = closing d.store.history in
+-- the aborts of what was open, but of those, are what the journal hasn't yet
+pub aborts-behind : {S : Type 0} (g : Ghosts S) (those : List ℕ) (d : Durable S) (s : Stored) (count : ℕ) → IsDurable g d → count ≡ length d.store.history → d.store.forgotten ≤ count
+    → s ≡ record d.store { history = d.store.history ++ closing_but those d.store.history } → IsBehind g (record { store = s; journal = d.journal }) count
+aborts-behind g those d s count sound is remembered aborted =
+    let more = closing_but those d.store.history in
     let history : s.history ≡ d.store.history ++ more = ap (λ (s : Stored). s.history) aborted in
     let rest : drop count s.history ≡ more = ap₂ drop is history ∙ drop-append_seam d.store.history more in
     let long = ap length history ∙ length-append d.store.history more in
@@ -54,5 +54,5 @@ aborts-behind g d s count sound is remembered aborted =
       remembered = subst (λ (s : Stored). s.forgotten ≤ count) (sym aborted) remembered;
       inside = omega (arith, long, is);
       history = λ clean. ap₂ take is history ∙ take-append_seam d.store.history more ∙ sound.history clean;
-      by_zero = λ clean. subst (λ es. es ≡ events (kinds es)) (sym rest) (subst (λ H. closing H ≡ events (kinds (closing H))) (sym (sound.history clean)) (closing-by-zero (written g d.journal).events));
+      by_zero = λ clean. subst (λ es. es ≡ events (kinds es)) (sym rest) (subst (λ H. closing_but those H ≡ events (kinds (closing_but those H))) (sym (sound.history clean)) (closing-by-zero those (written g d.journal).events));
     }

@@ -3,4 +3,5 @@ pub mod Aborts
 pub mod Begun
 pub mod CatchingUp
 pub mod Firsts
+pub mod Found
 pub mod New

@@ -1,8 +1,8 @@
--- What an open finds: the types and the history of the file, and an abort of each transaction that was open.
+-- What an open finds: the types and the history of the file, and an abort of each transaction that was open and isn't prepared.
 use Rattle.std.specs.Prelude.{◌≡◌, ℕ, suc, List, [], ◌∷◌, ◌++◌}
 use Rattle.sqlite_trees.specs.declared.store.Store.{Ghosts}
 use Rattle.store_laws.specs.Stored.{Stored}
-use Rattle.store.specs.Ends.{closing}
+use Rattle.store.specs.Ends.{closing_but}
 use Rattle.journal.specs.declared.header.Header.{Header}
 use Rattle.journal.specs.Contents.{Contents, in_life}
 use Rattle.journal.specs.Journal.{Clean, IsOpen, ShowsCommit, durable, written}
@@ -22,23 +22,31 @@ abbrev pub next_life : List Header → ℕ
 next_life [] = 0
 next_life (h ∷ hs) = suc h.life
 
--- the file as an open leaves it: with an abort of each transaction that was open, in the next life
-abbrev pub recovered : Contents → Contents
-recovered c = in_life (with_all c (closing (events c.events))) (next_life c.headers)
+-- the file as an open leaves it: with an abort of each transaction that was open and isn't prepared, in the next life
+abbrev pub recovered_but : List ℕ → Contents → Contents
+recovered_but prepared c = in_life (with_all c (closing_but prepared (events c.events))) (next_life c.headers)
 
--- the store that an open gives of this file
-pub record IsRecovered {S : Type 0} (g : Ghosts S) (c : Contents) (d : Durable S) : Type 0 where
+-- where none is prepared
+abbrev pub recovered : Contents → Contents
+recovered c = recovered_but [] c
+
+-- the store that an open gives of this file, where these transactions are prepared
+pub record IsRecoveredBut {S : Type 0} (g : Ghosts S) (prepared : List ℕ) (c : Contents) (d : Durable S) : Type 0 where
   pub types : HasTypes c d.store.types
-  pub history : d.store.history ≡ events c.events ++ closing (events c.events)
-  pub written : written g d.journal ≡ recovered c
-  pub durable : durable g d.journal ≡ recovered c
+  pub history : d.store.history ≡ events c.events ++ closing_but prepared (events c.events)
+  pub written : written g d.journal ≡ recovered_but prepared c
+  pub durable : durable g d.journal ≡ recovered_but prepared c
+
+-- where none is
+abbrev pub IsRecovered : {S : Type 0} (g : Ghosts S) → Contents → Durable S → Type 0
+IsRecovered g c d = IsRecoveredBut g [] c d
 
 -- what a recovery does to a store that was made again
-pub record Recovers {S : Type 0} (g : Ghosts S) (old new : Durable S) : Type 0 where
+pub record Recovers {S : Type 0} (g : Ghosts S) (prepared : List ℕ) (old new : Durable S) : Type 0 where
   pub types : new.store.types ≡ old.store.types
-  pub history : new.store.history ≡ old.store.history ++ closing old.store.history
+  pub history : new.store.history ≡ old.store.history ++ closing_but prepared old.store.history
   pub clean : Clean g new.journal → Clean g old.journal
   pub is_open : Clean g new.journal → IsOpen g new.journal
   pub shows : ShowsCommit g new.journal
-  pub durable : Clean g new.journal → durable g new.journal ≡ recovered (written g old.journal)
-  pub written : Clean g new.journal → written g new.journal ≡ recovered (written g old.journal)
+  pub durable : Clean g new.journal → durable g new.journal ≡ recovered_but prepared (written g old.journal)
+  pub written : Clean g new.journal → written g new.journal ≡ recovered_but prepared (written g old.journal)

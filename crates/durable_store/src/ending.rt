@@ -1,10 +1,11 @@
 //! The ends and the rollbacks of transactions.
 
-ghost use Rattle.std.specs.Prelude.{◌≡◌, ◌++◌, ℕ, false, IfOk, OnOk};
+ghost use Rattle.std.specs.Prelude.{◌≡◌, ◌++◌, ◌&&◌, ℕ, false, IfOk, OnOk};
 ghost use Rattle.serial_order.specs.History.{is_open, seen};
+ghost use Rattle.serial_order.specs.Operations.{is_among};
 ghost use Rattle.serial_order.specs.declared.command.Command.TheVariants as command;
 ghost use Rattle.store_laws.specs.Stored.{MayStep, Steps};
-ghost use Rattle.store.specs.Ends.{closing};
+ghost use Rattle.store.specs.Ends.{closing, closing_but};
 ghost use Rattle.journal.specs.Journal.{Clean};
 ghost use Rattle.durable_store.specs.Durable.{IsDurable, KeepsSettled, OutcomesStay, WritesSince};
 
@@ -96,8 +97,28 @@ impl<S: Alter> Durable<S> {
         ensures clean { Clean S.Store self.new.journal → Clean S.Store self.old.journal }
         ensures crash { OutcomesStay S.Store self.old self.new }
     {
+        self.abort_all_but(&[])
+    }
+
+    /// Aborts each open transaction but those, in the order in which they began. The events are written, and a crash
+    /// may still take them away.
+    ///
+    /// # Errors
+    ///
+    /// As `begin`.
+    pub(crate) fn abort_all_but(&mut self, those: &[u32]) -> Result<(), JournalError>
+        requires { IsDurable S.Store self.old }
+        ensures sound { OnOk result (IsDurable S.Store self.new) }
+        ensures store { self.new.store ≡ record self.old.store { history = self.old.store.history ++ closing_but those.now self.old.store.history } }
+        ensures left { (t : ℕ) → is_open (seen self.new.store.history) t ≡ (is_among those.now t && is_open (seen self.old.store.history) t) }
+        ensures life { self.new.journal.header ≡ self.old.journal.header }
+        ensures written { OnOk result (WritesSince S.Store self.old self.new) }
+        ensures settled { OnOk result (KeepsSettled S.Store self.old self.new) }
+        ensures clean { Clean S.Store self.new.journal → Clean S.Store self.old.journal }
+        ensures crash { OutcomesStay S.Store self.old self.new }
+    {
         let count = self.store.event_count();
-        self.store.abort_all();
+        self.store.abort_all_but(those);
         self.write_since(count)
     }
 }

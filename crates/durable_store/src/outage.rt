@@ -25,7 +25,7 @@ pub fn restart<S: Alter + Reopen + Drop>(alloc: Global, running: Durable<S>) -> 
     let Durable { store, journal } = running;
     let _ = store.close();
     let (journal, said) = journal::restart(alloc, journal)?;
-    match resume(alloc, journal, &said) {
+    match resume(alloc, journal, &said, &[]) {
         Ok(durable) => Some(durable),
         Err(_) => None,
     }

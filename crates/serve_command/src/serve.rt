@@ -108,7 +108,7 @@ fn serve_in<'a, C: Clock, S: Alter, A: Archive, I: Read, W: Out, E: Out>(
         → OnOk result.0 (SaysFound (IsClean (S.Store.view result.1)) held asked.entry.path.now (E.taken err.old) (E.taken err.new)) }
 {
     let began = Instant::now(clock).ok();
-    match open_counted(alloc, trees) {
+    match open_counted(alloc, trees, &[]) {
         Ok((store, events)) => {
             let found = Found {
                 events,

@@ -1,7 +1,7 @@
 -- The end of a store: the aborts of its open transactions, and what they leave.
-use Rattle.std.proofs.Common.{◌≡◌, ℕ, zero, suc, ◌+◌, ◌<◌, ◌≤◌, ◌==◌, true, false, not, ◌&&◌, List, [], ◌∷◌, ◌++◌, map, filter, cond, if◌then◌else◌, length, Option, Some, None, is_some, slice_get, slice_index_or, refl, sym, ap, subst, ◌∙◌, inl, inr, append-nil, append_assoc, add-one, arith}
+use Rattle.std.proofs.Common.{◌≡◌, ℕ, zero, suc, ◌+◌, ◌<◌, ◌≤◌, ◌==◌, Bool, true, false, not, ◌&&◌, List, [], ◌∷◌, ◌++◌, map, filter, cond, if◌then◌else◌, length, Option, Some, None, is_some, slice_get, slice_index_or, refl, sym, ap, subst, ◌∙◌, inl, inr, append-nil, append_assoc, add-one, arith}
 use Rattle.std.specs.List.{range_with_len}
-use Rattle.std.proofs.lemmas.Bool.{cases_Bool, cases_eq, cases_lt, eq-eqb, ne_eqb, le-ltb, and_left, and_right, not_from_true}
+use Rattle.std.proofs.lemmas.Bool.{cases_Bool, cases_eq, cases_lt, eq-eqb, ne_eqb, le-ltb, and_left, and_right, not_from_true, false≢true}
 use Rattle.std.proofs.lemmas.List.{map-append, get_or_past}
 use Rattle.std.proofs.lemmas.List.Elements.{filter-append}
 use Rattle.std.proofs.lemmas.Option.{none-some, get_or_from_slice_get, slice_get-get_or}
@@ -11,6 +11,7 @@ use Rattle.object_trait.specs.Meaning.{Meaning}
 use Rattle.object_trait.specs.declared.event.Event.{Event}
 use Rattle.object_trait.specs.declared.event.EventKind.TheVariants.{Abort}
 use Rattle.serial_order.specs.History.{seen, is_open}
+use Rattle.serial_order.specs.Operations.{is_among}
 use Rattle.serial_order.specs.Machine.{IsRun}
 use Rattle.serial_order.specs.Laws.{RunGoesOn}
 use Rattle.serial_order.specs.After.{SeenAfter, TransactionsInRun, OpensAfter, beginners, BeginnersAfter, IdleIsClosed}
@@ -21,7 +22,7 @@ use Rattle.open_transactions.specs.Transactions as table
 use Rattle.open_transactions.specs.Transactions.{Row, row, worker_of}
 use Rattle.store_laws.specs.Stored.{Stored, objects, after}
 use Rattle.store_laws.specs.Kept.{Keeping, keeping, objects_of, IsKept}
-use Rattle.store.specs.Ends.{closing, closing_abort, IsHandedOut}
+use Rattle.store.specs.Ends.{closing, closing_abort, closing_but, is_other, IsHandedOut}
 use Rattle.store.proofs.Stored.{shown}
 use Rattle.store_laws.specs.Before.{RowsSayWhoIsOpen}
 use Rattle.serial_order.proofs.Idle.{none-idle}
@@ -72,59 +73,76 @@ aborts-once ms locks rows s new w t kept going opened by_its_own is =
 
 -- ---- one abort after another
 
--- the aborts of the open transactions below n
-abbrev pub closing_below : List Event → ℕ → List Event
-closing_below H n = map (closing_abort H) (filter (is_open (seen H)) (range_with_len 0 n))
+-- the aborts of the open transactions below n, but of those
+abbrev pub closing_below : List ℕ → List Event → ℕ → List Event
+closing_below those H n = map (closing_abort H) (filter (is_other those (seen H)) (range_with_len 0 n))
 
--- a store with the aborts of those below n
-abbrev pub closed_below : Stored → ℕ → Stored
-closed_below s n = record s { history = s.history ++ closing_below s.history n }
+-- a store with the aborts of the open ones below n, but of those
+abbrev pub closed_below : List ℕ → Stored → ℕ → Stored
+closed_below those s n = record s { history = s.history ++ closing_below those s.history n }
 
--- the next transaction is aborted too, where it is open
-closing-more : (H : List Event) (n : ℕ) → closing_below H (n + 1) ≡ closing_below H n ++ map (closing_abort H) (filter (is_open (seen H)) (n ∷ []))
-closing-more H n =
-    ap (λ ns. map (closing_abort H) (filter (is_open (seen H)) ns)) (range-more n)
-    ∙ ap (map (closing_abort H)) (filter-append (is_open (seen H)) (range_with_len 0 n) (n ∷ []))
-    ∙ map-append (closing_abort H) (filter (is_open (seen H)) (range_with_len 0 n)) (filter (is_open (seen H)) (n ∷ []))
+-- the next transaction is aborted too, where it is open and none of those
+closing-more : (those : List ℕ) (H : List Event) (n : ℕ)
+    → closing_below those H (n + 1) ≡ closing_below those H n ++ map (closing_abort H) (filter (is_other those (seen H)) (n ∷ []))
+closing-more those H n =
+    ap (λ ns. map (closing_abort H) (filter (is_other those (seen H)) ns)) (range-more n)
+    ∙ ap (map (closing_abort H)) (filter-append (is_other those (seen H)) (range_with_len 0 n) (n ∷ []))
+    ∙ map-append (closing_abort H) (filter (is_other those (seen H)) (range_with_len 0 n)) (filter (is_other those (seen H)) (n ∷ []))
 
--- where it is open, there is one abort more
-closing-opened : (H : List Event) (n : ℕ) → is_open (seen H) n ≡ true → H ++ closing_below H (n + 1) ≡ (H ++ closing_below H n) ++ closing_abort H n ∷ []
-closing-opened H n going =
-    ap (λ es. H ++ es) (closing-more H n ∙ ap (λ b. closing_below H n ++ map (closing_abort H) (cond b (n ∷ []) [])) going)
-    ∙ sym (append_assoc H (closing_below H n) (closing_abort H n ∷ []))
+-- where it is, there is one abort more
+closing-opened : (those : List ℕ) (H : List Event) (n : ℕ) → is_other those (seen H) n ≡ true
+    → H ++ closing_below those H (n + 1) ≡ (H ++ closing_below those H n) ++ closing_abort H n ∷ []
+closing-opened those H n going =
+    ap (λ es. H ++ es) (closing-more those H n ∙ ap (λ b. closing_below those H n ++ map (closing_abort H) (cond b (n ∷ []) [])) going)
+    ∙ sym (append_assoc H (closing_below those H n) (closing_abort H n ∷ []))
 
 -- else there is none
-closing-ended : (H : List Event) (n : ℕ) → is_open (seen H) n ≡ false → H ++ closing_below H (n + 1) ≡ H ++ closing_below H n
-closing-ended H n ended =
-    ap (λ es. H ++ es) (closing-more H n ∙ ap (λ b. closing_below H n ++ map (closing_abort H) (cond b (n ∷ []) [])) ended ∙ append-nil (closing_below H n))
+closing-ended : (those : List ℕ) (H : List Event) (n : ℕ) → is_other those (seen H) n ≡ false → H ++ closing_below those H (n + 1) ≡ H ++ closing_below those H n
+closing-ended those H n ended =
+    ap (λ es. H ++ es)
+    (closing-more those H n ∙ ap (λ b. closing_below those H n ++ map (closing_abort H) (cond b (n ∷ []) [])) ended ∙ append-nil (closing_below those H n))
 
 -- where none below n is open, there is nothing to abort there
-closing-none : (H : List Event) (n : ℕ) → ((t : ℕ) → t < n → is_open (seen H) t ≡ false) → H ++ closing_below H n ≡ H
-closing-none H zero none = append-nil H
-closing-none H (suc n) none =
-    subst (λ k. H ++ closing_below H k ≡ H) (add-one n) (closing-ended H n (none n (omega arith)) ∙ closing-none H n (λ t low. none t (omega (arith, low))))
+closing-none : (those : List ℕ) (H : List Event) (n : ℕ) → ((t : ℕ) → t < n → is_open (seen H) t ≡ false) → H ++ closing_below those H n ≡ H
+closing-none those H zero none = append-nil H
+closing-none those H (suc n) none =
+    subst (λ k. H ++ closing_below those H k ≡ H) (add-one n)
+    (closing-ended those H n (and_right _ _ (none n (omega arith))) ∙ closing-none those H n (λ t low. none t (omega (arith, low))))
 
 -- so a store is as it was where the rows of those below n say that they ended
-pub closed-none : RowsSayWhoIsOpen → (ms : List Meaning) (locks : List Locks) (rows : List (Option Row)) (s : Stored) (n : ℕ) → IsKept (keeping ms locks rows) s.history
-    → ((t : ℕ) → t < n → table.is_open rows t ≡ false) → s ≡ closed_below s n
-closed-none says ms locks rows s n kept none =
-    ap (λ K. record s { history = K }) (sym (closing-none s.history n (λ t low. open-alike says ms locks rows s.history t kept ∙ none t low)))
+pub closed-none : RowsSayWhoIsOpen → (those : List ℕ) (ms : List Meaning) (locks : List Locks) (rows : List (Option Row)) (s : Stored) (n : ℕ)
+    → IsKept (keeping ms locks rows) s.history → ((t : ℕ) → t < n → table.is_open rows t ≡ false) → s ≡ closed_below those s n
+closed-none says those ms locks rows s n kept none =
+    ap (λ K. record s { history = K }) (sym (closing-none those s.history n (λ t low. open-alike says ms locks rows s.history t kept ∙ none t low)))
 
 -- ---- what is known meanwhile
 
--- K goes on from H: it is a run in which none below n is open, the others are open where they were, and each was begun by the same worker
-pub record IsClosedBelow (objects : List Object) (H K : List Event) (n : ℕ) : Type 0 where
+-- one that is to be aborted is open, and none of those
+other-is : (among going : Bool) → (not among && going) ≡ true → (among ≡ false) × (going ≡ true)
+other-is false going is = (refl, is)
+other-is true going is = absurd (false≢true is)
+
+-- one that isn't is open where it was, and is one of those then
+left-is : (among going : Bool) → (not among && going) ≡ false → going ≡ (among && going)
+left-is false going is = is
+left-is true going is = refl
+
+-- K goes on from H: it is a run in which of those below n the open ones are those that were and are not to be aborted, the others are open where
+-- they were, and each was begun by the same worker
+pub record IsClosedBelow (those : List ℕ) (objects : List Object) (H K : List Event) (n : ℕ) : Type 0 where
   pub run : IsRun objects K
   pub began : beginners K ≡ beginners H
-  pub closed : (t : ℕ) → t < n → is_open (seen K) t ≡ false
+  pub closed : (t : ℕ) → t < n → is_open (seen K) t ≡ (is_among those t && is_open (seen H) t)
   pub others : (t : ℕ) → n ≤ t → is_open (seen K) t ≡ is_open (seen H) t
 
 module _ (goes_on : RunGoesOn) (now : SeenAfter) (in_run : TransactionsInRun) (opens : OpensAfter) (began : BeginnersAfter)
-    (objects : List Object) (H : List Event) (run : IsRun objects H) where
-  -- where the next is open, with its abort
-  closed-opened : (K : List Event) (n : ℕ) → IsClosedBelow objects H K n → is_open (seen H) n ≡ true → IsClosedBelow objects H (K ++ closing_abort H n ∷ []) (n + 1)
-  closed-opened K n below going =
-      let may : is_open (seen K) n ≡ true = below.others n (omega arith) ∙ going in
+    (those : List ℕ) (objects : List Object) (H : List Event) (run : IsRun objects H) where
+  -- where the next is to be aborted, with its abort
+  closed-opened : (K : List Event) (n : ℕ) → IsClosedBelow those objects H K n → is_other those (seen H) n ≡ true
+      → IsClosedBelow those objects H (K ++ closing_abort H n ∷ []) (n + 1)
+  closed-opened K n below is_one =
+      let its = other-is (is_among those n) (is_open (seen H) n) is_one in
+      let may : is_open (seen K) n ≡ true = below.others n (omega arith) ∙ its.1 in
       let who : (t : ℕ) → is_open (seen (K ++ closing_abort H n ∷ [])) t ≡ (not (t == n) && is_open (seen K) t) =
       λ t. ap (λ s. is_open s t) (now K (closing_abort H n)) ∙ (opens objects (seen K) (Abort n) (in_run objects K below.run) may).0 t
       in
@@ -134,98 +152,108 @@ module _ (goes_on : RunGoesOn) (now : SeenAfter) (in_run : TransactionsInRun) (o
         closed = λ t low.
             who t
             ∙ elim (cases_eq t n) [
-              | inl same ↦ and_left _ _ (not_from_true _ (eq-eqb t n same))
-              | inr other ↦ and_right _ _ (below.closed t (omega (arith, low, other)))
+              | inl same ↦ and_left _ _ (not_from_true _ (eq-eqb t n same)) ∙ sym (and_left _ _ (ap (is_among those) same ∙ its.0))
+              | inr other ↦ ap (λ b. not b && is_open (seen K) t) (ne_eqb t n other) ∙ below.closed t (omega (arith, low, other))
             ];
         others = λ t past.
             who t ∙ ap (λ b. not b && is_open (seen K) t) (ne_eqb t n (λ same. omega (arith, past, same))) ∙ below.others t (omega (arith, past));
       }
 
   -- where it isn't, as it is
-  closed-ended : (K : List Event) (n : ℕ) → IsClosedBelow objects H K n → is_open (seen H) n ≡ false → IsClosedBelow objects H K (n + 1)
+  closed-ended : (K : List Event) (n : ℕ) → IsClosedBelow those objects H K n → is_other those (seen H) n ≡ false → IsClosedBelow those objects H K (n + 1)
   closed-ended K n below ended =
       record {
         run = below.run;
         began = below.began;
         closed = λ t low.
             elim (cases_eq t n) [
-              | inl same ↦ ap (is_open (seen K)) same ∙ below.others n (omega arith) ∙ ended
+              | inl same ↦
+                  ap (is_open (seen K)) same ∙ below.others n (omega arith) ∙ left-is (is_among those n) (is_open (seen H) n) ended
+                  ∙ ap (λ u. is_among those u && is_open (seen H) u) (sym same)
               | inr other ↦ below.closed t (omega (arith, low, other))
             ];
         others = λ t past. below.others t (omega (arith, past));
       }
 
   -- so it is known at each number
-  pub closed-each : (n : ℕ) → IsClosedBelow objects H (H ++ closing_below H n) n
+  pub closed-each : (n : ℕ) → IsClosedBelow those objects H (H ++ closing_below those H n) n
   closed-each zero =
-      subst (λ K. IsClosedBelow objects H K 0) (sym (append-nil H))
+      subst (λ K. IsClosedBelow those objects H K 0) (sym (append-nil H))
       (record { run = run; began = refl; closed = λ t low. absurd (omega (arith, low)); others = λ t past. refl })
   closed-each (suc n) =
       let below = closed-each n in
-      subst (λ k. IsClosedBelow objects H (H ++ closing_below H k) k) (add-one n)
-      (elim (cases_Bool (is_open (seen H) n)) [
-        | inl going ↦ subst (λ K. IsClosedBelow objects H K (n + 1)) (sym (closing-opened H n going)) (closed-opened (H ++ closing_below H n) n below going)
-        | inr ended ↦ subst (λ K. IsClosedBelow objects H K (n + 1)) (sym (closing-ended H n ended)) (closed-ended (H ++ closing_below H n) n below ended)
+      subst (λ k. IsClosedBelow those objects H (H ++ closing_below those H k) k) (add-one n)
+      (elim (cases_Bool (is_other those (seen H) n)) [
+        | inl going ↦
+            subst (λ K. IsClosedBelow those objects H K (n + 1)) (sym (closing-opened those H n going)) (closed-opened (H ++ closing_below those H n) n below going)
+        | inr ended ↦
+            subst (λ K. IsClosedBelow those objects H K (n + 1)) (sym (closing-ended those H n ended)) (closed-ended (H ++ closing_below those H n) n below ended)
       ])
 
 -- ---- a turn
 
 -- a turn leaves the store with the aborts of one more number
-turn : (objects : List Object) (s new : Stored) (n : ℕ) → IsClosedBelow objects s.history (s.history ++ closing_below s.history n) n
-    → (is_open (seen (closed_below s n).history) n ≡ true → new ≡ aborted_once (closed_below s n) n)
-    → (is_open (seen (closed_below s n).history) n ≡ false → new ≡ closed_below s n) → new ≡ closed_below s (n + 1)
-turn objects s new n below aborts stays =
-    let same = below.others n (omega arith) in
-    elim (cases_Bool (is_open (seen s.history) n)) [
+turn : (those : List ℕ) (objects : List Object) (s new : Stored) (n : ℕ) → IsClosedBelow those objects s.history (s.history ++ closing_below those s.history n) n
+    → (is_other those (seen (closed_below those s n).history) n ≡ true → new ≡ aborted_once (closed_below those s n) n)
+    → (is_other those (seen (closed_below those s n).history) n ≡ false → new ≡ closed_below those s n) → new ≡ closed_below those s (n + 1)
+turn those objects s new n below aborts stays =
+    let same : is_other those (seen (closed_below those s n).history) n ≡ is_other those (seen s.history) n =
+    ap (λ b. not (is_among those n) && b) (below.others n (omega arith)) in
+    elim (cases_Bool (is_other those (seen s.history) n)) [
       | inl going ↦
           aborts (same ∙ going)
-          ∙ ap (λ ws. record s { history = (s.history ++ closing_below s.history n) ++ (record { worker = slice_index_or ws n 0; kind = Abort n }) ∷ [] }) below.began
-          ∙ ap (λ K. record s { history = K }) (sym (closing-opened s.history n going))
-      | inr ended ↦ stays (same ∙ ended) ∙ ap (λ K. record s { history = K }) (sym (closing-ended s.history n ended))
+          ∙ ap (λ ws. record s { history = (s.history ++ closing_below those s.history n) ++ (record { worker = slice_index_or ws n 0; kind = Abort n }) ∷ [] }) below.began
+          ∙ ap (λ K. record s { history = K }) (sym (closing-opened those s.history n going))
+      | inr ended ↦ stays (same ∙ ended) ∙ ap (λ K. record s { history = K }) (sym (closing-ended those s.history n ended))
     ]
 
 -- and so of the store as the turn finds it
-pub next-turn : (objects : List Object) (s old new : Stored) (n : ℕ) → IsClosedBelow objects s.history (s.history ++ closing_below s.history n) n
-    → old ≡ closed_below s n → (is_open (seen old.history) n ≡ true → new ≡ aborted_once old n) → (is_open (seen old.history) n ≡ false → new ≡ old)
-    → new ≡ closed_below s (n + 1)
-next-turn objects s old new n below is aborts stays =
-    subst (λ z. (is_open (seen z.history) n ≡ true → new ≡ aborted_once z n) → (is_open (seen z.history) n ≡ false → new ≡ z) → new ≡ closed_below s (n + 1)) (sym is)
-    (turn objects s new n below) aborts stays
+pub next-turn : (those : List ℕ) (objects : List Object) (s old new : Stored) (n : ℕ)
+    → IsClosedBelow those objects s.history (s.history ++ closing_below those s.history n) n → old ≡ closed_below those s n
+    → (is_other those (seen old.history) n ≡ true → new ≡ aborted_once old n) → (is_other those (seen old.history) n ≡ false → new ≡ old)
+    → new ≡ closed_below those s (n + 1)
+next-turn those objects s old new n below is aborts stays =
+    subst (λ z. (is_other those (seen z.history) n ≡ true → new ≡ aborted_once z n) → (is_other those (seen z.history) n ≡ false → new ≡ z)
+    → new ≡ closed_below those s (n + 1)) (sym is)
+    (turn those objects s new n below) aborts stays
 
 -- ---- the end
 
--- what is known when each transaction was met: the history goes on by the aborts of all that were open, and none is open
-pub record IsClosed (s : Stored) (K : List Event) : Type 0 where
-  pub whole : K ≡ s.history ++ closing s.history
+-- what is known when each transaction was met: the history goes on by the aborts of all that were open, but of those, and those are open yet
+pub record IsClosed (those : List ℕ) (s : Stored) (K : List Event) : Type 0 where
+  pub whole : K ≡ s.history ++ closing_but those s.history
   pub run : IsRun (objects s) K
-  pub none : (t : ℕ) → is_open (seen K) t ≡ false
+  pub left : (t : ℕ) → is_open (seen K) t ≡ (is_among those t && is_open (seen s.history) t)
 
--- none is open where each was met
-none-open : (objects : List Object) (H K : List Event) → IsClosedBelow objects H K (seen H).begun → (t : ℕ) → is_open (seen K) t ≡ false
-none-open objects H K below t =
+-- those are open where each was met
+left-open : (those : List ℕ) (objects : List Object) (H K : List Event) → IsClosedBelow those objects H K (seen H).begun
+    → (t : ℕ) → is_open (seen K) t ≡ (is_among those t && is_open (seen H) t)
+left-open those objects H K below t =
     elim (cases_lt t (seen H).begun) [
       | inl low ↦ below.closed t low
-      | inr past ↦ below.others t past ∙ and_left _ _ (le-ltb t (seen H).begun past)
+      | inr past ↦
+          let none : is_open (seen H) t ≡ false = and_left _ _ (le-ltb t (seen H).begun past) in
+          below.others t past ∙ none ∙ sym (and_right _ _ none)
     ]
 
 -- that is known after as many turns as there are rows
-pub closed-all : RunGoesOn → SeenAfter → TransactionsInRun → OpensAfter → BeginnersAfter → (s : Stored) (k : Keeping) (K : List Event) (n : ℕ)
-    → IsKept k s.history → IsRun (objects s) s.history → n ≡ length k.rows → K ≡ s.history ++ closing_below s.history n → IsClosed s K
-closed-all goes_on now in_run opens began s k K n kept run many is =
-    let whole : K ≡ s.history ++ closing s.history = is ∙ ap (λ i. s.history ++ closing_below s.history i) (many ∙ kept.begun) in
-    let below = closed-each goes_on now in_run opens began (objects s) s.history run (seen s.history).begun in
-    subst (λ J. IsClosed s J) (sym whole)
-    (record { whole = refl; run = below.run; none = none-open (objects s) s.history (s.history ++ closing s.history) below })
+pub closed-all : RunGoesOn → SeenAfter → TransactionsInRun → OpensAfter → BeginnersAfter → (those : List ℕ) (s : Stored) (k : Keeping) (K : List Event) (n : ℕ)
+    → IsKept k s.history → IsRun (objects s) s.history → n ≡ length k.rows → K ≡ s.history ++ closing_below those s.history n → IsClosed those s K
+closed-all goes_on now in_run opens began those s k K n kept run many is =
+    let whole : K ≡ s.history ++ closing_but those s.history = is ∙ ap (λ i. s.history ++ closing_below those s.history i) (many ∙ kept.begun) in
+    let below = closed-each goes_on now in_run opens began those (objects s) s.history run (seen s.history).begun in
+    subst (λ J. IsClosed those s J) (sym whole)
+    (record { whole = refl; run = below.run; left = left-open those (objects s) s.history (s.history ++ closing_but those s.history) below })
 
 -- and of a store as it is, where the rows of all say that they ended
 pub closed-already : RunGoesOn → SeenAfter → TransactionsInRun → OpensAfter → BeginnersAfter → RowsSayWhoIsOpen → (ms : List Meaning) (locks : List Locks)
     (rows : List (Option Row)) (K : List Event) (max forgotten n : ℕ) (s : Stored) → shown (keeping ms locks rows) K max forgotten ≡ s → IsKept (keeping ms locks rows) K
-    → n ≡ length rows → ((t : ℕ) → t < n → table.is_open rows t ≡ false) → IsClosed s s.history
+    → n ≡ length rows → ((t : ℕ) → t < n → table.is_open rows t ≡ false) → IsClosed [] s s.history
 closed-already goes_on now in_run opens began says ms locks rows K max forgotten n s same its many ended =
     let k = keeping ms locks rows in
     let kept = kept-shown k K max forgotten s same its in
-    closed-all goes_on now in_run opens began s k s.history n kept (run-shown k K max forgotten s same its) many
-    (ap (λ (z : Stored). z.history) (closed-none says ms locks rows s n kept ended))
+    closed-all goes_on now in_run opens began [] s k s.history n kept (run-shown k K max forgotten s same its) many
+    (ap (λ (z : Stored). z.history) (closed-none says [] ms locks rows s n kept ended))
 
 -- where none is open, each object is handed out with no open entry
 pub handed-out : IdleIsClosed → (ms : List Meaning) (locks : List Locks) (rows : List (Option Row)) (K : List Event) → IsKept (keeping ms locks rows) K

@@ -1,12 +1,13 @@
 -- The end of a transaction, and the beginning and the end of a store.
-use Rattle.std.specs.Prelude.{◌≡◌, ℕ, ◌<◌, List, [], length, map, filter, ◌≤◌, Bool, true, false, ◌&&◌, nat_le, nat_lt, Some, slice_get, slice_index_or}
+use Rattle.std.specs.Prelude.{◌≡◌, ℕ, ◌<◌, List, [], length, map, filter, ◌≤◌, Bool, true, false, not, ◌&&◌, nat_le, nat_lt, Some, slice_get, slice_index_or}
 use Rattle.std.specs.List.{range_with_len}
 use Rattle.type_table.specs.Limits.{longest_history, most_objects}
 use Rattle.object_trait.specs.Meaning.{Meaning}
 use Rattle.object_trait.specs.Steps.{IsFresh, open_transactions}
 use Rattle.object_trait.specs.declared.event.Event.{Event}
 use Rattle.object_trait.specs.declared.event.EventKind.TheVariants.{Abort}
-use Rattle.serial_order.specs.History.{seen, is_open}
+use Rattle.serial_order.specs.History.{Seen, seen, is_open}
+use Rattle.serial_order.specs.Operations.{is_among}
 use Rattle.serial_order.specs.After.{beginners}
 use Rattle.serial_order.specs.declared.command.Command.{Command}
 use Rattle.serial_order.specs.declared.command.Command.TheVariants as command
@@ -57,6 +58,14 @@ closing_abort H t = record { worker = slice_index_or (beginners H) t 0; kind = A
 -- the abort of each open transaction, in ascending order of their numbers
 abbrev pub closing : List Event → List Event
 closing H = map (closing_abort H) (filter (is_open (seen H)) (range_with_len 0 (seen H).begun))
+
+-- t is open, and none of those
+abbrev pub is_other : List ℕ → Seen → ℕ → Bool
+is_other those s t = not (is_among those t) && is_open s t
+
+-- the abort of each open transaction but those, in the same order
+abbrev pub closing_but : List ℕ → List Event → List Event
+closing_but those H = map (closing_abort H) (filter (is_other those (seen H)) (range_with_len 0 (seen H).begun))
 
 -- an object that a store hands out at its end: it represents the history, and no transaction is open there
 pub record IsHandedOut (m : Meaning) (x : ℕ) (H : List Event) : Type 0 where

@@ -1,11 +1,12 @@
 //! The end of a store.
 
-ghost use Rattle.std.specs.Prelude.{◌≡◌, ℕ, [], ◌∷◌, ◌++◌, true, false, map, drop, Some, slice_get};
+ghost use Rattle.std.specs.Prelude.{◌≡◌, ℕ, [], ◌∷◌, ◌++◌, true, false, ◌&&◌, map, drop, Some, slice_get};
 ghost use Rattle.object_trait.specs.Meaning.{Meaning};
 ghost use Rattle.serial_order.specs.History.{seen, is_open};
+ghost use Rattle.serial_order.specs.Operations.{is_among};
 ghost use Rattle.serial_order.specs.Machine.{IsRun};
 ghost use Rattle.store_laws.specs.Stored.{objects, types_of};
-ghost use Rattle.store.specs.Ends.{closing, closing_abort, IsHandedOut};
+ghost use Rattle.store.specs.Ends.{closing, closing_abort, closing_but, is_other, IsHandedOut};
 
 use crate::store::Store;
 use object_trait::{Event, Recovery};
@@ -44,6 +45,15 @@ impl<R: Recovery> Store<R> {
         ensures aborts { self.new ≡ record self.old { history = self.old.history ++ closing self.old.history } }
         ensures none { (t : ℕ) → is_open (seen self.new.history) t ≡ false }
     {
+        self.abort_all_but(&[]);
+    }
+
+    /// Aborts each open transaction but those, in ascending order of numbers, as the worker that began
+    /// it. It takes no memory.
+    pub fn abort_all_but(&mut self, those: &[u32])
+        ensures aborts { self.new ≡ record self.old { history = self.old.history ++ closing_but those.now self.old.history } }
+        ensures left { (t : ℕ) → is_open (seen self.new.history) t ≡ (is_among those.now t && is_open (seen self.old.history) t) }
+    {
         rows_say_who_is_open();
         run_goes_on();
         seen_after();
@@ -51,6 +61,16 @@ impl<R: Recovery> Store<R> {
         opens_after();
         beginners_after();
         for t in self.transactions.oldest()..self.transactions.begun() {
+            self.abort_other(those, t);
+        }
+    }
+
+    /// Aborts t where it is open and none of those.
+    fn abort_other(&mut self, those: &[u32], t: u32)
+        ensures aborts { is_other those.now (seen self.old.history) t ≡ true → self.new ≡ record self.old { history = self.old.history ++ closing_abort self.old.history t ∷ [] } }
+        ensures stays { is_other those.now (seen self.old.history) t ≡ false → self.new ≡ self.old }
+    {
+        if !is_among(those, t) {
             self.abort_open(t);
         }
     }
@@ -67,4 +87,11 @@ impl<R: Recovery> Store<R> {
             let _ = self.abort(w, t);
         }
     }
+}
+
+/// Whether t is one of those.
+fn is_among(those: &[u32], t: u32) -> bool
+    ensures { result ≡ is_among those.now t }
+{
+    those.contains(&t)
 }

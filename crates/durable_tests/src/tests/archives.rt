@@ -191,7 +191,7 @@ fn is_held<S: Numbered + Drop>(rt: &(impl Abort + AllocGlobal + Clock), trees: S
 {
     let mut shelf = empty_shelf(rt, 0);
     let (told, trees) = served(rt, trees, &mut shelf, hour(), COMMITTED);
-    let found = open(rt.alloc(), trees.numbered()).ok();
+    let found = open(rt.alloc(), trees.numbered(), &[]).ok();
     has(rt, found.expect(rt, "no store is found"), 6, 1);
     let fault = ServeFault::Archive(ArchiveFault::Device);
     assert!(rt; told == (Err(fault), 1, 6) && shelf.all.is_empty());

@@ -81,7 +81,7 @@ pub fn opened<S: Alter + Drop>(rt: &(impl Abort + AllocGlobal), trees: S) -> Dur
     ensures { IsDurable S.Store result }
 {
     let trees = created(rt, trees, &two_counters(rt));
-    let store = open(rt.alloc(), trees).ok();
+    let store = open(rt.alloc(), trees, &[]).ok();
     store.expect(rt, "the file isn't opened")
 }
 
@@ -153,6 +153,19 @@ pub fn restarted<S: Alter + Reopen + Drop>(
     ensures { IsDurable S.Store result }
 {
     restart(rt.alloc(), store).expect(rt, "nothing is found")
+}
+
+/// The file is opened again, where those are prepared.
+pub fn opened_but<S: Alter + Drop>(
+    rt: &(impl Abort + AllocGlobal),
+    store: Durable<S>,
+    prepared: &[u32],
+) -> Durable<S>
+    requires { IsDurable S.Store store }
+    ensures { IsDurable S.Store result }
+{
+    let store = open(rt.alloc(), store.into_trees(), prepared).ok();
+    store.expect(rt, "the file isn't opened")
 }
 
 /// That so many events came, and that both objects have this state; the store is let go.

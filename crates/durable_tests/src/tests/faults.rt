@@ -19,7 +19,7 @@ use type_table::Kind;
 fn error_of<S: Alter + Drop>(rt: &(impl Abort + AllocGlobal), trees: S) -> Option<OpenError>
     requires { IsClean (S.Store.view trees) → IsTrue (S.Store.view trees).is_numbered }
 {
-    match open(rt.alloc(), trees) {
+    match open(rt.alloc(), trees, &[]) {
         Ok(store) => {
             let _ = store.into_trees();
             None

@@ -44,7 +44,7 @@ fn is_opened<S: Alter + Drop>(rt: &(impl Abort + AllocGlobal), trees: S)
     requires { IsClean (S.Store.view trees) → IsTrue (S.Store.view trees).is_numbered }
 {
     let trees = created(rt, trees, COUNTER, &TWO).expect(rt, "there is none");
-    let store = open(rt.alloc(), trees).ok();
+    let store = open(rt.alloc(), trees, &[]).ok();
     has(rt, store.expect(rt, "it isn't opened"), 0, 0);
 }
 

@@ -1,7 +1,8 @@
 //! What is found after the machine stopped.
 
 use super::counters::{
-    aborted, begun, committed, counted, has, no_trees, opened, restarted, settled,
+    aborted, begun, committed, counted, ended, has, no_trees, opened, opened_but, restarted,
+    settled,
 };
 use durable_store::settle_and_restart;
 
@@ -45,6 +46,22 @@ fn what_was_open_is_aborted(rt: HostRuntime) {
     let life = store.life();
     has(&rt, store, 4, 0);
     assert!(rt; (t, next, life) == (0, 1, 2));
+}
+
+/// What is prepared stays open, with what it did; what else was open is aborted.
+#[test]
+fn what_is_prepared_stays_open(rt: HostRuntime) {
+    let mut store = opened(&rt, no_trees(&rt));
+    let first = begun(&rt, &mut store);
+    let second = begun(&rt, &mut store);
+    counted(&rt, &mut store, first, 0);
+    counted(&rt, &mut store, second, 0);
+    counted(&rt, &mut store, second, 1);
+    settled(&rt, &mut store);
+    let mut store = opened_but(&rt, store, &[second]);
+    ended(&rt, &mut store, second);
+    // five events, the abort of the first, and the commit
+    has(&rt, store, 7, 1);
 }
 
 /// A crash at the moment of a settling that answers.

@@ -199,7 +199,7 @@ fn played<S: Alter + Drop>(rt: &(impl Abort + AllocGlobal), trees: S) -> Option<
     requires { IsClean (S.Store.view trees) → IsTrue (S.Store.view trees).is_numbered }
 {
     let journal = new_journal(rt, trees)?;
-    let mut store = open(rt.alloc(), journal.into_store()).ok()?;
+    let mut store = open(rt.alloc(), journal.into_store(), &[]).ok()?;
     if counted_once(&mut store).is_err() {
         let _ = store.into_trees();
         return None;
@@ -211,7 +211,7 @@ fn played<S: Alter + Drop>(rt: &(impl Abort + AllocGlobal), trees: S) -> Option<
 fn events_found<S: Alter + Drop>(rt: &(impl Abort + AllocGlobal), trees: S) -> u32
     requires { IsClean (S.Store.view trees) → IsTrue (S.Store.view trees).is_numbered }
 {
-    let store = open(rt.alloc(), trees).ok();
+    let store = open(rt.alloc(), trees, &[]).ok();
     let store = store.expect(rt, "no store is found");
     let events = store.store().event_count();
     let has_counted = store.store().kept(0) == Some(1) && store.store().kept(1) == Some(1);

@@ -63,7 +63,7 @@ fn commits_told<S: Alter + Drop>(
 fn kept_in<S: Alter + Drop>(rt: &(impl Abort + AllocGlobal), trees: S) -> Option<u16>
     requires { IsClean (S.Store.view trees) → IsTrue (S.Store.view trees).is_numbered }
 {
-    let store = open(rt.alloc(), trees).ok();
+    let store = open(rt.alloc(), trees, &[]).ok();
     let store = store.expect(rt, "no store is found");
     let kept = store.store().kept(0);
     let _ = store.into_trees();
@@ -78,7 +78,7 @@ fn found_in<S: FoundAgain + Drop>(
     requires { IsClean (S.Store.view trees) → IsTrue (S.Store.view trees).is_numbered }
 {
     let journal = new_journal(rt, trees)?;
-    let store = open(rt.alloc(), journal.into_store()).ok()?;
+    let store = open(rt.alloc(), journal.into_store(), &[]).ok()?;
     let (told, trees) = commits_told(rt, store);
     let kept = kept_in(rt, trees.found_again(rt));
     Some(Found { told, kept })

@@ -1,7 +1,0 @@
-use Rattle.std.proofs.Common.{◌≡◌}
-use Rattle.store.proofs.Closings.{closed_below}
-use Rattle.store.proofs.store.Store.abort_all.Given as goal
-
--- those below t were met
-abbrev pub invariant-loop-t : goal.invariant-loop-t
-invariant-loop-t g l = l.self ≡ closed_below l.fn.self l.t
