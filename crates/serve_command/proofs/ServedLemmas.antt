@@ -1,5 +1,5 @@
 -- What is served at trees is served at the path of their database.
-use Rattle.std.proofs.Common.{◌≡◌, ◌∙◌, inl, inr, ℕ, ◌+◌, ◌-◌, List, length, ◌++◌, refl, sym, ap, subst, Option, Some, None, Result, Ok, Err, arith, ◌⊎◌, false}
+use Rattle.std.proofs.Common.{◌≡◌, ◌∙◌, inl, inr, ℕ, ◌-◌, List, length, ◌++◌, refl, sym, ap, subst, Option, Some, None, Result, Ok, Err, arith, ◌⊎◌, false}
 use Rattle.std.proofs.Math.Seq.{take-append-le}
 use Rattle.std.proofs.KnownBytes.{Appends-trans}
 use Rattle.std.proofs.lemmas.List.{append-nil, length-append, length-map}
@@ -10,7 +10,7 @@ use Rattle.sqlite_trees.specs.Tree.{Trees}
 use Rattle.sqlite_trees.specs.View.{IsClean}
 use Rattle.store_laws.specs.Stored.{Stored}
 use Rattle.journal.specs.Contents.{Contents, contents_of}
-use Rattle.journal.specs.Journal.{Clean, durable, written}
+use Rattle.journal.specs.Journal.{Clean, written}
 use Rattle.durable_store.specs.declared.durable.Durable.{Durable}
 use Rattle.store.specs.Ends.{closing}
 use Rattle.durable_store.specs.Durable.{events, with_all}
@@ -49,7 +49,7 @@ work-under sure w = record {
 }
 
 -- where the last commit is what is held
-at-path : (db : Trees) (P : Trees → Type 0) (left : Option Trees) → IfSome left (λ x. db ≡ x) → P db → IfSome left P
+pub at-path : (db : Trees) (P : Trees → Type 0) (left : Option Trees) → IfSome left (λ x. db ≡ x) → P db → IfSome left P
 at-path db P (Some x) same p = subst P same p
 at-path db P None same p = tt
 

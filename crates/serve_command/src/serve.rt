@@ -4,7 +4,10 @@ ghost use Rattle.std.specs.Prelude.{◌≡◌, ◌⊎◌, false, Option, None, S
 ghost use Rattle.sqlite_trees.specs.Tree.{Trees};
 ghost use Rattle.sqlite_trees.specs.View.{IsClean};
 ghost use Rattle.outputs.specs.Gathered.{taken_by, under};
+ghost use Rattle.journal.specs.Contents.{contents_of};
+ghost use Rattle.journal.specs.Journal.{written};
 ghost use Rattle.durable_store.specs.Durable.{IsDurable};
+ghost use Rattle.serve_command.specs.Archived.{ArchivesEpochs, KeepsBetween};
 ghost use Rattle.serve_command.specs.Found.{SaysFound};
 ghost use Rattle.serve_command.specs.Served.{BeginsServing, ComesOfServing, IsHeld, ServesDatabase, ServesIn, StopsIn};
 ghost use Rattle.command_files.specs.Answers.{Refuses};
@@ -43,7 +46,8 @@ pub struct Serving<'a> {
 /// lines of the input are done one after another, and the output is told what they are answered, until the end is asked
 /// for or the input has ended. What is open then is aborted, and the file begins a new epoch. After 980,000 events
 /// another epoch begins too: no further transaction begins before, and what is open is aborted where it goes on so long
-/// as it may. Before an epoch begins, the archive keeps the history of the one before.
+/// as it may. Before an epoch begins, the archive keeps the history of the one before; where the answer is yes, it has kept
+/// that of each epoch that ended, and nothing else.
 ///
 /// # Errors
 ///
@@ -65,6 +69,7 @@ pub fn serve_database<'a, C: Clock, D: Databases, A: Archive, I: Read, W: Out, E
         (ServesDatabase (D.is_clean databases.new) (D.holds databases.old path.now) (D.holds databases.new path.now) (I.remaining input.old) (I.remaining input.new))
         result.0 (taken_by W.taken out) (taken_by W.taken result.1) }
     ensures says { OnOk result.0 (SaysFound (D.is_clean databases.new) (D.holds databases.old asked.entry.path.now) asked.entry.path.now (E.taken err.old) (E.taken err.new)) }
+    ensures archives { OnOk result.0 (ArchivesEpochs (D.is_clean databases.new) (D.holds databases.old asked.entry.path.now) (D.holds databases.new asked.entry.path.now) (A.kept archive.old) (A.kept archive.new)) }
 {
     match databases.open(asked.path, asked.torn) {
         Ok(trees) => {
@@ -106,6 +111,8 @@ fn serve_in<'a, C: Clock, S: Alter, A: Archive, I: Read, W: Out, E: Out>(
         result.0 (taken_by W.taken client.old.out) (taken_by W.taken client.new.out) }
     ensures says { (held : Option Trees) → IsHeld (S.Store.view trees) held
         → OnOk result.0 (SaysFound (IsClean (S.Store.view result.1)) held asked.entry.path.now (E.taken err.old) (E.taken err.new)) }
+    ensures archives { (held : Option Trees) → IsHeld (S.Store.view trees) held
+        → OnOk result.0 (ArchivesEpochs (IsClean (S.Store.view result.1)) held (Some (S.Store.view result.1).committed) (A.kept archive.old) (A.kept archive.new)) }
 {
     let began = Instant::now(clock).ok();
     match open_counted(alloc, trees, &[]) {
@@ -138,6 +145,8 @@ fn serve_store<'a, C: Clock, S: Alter, A: Archive, I: Read, W: Out>(
     ensures told { OnOk result.0 (ServesIn S.Store store (I.remaining input.old) (taken_by W.taken client.old.out) result.1 (I.remaining input.new) (taken_by W.taken client.new.out)) }
     ensures cut { IfErr result.0 (λ fault. (taken_by W.taken client.new.out ≡ taken_by W.taken client.old.out)
         ⊎ ((is_input fault ≡ false) × StopsIn S.Store store (taken_by W.taken client.old.out) result.1 (taken_by W.taken client.new.out))) }
+    ensures archives { OnOk result.0 (IsClean (S.Store.view result.1)
+        → KeepsBetween (written S.Store store.journal) (contents_of (S.Store.view result.1).committed) (A.kept archive.old) (A.kept archive.new)) }
 {
     let Ok(mut buffer) = Vec::from_elem(alloc, 0u8, MOST_READ) else {
         return (Err(Fault::NoMemory), store.into_trees());

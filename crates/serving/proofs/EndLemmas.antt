@@ -39,7 +39,7 @@ left-served {S} g {began} {old} {mid} {d} new kept kept_mid kept_now is_old is_m
 -- ---- what was told
 
 -- a beginning of the greeting
-pub stops-greeting : {S : Type 0} {g : Ghosts S} {most : ℕ} {taken taken_now : Option (List ℕ)} (began : Durable S) → AppendsPart taken taken_now (greeting (life_of began)) → StopsServing g most began taken began taken_now
+abbrev pub stops-greeting : {S : Type 0} {g : Ghosts S} {most : ℕ} {taken taken_now : Option (List ℕ)} (began : Durable S) → AppendsPart taken taken_now (greeting (life_of began)) → StopsServing g most began taken began taken_now
 stops-greeting {S} {g} {most} {taken} {taken_now} began part = record {
   lines = [];
   answers = [];
@@ -51,7 +51,7 @@ stops-greeting {S} {g} {most} {taken} {taken_now} began part = record {
 }
 
 -- the greeting, and a beginning of what some lines are answered
-pub stops-answering : {S : Type 0} {g : Ghosts S} {most : ℕ} {taken greeted taken_now : Option (List ℕ)} (began now : Durable S) → Appends taken greeted (greeting (life_of began))
+abbrev pub stops-answering : {S : Type 0} {g : Ghosts S} {most : ℕ} {taken greeted taken_now : Option (List ℕ)} (began now : Durable S) → Appends taken greeted (greeting (life_of began))
     → StopsTelling g (session_of most began) greeted now taken_now → StopsServing g most began taken now taken_now
 stops-answering {S} {g} {most} {taken} {greeted} {taken_now} began now greets stops = record {
   lines = stops.lines;
@@ -95,7 +95,7 @@ serves-whole {S} {E} {g} {most} {given} {given_now} {greeted} {answered} {served
 serves-whole taken taken_now now (Err x) same greets tells asked at_end is_end clean renews ends = tt
 
 -- all of these, and then nothing, or a beginning of what is told at the end
-pub stops-ending : {S : Type 0} {g : Ghosts S} {most : ℕ} {given given_now taken greeted answered taken_now : Option (List ℕ)} {served : Server S} (began now : Durable S) → Appends taken greeted (greeting (life_of began))
+abbrev pub stops-ending : {S : Type 0} {g : Ghosts S} {most : ℕ} {given given_now taken greeted answered taken_now : Option (List ℕ)} {served : Server S} (began now : Durable S) → Appends taken greeted (greeting (life_of began))
     → HasTold g (session_of most began) given greeted served given_now answered → (Clean g now.journal → Clean g served.session.store.journal)
     → ((taken_now ≡ answered) ⊎ (EndsEpoch g served.session.store now × AppendsPart answered taken_now (answers_text (end_answers served.end)))) → StopsServing g most began taken now taken_now
 stops-ending {S} {g} {most} {given} {given_now} {taken} {greeted} {answered} {taken_now} {served} began now greets has clean part =

@@ -26,13 +26,13 @@ pub part-then : (a b c : Option (List ℕ)) (x y : List ℕ) → Appends a b x �
 part-then a b c x y first (n, within, second) =
     (length x + n, omega (arith, length-append x y), subst (Appends a c) (sym (take-append-add x y n)) (Appends-trans a b c x (take n y) first second))
 
-told-more : (told more : List Answered) → answers_text (told ++ more) ≡ answers_text told ++ answers_text more
+pub told-more : (told more : List Answered) → answers_text (told ++ more) ≡ answers_text told ++ answers_text more
 told-more told more = flat_map-append _ told more
 
 -- ---- a server stops
 
 -- with nothing more told
-pub stops-before : {S : Type 0} {g : Ghosts S} {began : Session S} {given taken given_now taken_now : Option (List ℕ)} {old : Server S} (new : Durable S)
+abbrev pub stops-before : {S : Type 0} {g : Ghosts S} {began : Session S} {given taken given_now taken_now : Option (List ℕ)} {old : Server S} (new : Durable S)
     → (Clean g new.journal → Clean g old.session.store.journal) → HasTold g began given taken old given_now taken_now → StopsTelling g began taken new taken_now
 stops-before {S} {g} {began} {given} {taken} {given_now} {taken_now} {old} new clean has = record {
   lines = has.served.lines;
@@ -46,7 +46,7 @@ stops-before {S} {g} {began} {given} {taken} {given_now} {taken_now} {old} new c
 }
 
 -- while it tells
-pub stops-telling : {S : Type 0} {g : Ghosts S} {began : Session S} {given taken given_now taken_now : Option (List ℕ)} {old : Server S} (mid : Server S) (new : Durable S) (taken_new : Option (List ℕ))
+abbrev pub stops-telling : {S : Type 0} {g : Ghosts S} {began : Session S} {given taken given_now taken_now : Option (List ℕ)} {old : Server S} (mid : Server S) (new : Durable S) (taken_new : Option (List ℕ))
     (bytes : List ℕ) → (Clean g new.journal → Clean g mid.session.store.journal) → (has : HasTold g began given taken old given_now taken_now) → ServesBytes g began has.told has.seen bytes mid
     → AppendsPart taken_now taken_new (answers_text mid.answers.items) → StopsTelling g began taken new taken_new
 stops-telling {S} {g} {began} {given} {taken} {given_now} {taken_now} {old} mid new taken_new bytes clean has more part = record {
@@ -61,7 +61,7 @@ stops-telling {S} {g} {began} {given} {taken} {given_now} {taken_now} {old} mid 
 
 -- ---- a group was told
 
-pub group-told : {S : Type 0} {g : Ghosts S} {began : Session S} {given taken given_now taken_now : Option (List ℕ)} {old : Server S} (mid new : Server S) (given_new taken_new : Option (List ℕ))
+abbrev pub group-told : {S : Type 0} {g : Ghosts S} {began : Session S} {given taken given_now taken_now : Option (List ℕ)} {old : Server S} (mid new : Server S) (given_new taken_new : Option (List ℕ))
     (bytes : List ℕ) → old.end ≡ None → HasTold g began given taken old given_now taken_now
     → ((told : List Answered) (seen : List ℕ) → HasServed g began told seen old → ServesBytes g began told seen bytes mid)
     → Consumes given_now given_new bytes → Appends taken_now taken_new (answers_text mid.answers.items)
@@ -97,7 +97,7 @@ group-told {S} {g} {began} {given} {taken} {given_now} {taken_now} {old} mid new
 
 -- ---- nothing was told yet
 
-pub told-none : {S : Type 0} {g : Ghosts S} (given taken : Option (List ℕ)) (s : Server S) → IsDurable g s.session.store → IsFresh s → HasTold g s.session given taken s given taken
+abbrev pub told-none : {S : Type 0} {g : Ghosts S} (given taken : Option (List ℕ)) (s : Server S) → IsDurable g s.session.store → IsFresh s → HasTold g s.session given taken s given taken
 told-none {S} {g} given taken s sound fresh = record {
   told = [];
   seen = [];

@@ -98,7 +98,7 @@ left-untold g old new kept kept_now leaves db left = elim (leaves db left) [
 ]
 
 -- the store of a file that has its whole history
-is-store-of : {S : Type 0} (g : Ghosts S) (d : Durable S) → IsDurable g d → Clean g d.journal → IsStoreOf (written g d.journal) d.store
+pub is-store-of : {S : Type 0} (g : Ghosts S) (d : Durable S) → IsDurable g d → Clean g d.journal → IsStoreOf (written g d.journal) d.store
 is-store-of g d sound clean = record { types = sound.types clean; history = sound.history clean }
 
 -- the new epoch of what was written with an abort of each transaction that was open
@@ -121,7 +121,7 @@ left-renewed g old mid new kept kept_now sound clean wrote keeps first crash db 
 ]
 
 -- the same headers, in the next life
-abbrev raised : List Header → List Header
+abbrev pub raised : List Header → List Header
 raised hs = map (λ (h : Header). let it : Header = record h { life = next_life hs } in it) hs
 
 -- the file of a new epoch, and its life
@@ -215,7 +215,7 @@ left-goes {S} {g} old mid new kept kept_now goes crash =
     left-then g old.store mid.store new kept kept kept_now goes.clean (writes-one g old.store mid.store kept goes.follows) (left-more g old.store mid.store kept goes.crash) crash
 
 -- another epoch
-lasts-epoch : {S : Type 0} {g : Ghosts S} {began mid : Session S} (new : Session S) (kept kept_now : Option (List KeptHistory)) → Lasts g began mid → IsDurable g new.store → new.life ≡ life_of new.store
+pub lasts-epoch : {S : Type 0} {g : Ghosts S} {began mid : Session S} (new : Session S) (kept kept_now : Option (List KeptHistory)) → Lasts g began mid → IsDurable g new.store → new.life ≡ life_of new.store
     → new.most_events ≡ mid.most_events → WritesEpochs g mid.store new.store kept kept_now → (Clean g new.store.journal → Clean g mid.store.journal) → LeavesEpochs g mid.store new.store kept kept_now → Lasts g began new
 lasts-epoch {S} {g} {began} {mid} new kept kept_now first sound named most writes clean crash = record {
   sound = sound;
@@ -227,7 +227,7 @@ lasts-epoch {S} {g} {began} {mid} new kept kept_now first sound named most write
 }
 
 -- what a server has served, behind another epoch too
-pub served-epoch : {S : Type 0} {g : Ghosts S} {began : Session S} {told : List Answered} {bytes : List ℕ} {old : Server S} (new : Server S) (kept kept_now : Option (List KeptHistory)) → old.end ≡ None
+abbrev pub served-epoch : {S : Type 0} {g : Ghosts S} {began : Session S} {told : List Answered} {bytes : List ℕ} {old : Server S} (new : Server S) (kept kept_now : Option (List KeptHistory)) → old.end ≡ None
     → is_full old.session.most_events old.session.store.store ≡ true → EndsEpoch g old.session.store new.session.store → IsDurable g new.session.store → new.session.life ≡ life_of new.session.store
     → new.session.most_events ≡ old.session.most_events → WritesEpochs g old.session.store new.session.store kept kept_now → (Clean g new.session.store.journal → Clean g old.session.store.journal)
     → LeavesEpochs g old.session.store new.session.store kept kept_now → new.line ≡ old.line → new.answers ≡ old.answers → new.end ≡ old.end
@@ -250,7 +250,7 @@ served-epoch {S} {g} {began} {told} {bytes} {old} new kept kept_now none full en
 }
 
 -- the same of what it has told
-pub told-epoch : {S : Type 0} {g : Ghosts S} {began : Session S} {given taken given_now taken_now : Option (List ℕ)} {old : Server S} (new : Server S) (kept kept_now : Option (List KeptHistory)) → old.end ≡ None
+abbrev pub told-epoch : {S : Type 0} {g : Ghosts S} {began : Session S} {given taken given_now taken_now : Option (List ℕ)} {old : Server S} (new : Server S) (kept kept_now : Option (List KeptHistory)) → old.end ≡ None
     → is_full old.session.most_events old.session.store.store ≡ true → EndsEpoch g old.session.store new.session.store → IsDurable g new.session.store → new.session.life ≡ life_of new.session.store
     → new.session.most_events ≡ old.session.most_events → WritesEpochs g old.session.store new.session.store kept kept_now → (Clean g new.session.store.journal → Clean g old.session.store.journal)
     → LeavesEpochs g old.session.store new.session.store kept kept_now → new.line ≡ old.line → new.answers ≡ old.answers → new.end ≡ old.end
@@ -267,7 +267,7 @@ told-epoch new kept kept_now none full ends sound named most writes clean crash 
 }
 
 -- and where nothing of this has changed
-pub told-as : {S : Type 0} {g : Ghosts S} {began : Session S} {given taken given_now taken_now : Option (List ℕ)} {old : Server S} (new : Server S) → new.session ≡ old.session → new.line ≡ old.line
+abbrev pub told-as : {S : Type 0} {g : Ghosts S} {began : Session S} {given taken given_now taken_now : Option (List ℕ)} {old : Server S} (new : Server S) → new.session ≡ old.session → new.line ≡ old.line
     → new.answers ≡ old.answers → new.end ≡ old.end → HasTold g began given taken old given_now taken_now → HasTold g began given taken new given_now taken_now
 told-as {S} {g} {began} {given} {taken} {given_now} {taken_now} {old} new session line answers ended has = record {
   told = has.told;

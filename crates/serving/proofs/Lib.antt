@@ -8,3 +8,7 @@ pub mod Listed
 pub mod Closing
 pub mod Groups
 pub mod EndLemmas
+pub mod FirstLines
+pub mod Surviving
+pub mod Acknowledging
+pub mod Committing

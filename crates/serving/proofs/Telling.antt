@@ -1,7 +1,7 @@
 -- What was told of a text.
 use Rattle.std.proofs.Common.{◌≡◌, ℕ, List, length, sym, Option, Result, Ok, Err, arith, subst}
 use Rattle.std.proofs.Math.Seq.{take-length}
-use Rattle.std.specs.Prelude.{OnErr, OnOk}
+use Rattle.std.specs.Prelude.{MatchResult, OnErr, OnOk}
 use Rattle.std.proofs.KnownBytes.{Appends-kept}
 use Rattle.std.specs.Io.KnownBytes.{Appends, Keeps}
 use Rattle.serving.specs.Told.{AppendsPart}
@@ -22,3 +22,11 @@ of-ok (Err e) x is p = absurd cc
 pub of-err : {T E : Type 0} {P : Type 0} (r : Result T E) (e : E) → r ≡ Err e → OnErr r P → P
 of-err (Ok x) e is p = absurd cc
 of-err (Err x) e is p = p
+
+pub match-ok : {T E : Type 0} (P Q : Type 0) (r : Result T E) (x : T) → r ≡ Ok x → MatchResult r (λ y. P) (λ e. Q) → P
+match-ok P Q (Ok y) x is p = p
+match-ok P Q (Err e) x is p = absurd cc
+
+pub match-err : {T E : Type 0} (P Q : Type 0) (r : Result T E) (e : E) → r ≡ Err e → MatchResult r (λ y. P) (λ x. Q) → Q
+match-err P Q (Ok x) e is p = absurd cc
+match-err P Q (Err x) e is p = p

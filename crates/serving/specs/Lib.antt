@@ -11,3 +11,5 @@ pub mod Serving
 pub mod Group
 pub mod Ending
 pub mod Whole
+pub mod Acknowledged
+pub mod CommitsFound

@@ -41,6 +41,7 @@ pub(crate) fn end_epoch<S: Alter, A: Archive>(
     ensures sound { OnOk result.1 (IsDurable S.Store result.0) }
     ensures ends { OnOk result.1 (EndsEpoch S.Store store result.0) }
     ensures writes { OnOk result.1 (WritesEpochs S.Store store result.0 (A.kept archive.old) (A.kept archive.new)) }
+    ensures shows { OnOk result.1 (ShowsCommit S.Store result.0.journal) }
     ensures clean { Clean S.Store result.0.journal → Clean S.Store store.journal }
     ensures crash { LeavesEpochs S.Store store result.0 (A.kept archive.old) (A.kept archive.new) }
 {

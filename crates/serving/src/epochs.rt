@@ -5,10 +5,11 @@ ghost use Rattle.outputs.specs.Gathered.{taken_by, under};
 ghost use Rattle.journal.specs.Journal.{Clean};
 ghost use Rattle.durable_store.specs.Durable.{IsDurable};
 ghost use Rattle.serving.specs.declared.session.Session.{Session as Began};
+ghost use Rattle.serving.specs.Acknowledged.{StopsSafely, TellsSafely};
 ghost use Rattle.serving.specs.Does.{is_full};
 ghost use Rattle.serving.specs.Ending.{EndsEpoch};
 ghost use Rattle.serving.specs.Epochs.{LeavesEpochs, WritesEpochs};
-ghost use Rattle.serving.specs.Group.{HasTold, IsMore, StopsTelling};
+ghost use Rattle.serving.specs.Group.{IsMore};
 ghost use Rattle.serving.specs.Serving.{life_of};
 
 use crate::archive::Archive;
@@ -82,10 +83,10 @@ impl<S: Alter> Server<S> {
         requires told { self.answers.items ≡ [] }
         requires room { 0 < length buffer.old }
         requires out_takes { W.fault (under client.old.out) ≡ None }
-        ensures serves { OnOk result.1 ((began : Began S) (given taken : Option (List ℕ)) → HasTold S.Store began given taken self (R.remaining input.old) (taken_by W.taken client.old.out)
-            → HasTold S.Store began given taken result.0 (R.remaining input.new) (taken_by W.taken client.new.out)) }
-        ensures stops { OnErr result.1 ((began : Began S) (given taken : Option (List ℕ)) → HasTold S.Store began given taken self (R.remaining input.old) (taken_by W.taken client.old.out)
-            → StopsTelling S.Store began taken result.0.session.store (taken_by W.taken client.new.out)) }
+        ensures serves { OnOk result.1 ((began : Began S) (given taken : Option (List ℕ)) → TellsSafely S.Store began given taken self (R.remaining input.old) (taken_by W.taken client.old.out)
+            → TellsSafely S.Store began given taken result.0 (R.remaining input.new) (taken_by W.taken client.new.out)) }
+        ensures stops { OnErr result.1 ((began : Began S) (given taken : Option (List ℕ)) → TellsSafely S.Store began given taken self (R.remaining input.old) (taken_by W.taken client.old.out)
+            → StopsSafely S.Store began taken result.0.session.store (taken_by W.taken client.new.out)) }
         ensures more { IfOk result.1 (λ more. IsMore more result.0 (R.remaining input.new)) }
         ensures told { OnOk result.1 (result.0.answers.items ≡ []) }
         ensures sound { OnOk result.1 (IsDurable S.Store result.0.session.store) }
@@ -115,8 +116,8 @@ impl<S: Alter> Server<S> {
     ) -> (Server<S>, Result<bool, ServeFault>)
         requires sound { IsDurable S.Store self.session.store }
         requires asked { self.end ≡ None }
-        ensures serves { OnOk result.1 ((began : Began S) (given taken given_now taken_now : Option (List ℕ)) → HasTold S.Store began given taken self given_now taken_now
-            → HasTold S.Store began given taken result.0 given_now taken_now) }
+        ensures serves { OnOk result.1 ((began : Began S) (given taken given_now taken_now : Option (List ℕ)) → TellsSafely S.Store began given taken self given_now taken_now
+            → TellsSafely S.Store began given taken result.0 given_now taken_now) }
         ensures more { IfOk result.1 (λ more. more ≡ true) }
         ensures asked { result.0.end ≡ None }
         ensures told { result.0.answers ≡ self.answers }

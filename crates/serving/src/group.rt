@@ -5,8 +5,9 @@ ghost use Rattle.outputs.specs.Gathered.{taken_by, under};
 ghost use Rattle.journal.specs.Journal.{Clean};
 ghost use Rattle.durable_store.specs.Durable.{IsDurable};
 ghost use Rattle.serving.specs.declared.session.Session.{Session as Began};
+ghost use Rattle.serving.specs.Acknowledged.{StopsSafely, TellsSafely};
 ghost use Rattle.serving.specs.Follows.{LeavesMore};
-ghost use Rattle.serving.specs.Group.{HasTold, IsMore, StopsTelling};
+ghost use Rattle.serving.specs.Group.{IsMore};
 ghost use Rattle.serving.specs.Serving.{GoesOn};
 
 use crate::client::Client;
@@ -38,10 +39,10 @@ impl<S: Alter> Server<S> {
         requires told { self.old.answers.items ≡ [] }
         requires room { 0 < length buffer.old }
         requires out_takes { W.fault (under client.old.out) ≡ None }
-        ensures serves { OnOk result ((began : Began S) (given taken : Option (List ℕ)) → HasTold S.Store began given taken self.old (R.remaining input.old) (taken_by W.taken client.old.out)
-            → HasTold S.Store began given taken self.new (R.remaining input.new) (taken_by W.taken client.new.out)) }
-        ensures stops { OnErr result ((began : Began S) (given taken : Option (List ℕ)) → HasTold S.Store began given taken self.old (R.remaining input.old) (taken_by W.taken client.old.out)
-            → StopsTelling S.Store began taken self.new.session.store (taken_by W.taken client.new.out)) }
+        ensures serves { OnOk result ((began : Began S) (given taken : Option (List ℕ)) → TellsSafely S.Store began given taken self.old (R.remaining input.old) (taken_by W.taken client.old.out)
+            → TellsSafely S.Store began given taken self.new (R.remaining input.new) (taken_by W.taken client.new.out)) }
+        ensures stops { OnErr result ((began : Began S) (given taken : Option (List ℕ)) → TellsSafely S.Store began given taken self.old (R.remaining input.old) (taken_by W.taken client.old.out)
+            → StopsSafely S.Store began taken self.new.session.store (taken_by W.taken client.new.out)) }
         ensures more { IfOk result (λ more. IsMore more self.new (R.remaining input.new)) }
         ensures told { OnOk result (self.new.answers.items ≡ []) }
         ensures goes_on { OnOk result (GoesOn S.Store self.old.session self.new.session) }

@@ -1,10 +1,11 @@
 //! A client is served until it asks for the end, or asks no more.
 
-ghost use Rattle.std.specs.Prelude.{◌≡◌, ◌<◌, None, length, OnErr, OnOk};
+ghost use Rattle.std.specs.Prelude.{◌≡◌, ◌<◌, None, length, MatchResult, OnErr, OnOk};
 ghost use Rattle.std.specs.Io.KnownBytes.{IsAtEnd};
 ghost use Rattle.outputs.specs.Gathered.{taken_by, under};
 ghost use Rattle.journal.specs.Journal.{Clean};
 ghost use Rattle.durable_store.specs.Durable.{IsDurable};
+ghost use Rattle.serving.specs.Acknowledged.{StopsSafely, TellsSafely};
 ghost use Rattle.serving.specs.Epochs.{LeavesEpochs, WritesEpochs};
 ghost use Rattle.serving.specs.Group.{HasTold, IsFresh, StopsTelling};
 
@@ -73,7 +74,8 @@ impl<S: Alter> Server<S> {
     /// Serves the client, group by group: what it asks is read into the buffer, as much as is there. An epoch that is full
     /// ends where nothing is open, or where what is open had so long to go on; the archive keeps its history, where it
     /// wants any, before the file begins anew. At `Ok` the client asked for the end, or the input has ended, and it was told
-    /// the answers to all whole lines before, in their order.
+    /// the answers to all whole lines before, in their order. However it ends, each commit that the client was told survives a
+    /// crash, where all that was written was durable as it began.
     ///
     /// # Errors
     ///
@@ -96,6 +98,9 @@ impl<S: Alter> Server<S> {
         ensures told { OnOk result.1 (HasTold S.Store self.session (R.remaining input.old) (taken_by W.taken client.old.out) result.0 (R.remaining input.new) (taken_by W.taken client.new.out)) }
         ensures ended { OnOk result.1 (result.0.end ≡ None → IsAtEnd (R.remaining input.new)) }
         ensures stops { OnErr result.1 (StopsTelling S.Store self.session (taken_by W.taken client.old.out) result.0.session.store (taken_by W.taken client.new.out)) }
+        ensures acknowledged { MatchResult result.1
+            (λ done. TellsSafely S.Store self.session (R.remaining input.old) (taken_by W.taken client.old.out) result.0 (R.remaining input.new) (taken_by W.taken client.new.out))
+            (λ fault. StopsSafely S.Store self.session (taken_by W.taken client.old.out) result.0.session.store (taken_by W.taken client.new.out)) }
         ensures out_takes { OnOk result.1 (W.fault (under client.new.out) ≡ None) }
         ensures archives { OnOk result.1 (WritesEpochs S.Store self.session.store result.0.session.store (A.kept archive.old) (A.kept archive.new)) }
         ensures clean { Clean S.Store result.0.session.store.journal → Clean S.Store self.session.store.journal }

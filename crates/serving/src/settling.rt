@@ -47,6 +47,8 @@ impl<S: Alter> Server<S> {
         ensures lets_go { OnOk result (LetsGo self.old.session.store.store self.new.session.store.store) }
         ensures settled { OnOk result (has_commit self.old.answers.items ≡ true → Clean S.Store self.new.session.store.journal
             → durable S.Store self.new.session.store.journal ≡ written S.Store self.new.session.store.journal) }
+        ensures shows { OnOk result (has_commit self.old.answers.items ≡ true → ShowsCommit S.Store self.new.session.store.journal) }
+        ensures same { OnOk result (Clean S.Store self.new.session.store.journal → written S.Store self.new.session.store.journal ≡ written S.Store self.old.session.store.journal) }
         ensures clean { Clean S.Store self.new.session.store.journal → Clean S.Store self.old.session.store.journal }
         ensures crash { LeavesMore S.Store self.old.session.store self.new.session.store }
     {

@@ -1,9 +1,10 @@
 //! A client is served from the greeting to the end.
 
-ghost use Rattle.std.specs.Prelude.{◌≡◌, ◌<◌, ◌⊎◌, None, length, OnErr, OnOk};
+ghost use Rattle.std.specs.Prelude.{◌≡◌, ◌<◌, ◌⊎◌, None, length, MatchResult, OnErr, OnOk};
 ghost use Rattle.outputs.specs.Gathered.{taken_by, under};
-ghost use Rattle.journal.specs.Journal.{Clean};
+ghost use Rattle.journal.specs.Journal.{Clean, ShowsCommit};
 ghost use Rattle.durable_store.specs.Durable.{IsDurable};
+ghost use Rattle.serving.specs.Acknowledged.{ServesSafely, StopsServingSafely};
 ghost use Rattle.serving.specs.Ending.{EndsEpoch, end_answers};
 ghost use Rattle.serving.specs.Epochs.{LeavesEpochs, WritesEpochs};
 ghost use Rattle.serving.specs.Told.{AppendsPart, answers_text};
@@ -28,7 +29,8 @@ use std::rt::Clock;
 /// Where an epoch is full, as the limits say, no further transaction begins before another epoch has begun. Where the
 /// client has asked for the end, or its input has ended, what is open is aborted and the file begins another epoch. The
 /// history of each epoch that ends is kept by the archive, where it wants any, before the file begins anew. Then the client
-/// is told that the end is there, where it asked for that.
+/// is told that the end is there, where it asked for that. However it ends, each commit that the client was told survives a
+/// crash, where all that was written was durable as it began.
 ///
 /// # Errors
 ///
@@ -49,7 +51,11 @@ pub fn serve<C: Clock, S: Alter, A: Archive, R: Read, W: Out>(
     requires out_takes { W.fault (under client.old.out) ≡ None }
     ensures told { OnOk result.1 (ServesClient S.Store limits.most_events store (R.remaining input.old) (taken_by W.taken client.old.out) result.0 (R.remaining input.new) (taken_by W.taken client.new.out)) }
     ensures stops { OnErr result.1 (StopsServing S.Store limits.most_events store (taken_by W.taken client.old.out) result.0 (taken_by W.taken client.new.out)) }
+    ensures acknowledged { MatchResult result.1
+        (λ done. ServesSafely S.Store limits.most_events store (R.remaining input.old) (taken_by W.taken client.old.out) result.0 (R.remaining input.new) (taken_by W.taken client.new.out))
+        (λ fault. StopsServingSafely S.Store limits.most_events store (taken_by W.taken client.old.out) result.0 (taken_by W.taken client.new.out)) }
     ensures archives { OnOk result.1 (WritesEpochs S.Store store result.0 (A.kept archive.old) (A.kept archive.new)) }
+    ensures shows { OnOk result.1 (ShowsCommit S.Store result.0.journal) }
     ensures sound { OnOk result.1 (IsDurable S.Store result.0) }
     ensures clean { Clean S.Store result.0.journal → Clean S.Store store.journal }
     ensures crash { LeavesEpochs S.Store store result.0 (A.kept archive.old) (A.kept archive.new) }
@@ -86,6 +92,7 @@ fn end_serving<S: Alter, A: Archive, W: Out>(
     ensures part { OnErr result.1 ((taken_by W.taken client.new.out ≡ taken_by W.taken client.old.out)
         ⊎ (EndsEpoch S.Store store result.0 × AppendsPart (taken_by W.taken client.old.out) (taken_by W.taken client.new.out) (answers_text (end_answers end)))) }
     ensures writes { OnOk result.1 (WritesEpochs S.Store store result.0 (A.kept archive.old) (A.kept archive.new)) }
+    ensures shows { OnOk result.1 (ShowsCommit S.Store result.0.journal) }
     ensures sound { OnOk result.1 (IsDurable S.Store result.0) }
     ensures clean { Clean S.Store result.0.journal → Clean S.Store store.journal }
     ensures crash { LeavesEpochs S.Store store result.0 (A.kept archive.old) (A.kept archive.new) }

@@ -1,5 +1,6 @@
 use Rattle.std.proofs.Common.{ap, sym}
 use Rattle.outputs.specs.Gathered.{taken_by}
+use Rattle.serve_command.proofs.Archiving.{archives-under}
 use Rattle.serve_command.proofs.ServedLemmas.{comes-under, says-under}
 use Rattle.serve_command.proofs.serve.serve_database.Goals as goal
 
@@ -15,3 +16,9 @@ returns-in-Ok-clause-says g c =
     let held = g.D.Databases.holds c.args.databases.now c.args.asked.path.now in
     says-under held c.serve_in-served.result.0 c.args.asked.path.now (g.E.Out.taken c.args.err.now) (g.E.Out.taken c.serve_in-served.new.err) c.close.ensures.clean
     (c.serve_in-served.ensures.says held c.in-Ok.ensures.held)
+
+pub returns-in-Ok-clause-archives : goal.returns-in-Ok-clause-archives
+returns-in-Ok-clause-archives g c =
+    let held = g.D.Databases.holds c.args.databases.now c.args.asked.path.now in
+    archives-under held (g.D.Databases.holds c.close.new.self c.args.asked.path.now) _ c.serve_in-served.result.0 (g.A.Archive.kept c.args.archive.now) (g.A.Archive.kept c.serve_in-served.new.archive)
+    c.close.ensures.clean (λ clean. c.close.ensures.held (c.close.ensures.clean clean)) (c.serve_in-served.ensures.archives held c.in-Ok.ensures.held)

@@ -1,4 +1,5 @@
 use Rattle.std.proofs.Common.{inr}
+use Rattle.serve_command.proofs.Archiving.{keeps-at}
 use Rattle.serve_command.proofs.ServedLemmas.{of-err, of-ok}
 use Rattle.serve_command.proofs.serve.serve_store.Goals as goal
 
@@ -8,3 +9,8 @@ returns-in-Ok-served-clause-told g c = record { now = c.serve-store.result.0; ar
 pub returns-clause-cut : goal.returns-clause-cut
 returns-clause-cut g c =
     inr (c.fault_of_serving.ensures, record { now = c.serve-store.result.0; are = c.into_trees-trees.ensures; clean = c.serve-store.ensures.clean; stops = of-err c.serve-store.result.1 c.in-Err.fault c.in-Err.is c.serve-store.ensures.stops })
+
+pub returns-in-Ok-served-clause-archives : goal.returns-in-Ok-served-clause-archives
+returns-in-Ok-served-clause-archives g c =
+    keeps-at g.S.Store c.args.store c.serve-store.result.0 c.into_trees-trees.result (g.A.Archive.kept c.args.archive.now) (g.A.Archive.kept c.serve-store.new.archive) c.into_trees-trees.ensures
+    (of-ok c.serve-store.result.1 c.in-Ok-served.field-0 c.in-Ok-served.is c.serve-store.ensures.shows) (of-ok c.serve-store.result.1 c.in-Ok-served.field-0 c.in-Ok-served.is c.serve-store.ensures.archives)

@@ -2,9 +2,10 @@ use Rattle.std.proofs.Common.{refl, subst}
 use Rattle.std.specs.Io.KnownBytes.{Appends}
 use Rattle.outputs.specs.Gathered.{taken_by}
 use Rattle.serving.specs.Told.{AppendsPart, greeting}
+use Rattle.serving.proofs.Acknowledging.{stops-safely-greeting, stops-safely-served, whole-safely}
 use Rattle.serving.proofs.EndLemmas.{left-served, same-session, serves-whole, stops-greeting, stops-served, stops-whole, writes-served}
 use Rattle.serving.proofs.Lasting.{left-nowhere}
-use Rattle.serving.proofs.Telling.{of-err, of-ok}
+use Rattle.serving.proofs.Telling.{match-err, match-ok, of-err, of-ok}
 use Rattle.serving.proofs.whole.serve.Goals as goal
 
 pub returns-in-Err-clause-stops : goal.returns-in-Err-clause-stops
@@ -41,3 +42,23 @@ returns-in-Err-served-clause-stops g c =
     stops-served (same-session c.new-server.result.session c.args.store c.args.limits.most_events c.new-server.ensures.store c.new-server.ensures.life c.new-server.ensures.most) c.into_store-store.ensures
     (subst (λ n. Appends (taken_by g.W.Out.taken c.args.client.now.out) (taken_by g.W.Out.taken c.greet.new.self.out) (greeting n)) c.life.ensures c.in_default.ensures.told)
     (of-err c.run-server.result.1 c.in-Err-served.fault c.in-Err-served.is c.run-server.ensures.stops)
+
+pub returns-in-Err-clause-acknowledged : goal.returns-in-Err-clause-acknowledged
+returns-in-Err-clause-acknowledged g c =
+    stops-safely-greeting c.args.store c.requires.sound (g.met.S.Store.settled c.args.store.journal.store)
+    (subst (λ n. AppendsPart (taken_by g.W.Out.taken c.args.client.now.out) (taken_by g.W.Out.taken c.greet.new.self.out) (greeting n)) c.life.ensures c.in-Err.ensures.part)
+
+pub returns-in-Ok-clause-acknowledged : goal.returns-in-Ok-clause-acknowledged
+returns-in-Ok-clause-acknowledged g c =
+    whole-safely (taken_by g.W.Out.taken c.args.client.now.out) (taken_by g.W.Out.taken c.end_serving.new.client.out) c.end_serving.result.0 (g.A.Archive.kept c.run-server.new.archive)
+    (g.A.Archive.kept c.end_serving.new.archive) c.end_serving.result.1
+    (same-session c.new-server.result.session c.args.store c.args.limits.most_events c.new-server.ensures.store c.new-server.ensures.life c.new-server.ensures.most)
+    (subst (λ n. Appends (taken_by g.W.Out.taken c.args.client.now.out) (taken_by g.W.Out.taken c.greet.new.self.out) (greeting n)) c.life.ensures c.in_default.ensures.told)
+    (match-ok _ _ c.run-server.result.1 c.in-Ok.field-0 c.in-Ok.is c.run-server.ensures.acknowledged) (of-ok c.run-server.result.1 c.in-Ok.field-0 c.in-Ok.is c.run-server.ensures.ended) c.into_store-store.ensures c.end-end.ensures
+    c.end_serving.ensures.clean c.end_serving.ensures.crash c.end_serving.ensures.renews c.end_serving.ensures.told c.end_serving.ensures.part
+
+pub returns-in-Err-served-clause-acknowledged : goal.returns-in-Err-served-clause-acknowledged
+returns-in-Err-served-clause-acknowledged g c =
+    stops-safely-served (same-session c.new-server.result.session c.args.store c.args.limits.most_events c.new-server.ensures.store c.new-server.ensures.life c.new-server.ensures.most) c.into_store-store.ensures
+    (subst (λ n. Appends (taken_by g.W.Out.taken c.args.client.now.out) (taken_by g.W.Out.taken c.greet.new.self.out) (greeting n)) c.life.ensures c.in_default.ensures.told)
+    (match-err _ _ c.run-server.result.1 c.in-Err-served.fault c.in-Err-served.is c.run-server.ensures.acknowledged)

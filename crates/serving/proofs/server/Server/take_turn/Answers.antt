@@ -1,15 +1,22 @@
 use Rattle.std.proofs.Common.{rules}
 use Rattle.std.specs.Prelude.{OnOk}
+use Rattle.outputs.specs.Gathered.{taken_by}
 use Rattle.serving.specs.Epochs.{WritesEpochs}
 use Rattle.std.proofs.lemmas.Result.{on_ok_weaker}
-use Rattle.serving.proofs.Groups.{stops-before}
+use Rattle.serving.proofs.Acknowledging.{stops-safely}
 use Rattle.serving.proofs.Lasting.{left-goes, left-more, writes-goes, writes-one}
 use Rattle.serving.proofs.Telling.{at-error}
 use Rattle.serving.proofs.server.Server.take_turn.Goals as goal
 
+pub returns-in-Ok-true-clause-serves : goal.returns-in-Ok-true-clause-serves
+returns-in-Ok-true-clause-serves g c =
+    on_ok_weaker c.next_epoch.result.1 (λ serves began given taken so_far.
+    serves began given taken (g.R.Read.remaining c.serve_group.new.input) (taken_by g.W.Out.taken c.serve_group.new.client.out) (c.in-Ok-true.ensures.serves began given taken so_far)) c.next_epoch.ensures.serves
+
 pub returns-in-Ok-true-clause-stops : goal.returns-in-Ok-true-clause-stops
 returns-in-Ok-true-clause-stops g c =
-    at-error c.next_epoch.result.1 (λ began given taken has. stops-before c.next_epoch.result.0.session.store c.next_epoch.ensures.clean (c.in-Ok-true.ensures.serves began given taken has))
+    at-error c.next_epoch.result.1 (λ began given taken so_far. stops-safely c.next_epoch.result.0.session.store (g.A.Archive.kept c.args.archive.now) (g.A.Archive.kept c.next_epoch.new.archive)
+    c.next_epoch.ensures.clean c.next_epoch.ensures.crash (c.in-Ok-true.ensures.serves began given taken so_far))
 
 pub returns-in-Ok-true-clause-writes : goal.returns-in-Ok-true-clause-writes
 returns-in-Ok-true-clause-writes g c =

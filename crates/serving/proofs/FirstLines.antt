@@ -1,0 +1,45 @@
+-- The lines of some bytes are the first ones of more bytes.
+use Rattle.std.proofs.Common.{◌≡◌, ◌∙◌, ℕ, Bool, true, false, ◌||◌, List, [], ◌∷◌, ◌++◌, drop, get_or, refl, sym, ap, ap₂, subst}
+use Rattle.std.proofs.lemmas.List.{append_assoc}
+use Rattle.std.specs.Prelude.{◌==◌}
+use Rattle.std.specs.List.{AllByRecursion, flat_map}
+use Rattle.serving.specs.Lines.{AreLines, ended_line, has_lf}
+
+both-false : (p q : Bool) → (p || q) ≡ false → (p ≡ false) × (q ≡ false)
+both-false true q e = absurd cc
+both-false false q e = (refl, e)
+
+lf-there : (line rest : List ℕ) → has_lf (line ++ 10 ∷ rest) ≡ true
+lf-there [] rest = refl
+lf-there (b ∷ line) rest = elim (b == 10) as (λ v. (v || has_lf (line ++ 10 ∷ rest)) ≡ true) [ true ↦ refl | false ↦ lf-there line rest ]
+
+-- a line ends at the first LF
+same-line : (line other rest more : List ℕ) → has_lf line ≡ false → has_lf other ≡ false → line ++ 10 ∷ rest ≡ other ++ 10 ∷ more → (line ≡ other) × (rest ≡ more)
+same-line [] [] rest more whole none e = (refl, ap (drop 1) e)
+same-line [] (b ∷ other) rest more whole none e =
+    absurd (let it : true ≡ false = subst (λ n. ((n == 10) || has_lf other) ≡ false) (sym (ap (λ xs. get_or xs 0 0) e)) none in cc)
+same-line (b ∷ line) [] rest more whole none e =
+    absurd (let it : true ≡ false = subst (λ n. ((n == 10) || has_lf line) ≡ false) (ap (λ xs. get_or xs 0 0) e) whole in cc)
+same-line (b ∷ line) (c ∷ other) rest more whole none e =
+    let same = same-line line other rest more (both-false (b == 10) (has_lf line) whole).1 (both-false (c == 10) (has_lf other) none).1 (ap (drop 1) e) in
+    (ap₂ (λ x xs. x ∷ xs) (ap (λ xs. get_or xs 0 0) e) same.0, same.1)
+
+-- the bytes of lines and what is behind them, from the end of the first line on
+first-cut : (line : List ℕ) (lines : List (List ℕ)) (rest : List ℕ) → flat_map ended_line (line ∷ lines) ++ rest ≡ line ++ 10 ∷ (flat_map ended_line lines ++ rest)
+first-cut line lines rest = append_assoc (ended_line line) (flat_map ended_line lines) rest ∙ append_assoc line (10 ∷ []) (flat_map ended_line lines ++ rest)
+
+first-in : (lines all : List (List ℕ)) (tail rest : List ℕ) → AllByRecursion (λ line. has_lf line ≡ false) lines → AllByRecursion (λ line. has_lf line ≡ false) all → has_lf rest ≡ false
+    → flat_map ended_line lines ++ tail ≡ flat_map ended_line all ++ rest → (later : List (List ℕ)) × (all ≡ lines ++ later)
+first-in [] all tail rest whole every none e = (all, refl)
+first-in (line ∷ lines) [] tail rest whole every none e =
+    absurd (let it : true ≡ false = sym (lf-there line (flat_map ended_line lines ++ tail)) ∙ ap has_lf (sym (first-cut line lines tail) ∙ e) ∙ none in cc)
+first-in (line ∷ lines) (other ∷ all) tail rest whole every none e =
+    let same = same-line line other (flat_map ended_line lines ++ tail) (flat_map ended_line all ++ rest) whole.0 every.0 (sym (first-cut line lines tail) ∙ e ∙ first-cut other all rest) in
+    let more = first-in lines all tail rest whole.1 every.1 none same.1 in
+    (more.0, ap₂ (λ x xs. x ∷ xs) (sym same.0) more.1)
+
+pub first-lines : (bytes more : List ℕ) (lines : List (List ℕ)) (half : List ℕ) (all : List (List ℕ)) (rest : List ℕ) → AreLines bytes lines half → AreLines (bytes ++ more) all rest
+    → (later : List (List ℕ)) × (all ≡ lines ++ later)
+first-lines bytes more lines half all rest first second =
+    first-in lines all (half ++ more) rest first.whole second.whole second.within
+    (sym (append_assoc (flat_map ended_line lines) half more) ∙ (ap (λ bs. bs ++ more) (sym first.text) ∙ second.text))

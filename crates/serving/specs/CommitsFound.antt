@@ -1,0 +1,50 @@
+-- Commits that were told are found after a crash.
+use Rattle.std.specs.Prelude.{◌≡◌, ◌⊎◌, ℕ, suc, ◌≤◌, List, [], ◌∷◌, Ok, Contains}
+use Rattle.sqlite_trees.specs.declared.store.Store.{Ghosts}
+use Rattle.sqlite_trees.specs.Tree.{Trees}
+use Rattle.object_trait.specs.declared.event.EventKind.TheVariants as kind
+use Rattle.store_laws.specs.Stored.{Stored}
+use Rattle.store.specs.Renews.{Renews}
+use Rattle.journal.specs.Contents.{Contents, contents_of}
+use Rattle.journal.specs.Journal.{may_leave}
+use Rattle.durable_store.specs.declared.durable.Durable.{Durable}
+use Rattle.durable_store.specs.Durable.{kinds}
+use Rattle.durable_store.specs.Recovered.{IsStoreOf}
+use Rattle.request_text.specs.Requests.{asked_of}
+use Rattle.request_text.specs.declared.request.Request.TheVariants as request
+use Rattle.request_text.specs.declared.request.TransactionName.{TransactionName}
+use Rattle.serving.specs.declared.answer_line.AnswerLine.TheVariants.{Committed}
+use Rattle.serving.specs.declared.answer_line.Answered.{Answered}
+use Rattle.serving.specs.Archives.{life_in}
+use Rattle.serving.specs.Epochs.{Reaches}
+
+-- a line asks that this transaction commit, and is answered that it has
+abbrev pub AnswersCommit : List ℕ → Answered → TransactionName → Type 0
+AnswersCommit line a t = ((asked_of line).request ≡ Ok (request.Commit t)) × (a.answer ≡ Committed)
+
+-- one of these lines does, with the answer at its place
+abbrev pub TellsCommit : List (List ℕ) → List Answered → TransactionName → Type 0
+TellsCommit [] answers t = ⊥
+TellsCommit (line ∷ lines) [] t = ⊥
+TellsCommit (line ∷ lines) (a ∷ answers) t = AnswersCommit line a t ⊎ TellsCommit lines answers t
+
+-- a store in a life has the commit of a transaction: in the transaction's own life it is one of the events; in a later one the history began at the
+-- states that the store of the life before had kept, and that one had it
+pub data KeepsCommit (t : TransactionName) : ℕ → Stored → Type 0 where
+  event : (now : Stored) → Contains (kinds now.history) (kind.Commit t.number) → KeepsCommit t t.life now
+  epoch : (life : ℕ) (old first now : Stored) → KeepsCommit t life old → Renews old first → now.types ≡ first.types → KeepsCommit t (suc life) now
+
+-- a file has it: what the file of such a store said, or what that came to; while it is in the transaction's life, the commit is among its events
+pub record HasCommit (c : Contents) (t : TransactionName) : Type 0 where
+  pub file : Contents
+  pub reached : Stored
+  pub past : List Contents
+  pub is_file : IsStoreOf file reached
+  pub keeps : KeepsCommit t (life_in file.headers) reached
+  pub reaches : Reaches file past c
+  pub since : t.life ≤ life_in c.headers
+  pub happened : t.life ≡ life_in c.headers → Contains c.events (kind.Commit t.number)
+
+-- whatever a crash leaves has each commit that was told
+abbrev pub CommitsAreFound : {S : Type 0} (g : Ghosts S) → List (List ℕ) → List Answered → Durable S → Type 0
+CommitsAreFound g lines answers now = (t : TransactionName) → TellsCommit lines answers t → (db : Trees) → may_leave g now.journal db → HasCommit (contents_of db) t
