@@ -1,6 +1,7 @@
 //! The program, between the words and the status.
 
-ghost use Rattle.std.specs.Prelude.{◌≡◌, [], None, map, IfOk, IfErr, IfSome, OnOk};
+ghost use Rattle.std.specs.Prelude.{◌≡◌, ◌*◌, [], None, map, if◌then◌else◌, IfOk, IfErr, IfSome, OnOk};
+ghost use Rattle.std.specs.Duration.{as_nanos};
 ghost use Rattle.command_files.specs.Answers.{Refuses};
 ghost use Rattle.command_words.specs.Words.{AreNoTask, AreWordsOf};
 ghost use Rattle.commands.specs.Doing.{DoesNothing, DoesTask, DoesWords, PassesOn, shown};
@@ -137,9 +138,12 @@ fn task_of<'a>(alloc: Global, words: &'a [&'a str]) -> Result<Task<'a>, Fault<'a
     }
 }
 
-/// How a store is to be served.
+/// How a store is to be served: the seconds of `--drain` are so many.
 fn serving<'a>(path: &'a str, fast: bool, archive: Option<&'a str>, drain: u32) -> Serving<'a>
-    ensures { result.path ≡ path.entry }
+    ensures path { result.path ≡ path.entry }
+    ensures torn { result.torn ≡ (if fast then TornWrites.OldOrNew else TornWrites.AnyBytes) }
+    ensures archive { result.archive ≡ archive.entry }
+    ensures drain { as_nanos result.drain ≡ drain * 1_000_000_000 }
 {
     let torn = if fast {
         TornWrites::OldOrNew

@@ -114,7 +114,7 @@ returns-in-Serve-clause-does g c =
     let Does : Task → Type 0 = λ t. DoesTask given t c.do_serve.result.0 old new in
     let At : Bor (List ℕ) → Type 0 = λ p. ComesOfServing (BeginsServing given.clean (given.databases p.now))
     (ServesDatabase given.clean (given.databases p.now) (given.made p.now) given.input given.rest) c.do_serve.result.0 old new in
-    subst Does (sym c.in-Serve.is) (inl (tt, subst At c.serving.ensures c.do_serve.ensures.comes))
+    subst Does (sym c.in-Serve.is) (inl (tt, subst At c.serving.ensures.path c.do_serve.ensures.comes))
 
 pub returns-in-Serve-clause-err : goal.returns-in-Serve-clause-err
 returns-in-Serve-clause-err g c =
@@ -127,4 +127,4 @@ returns-in-Serve-clause-err g c =
     let Passes : Task → Type 0 = λ t. PassesOn given t c.do_serve.result.0 err new_err in
     let Says : Bor (List ℕ) → Type 0 = λ p. OnOk c.do_serve.result.0 (SaysFound given.clean (given.databases p.now) p.now err new_err) in
     subst Passes (sym c.in-Serve.is)
-    (served given c.in-Serve.database c.in-Serve.fast c.in-Serve.archive c.in-Serve.drain c.do_serve.result.0 err new_err (subst Says c.serving.ensures c.do_serve.ensures.says))
+    (served given c.in-Serve.database c.in-Serve.fast c.in-Serve.archive c.in-Serve.drain c.do_serve.result.0 err new_err (subst Says c.serving.ensures.path c.do_serve.ensures.says))
