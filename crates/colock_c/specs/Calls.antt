@@ -1,0 +1,98 @@
+-- What the calls of a store do to what a handle holds, in the words of the store's own contracts.
+use Rattle.std.specs.Prelude.{◌≡◌, ℕ, ◌<◌, ◌≤◌, List, ◌++◌, length, Option, Some, None, slice_get}
+use Rattle.serial_order.specs.History.{begins, seen}
+use Rattle.serial_order.specs.Replay.{call_at, open_count}
+use Rattle.serial_order.specs.declared.command.Command.{Command}
+use Rattle.serial_order.specs.declared.command.Command.TheVariants.{Call}
+use Rattle.object_calls.specs.declared.answer.Answer.{Answer}
+use Rattle.store_laws.specs.Stored.{Stored, objects, refusal_of, after}
+use Rattle.store_laws.specs.Words.{as_event}
+use Rattle.store.specs.Calls.{noted, unnumbered}
+use Rattle.store.specs.Ends.{closing}
+use Rattle.store.specs.KeptState.{IsKeptState}
+use Rattle.colock_c.specs.Codes.{number, code_of}
+use Rattle.colock_c.specs.Holding.{store_at}
+use Rattle.colock_c.specs.Words.{answer_words}
+use Rattle.colock_c.specs.declared.code.Code.TheVariants.{Done, NoMemory, NoObject, NoCall, NotHeld}
+use Rattle.colock_c.specs.declared.held.Held.{Held}
+use Rattle.colock_c.specs.declared.held.Held.TheVariants.{OfType, OfObjects, OfStore}
+use Rattle.colock_c.specs.declared.words.ColockAnswer.{ColockAnswer}
+
+-- ---- a store
+
+-- what comes of a worker's command, told by a code: its refusal, which changes nothing, or the event that it makes; or memory was refused,
+-- and nothing has changed
+pub data IsDone (s : Stored) (w : ℕ) (command : Command) (n : ℕ) (new : Stored) : Type 0 where
+  told : n ≡ number (code_of (refusal_of s command)) → new ≡ after s w command → IsDone s w command n new
+  wanting : refusal_of s command ≡ None → n ≡ number NoMemory → new ≡ s → IsDone s w command n new
+
+-- the answer of t's call c at x is told by the event that was appended
+abbrev pub IsAnswered : Stored → ℕ → ℕ → ℕ → ℕ → ℕ → ColockAnswer → Stored → Type 0
+IsAnswered s w t x c n words new = n ≡ number Done → (a : Answer) × (words ≡ answer_words a) × (new ≡ noted s w (as_event t x c a))
+
+-- what comes of a call by a number that is no call's at x
+abbrev pub IsUnnumbered : Stored → ℕ → ℕ → ℕ → ℕ → Stored → Type 0
+IsUnnumbered s t x c n new =
+    ((name : List ℕ) → call_at (slice_get (objects s) x) name ≡ Some c → ⊥) → (n ≡ number (code_of (Some (unnumbered s t x)))) × (new ≡ s)
+
+-- the state that is kept of the object at x, where there is one
+pub data IsKept (s : Stored) (x n state : ℕ) : Type 0 where
+  kept : n ≡ number Done → IsKeptState s x state → IsKept s x n state
+  no_object : n ≡ number NoObject → length (objects s) ≤ x → IsKept s x n state
+
+-- the number of the call with this name at the object at x
+pub data IsNumberOf (s : Stored) (x : ℕ) (name : List ℕ) (n c : ℕ) : Type 0 where
+  found : n ≡ number Done → call_at (slice_get (objects s) x) name ≡ Some c → IsNumberOf s x name n c
+  no_object : n ≡ number NoObject → length (objects s) ≤ x → IsNumberOf s x name n c
+  no_call : n ≡ number NoCall → x < length (objects s) → call_at (slice_get (objects s) x) name ≡ None → IsNumberOf s x name n c
+
+-- ---- a handle
+
+-- what comes of a worker's command. Where the handle holds no store it goes on holding what it held
+abbrev pub Does : Option Held → ℕ → Command → ℕ → Option Held → Type 0
+Does None w command n new = (n ≡ number NotHeld) × (new ≡ None)
+Does (Some (OfType a)) w command n new = (n ≡ number NotHeld) × (new ≡ Some (OfType a))
+Does (Some (OfObjects os)) w command n new = (n ≡ number NotHeld) × (new ≡ Some (OfObjects os))
+Does (Some (OfStore s)) w command n new = (later : Stored) × (new ≡ Some (OfStore later)) × IsDone s w command n later
+
+-- the number of a transaction that begins
+abbrev pub IsNumbered : Option Held → ℕ → ℕ → Type 0
+IsNumbered held n t = (s : Stored) → store_at held ≡ Some s → n ≡ number Done → t ≡ begins s.history
+
+-- the answer of t's call c at x
+abbrev pub IsTold : Option Held → ℕ → ℕ → ℕ → ℕ → ℕ → ColockAnswer → Option Held → Type 0
+IsTold held w t x c n words new =
+    (s : Stored) → store_at held ≡ Some s → n ≡ number Done
+    → (a : Answer) × (words ≡ answer_words a) × (store_at new ≡ Some (noted s w (as_event t x c a)))
+
+-- and so of the call with this name there
+abbrev pub IsToldOf : Option Held → ℕ → ℕ → ℕ → List ℕ → ℕ → ColockAnswer → Option Held → Type 0
+IsToldOf held w t x name n words new =
+    (s : Stored) (c : ℕ) → store_at held ≡ Some s → call_at (slice_get (objects s) x) name ≡ Some c → n ≡ number Done
+    → (a : Answer) × (words ≡ answer_words a) × (store_at new ≡ Some (noted s w (as_event t x c a)))
+
+-- what comes of a call by its number: that of a call with this number, or of none
+abbrev pub DoesNumbered : Option Held → ℕ → ℕ → ℕ → ℕ → ℕ → Option Held → Type 0
+DoesNumbered None w t x c n new = (n ≡ number NotHeld) × (new ≡ None)
+DoesNumbered (Some (OfType a)) w t x c n new = (n ≡ number NotHeld) × (new ≡ Some (OfType a))
+DoesNumbered (Some (OfObjects os)) w t x c n new = (n ≡ number NotHeld) × (new ≡ Some (OfObjects os))
+DoesNumbered (Some (OfStore s)) w t x c n new =
+    (later : Stored) × (new ≡ Some (OfStore later))
+    × ((name : List ℕ) → call_at (slice_get (objects s) x) name ≡ Some c → IsDone s w (Call t x name) n later) × IsUnnumbered s t x c n later
+
+abbrev pub Keeps : Option Held → ℕ → ℕ → ℕ → Type 0
+Keeps held x n state = (s : Stored) → store_at held ≡ Some s → IsKept s x n state
+
+abbrev pub Numbers : Option Held → ℕ → List ℕ → ℕ → ℕ → Type 0
+Numbers held x name n c = (s : Stored) → store_at held ≡ Some s → IsNumberOf s x name n c
+
+-- how many transactions are open
+abbrev pub CountsOpen : Option Held → ℕ → ℕ → Type 0
+CountsOpen held n count = (s : Stored) → store_at held ≡ Some s → (n ≡ number Done) × (count ≡ open_count (seen s.history))
+
+-- each open transaction is aborted, in ascending order of numbers, as the worker that began it
+abbrev pub AbortsAll : Option Held → ℕ → Option Held → Type 0
+AbortsAll None n new = (n ≡ number NotHeld) × (new ≡ None)
+AbortsAll (Some (OfType a)) n new = (n ≡ number NotHeld) × (new ≡ Some (OfType a))
+AbortsAll (Some (OfObjects os)) n new = (n ≡ number NotHeld) × (new ≡ Some (OfObjects os))
+AbortsAll (Some (OfStore s)) n new = (n ≡ number Done) × (new ≡ Some (OfStore (record s { history = s.history ++ closing s.history })))

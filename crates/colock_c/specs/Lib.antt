@@ -1,0 +1,13 @@
+pub mod Owned
+pub mod Codes
+pub mod Holding
+pub mod Words
+pub mod EventWords
+pub mod Types
+pub mod Families
+pub mod Named
+pub mod Making
+pub mod Calls
+pub mod Foreseen
+pub mod Histories
+pub mod Epochs

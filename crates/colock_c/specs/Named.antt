@@ -1,0 +1,69 @@
+-- What is read of a type behind a handle.
+use Rattle.std.specs.Prelude.{◌≡◌, ℕ, ◌<◌, ◌≤◌, List, ◌++◌, length, drop, true, false, Option, Some, None, option_map, slice_get}
+use Rattle.type_table.specs.ConflictTable.{conflicts}
+use Rattle.type_table.specs.Table.{Table, next}
+use Rattle.type_table.specs.declared.op.Op.{Op}
+use Rattle.type_text.specs.TypeFile.{conflicts_of}
+use Rattle.table_checker.specs.Checked.{Checked}
+use Rattle.colock_c.specs.Codes.{number}
+use Rattle.colock_c.specs.Holding.{type_at}
+use Rattle.colock_c.specs.Words.{shape_of}
+use Rattle.colock_c.specs.declared.code.Code.TheVariants.{Done, NoState, NoOperation, NotLegal, NoRoom}
+use Rattle.colock_c.specs.declared.held.Held.{Held}
+use Rattle.colock_c.specs.declared.words.ColockShape.{ColockShape}
+
+-- ---- names
+
+-- a name is put at the front of a room, and how many bytes it has is told; or the room is too small
+pub data IsPut (name old : List ℕ) (n : ℕ) (new : List ℕ) (count : ℕ) : Type 0 where
+  put : n ≡ number Done → length name ≤ length old → new ≡ name ++ drop (length name) old → count ≡ length name → IsPut name old n new count
+  small : n ≡ number NoRoom → length old < length name → IsPut name old n new count
+
+-- and so of a name of an operation, which may not be there
+abbrev pub IsFoundPut : Option (List ℕ) → List ℕ → ℕ → List ℕ → ℕ → Type 0
+IsFoundPut None old n new count = n ≡ number NoOperation
+IsFoundPut (Some name) old n new count = IsPut name old n new count
+
+abbrev pub call_of : Checked → ℕ → Option (List ℕ)
+call_of c k = option_map (λ (o : Op). o.call) (slice_get c.file.table.ops k)
+
+abbrev pub reply_of : Checked → ℕ → Option (List ℕ)
+reply_of c k = option_map (λ (o : Op). o.reply) (slice_get c.file.table.ops k)
+
+-- ---- states
+
+-- the state to which an operation leads
+pub data IsStep (T : Table) (s k n to : ℕ) : Type 0 where
+  no_state : n ≡ number NoState → T.states ≤ s → IsStep T s k n to
+  no_operation : n ≡ number NoOperation → s < T.states → length T.ops ≤ k → IsStep T s k n to
+  stuck : n ≡ number NotLegal → s < T.states → k < length T.ops → next T s k ≡ None → IsStep T s k n to
+  leads : n ≡ number Done → s < T.states → k < length T.ops → next T s k ≡ Some to → IsStep T s k n to
+
+-- ---- conflicts
+
+-- whether p, requested, conflicts with q, held, as 1 or 0
+pub data IsConflict (c : Checked) (p q n told : ℕ) : Type 0 where
+  no_requested : n ≡ number NoOperation → length c.file.table.ops ≤ p → IsConflict c p q n told
+  no_held : n ≡ number NoOperation → p < length c.file.table.ops → length c.file.table.ops ≤ q → IsConflict c p q n told
+  conflicting : n ≡ number Done → p < length c.file.table.ops → q < length c.file.table.ops → conflicts (conflicts_of c.kind c.file) p q ≡ true → told ≡ 1 → IsConflict c p q n told
+  apart : n ≡ number Done → p < length c.file.table.ops → q < length c.file.table.ops → conflicts (conflicts_of c.kind c.file) p q ≡ false → told ≡ 0 → IsConflict c p q n told
+
+-- ---- behind a handle
+
+abbrev pub IsShaped : Option Held → ℕ → ColockShape → Type 0
+IsShaped held n shape = (c : Checked) → type_at held ≡ Some c → (n ≡ number Done) × (shape ≡ shape_of c)
+
+abbrev pub NamesType : Option Held → List ℕ → ℕ → List ℕ → ℕ → Type 0
+NamesType held old n new count = (c : Checked) → type_at held ≡ Some c → IsPut c.file.table.name old n new count
+
+abbrev pub NamesCall : Option Held → ℕ → List ℕ → ℕ → List ℕ → ℕ → Type 0
+NamesCall held k old n new count = (c : Checked) → type_at held ≡ Some c → IsFoundPut (call_of c k) old n new count
+
+abbrev pub NamesReply : Option Held → ℕ → List ℕ → ℕ → List ℕ → ℕ → Type 0
+NamesReply held k old n new count = (c : Checked) → type_at held ≡ Some c → IsFoundPut (reply_of c k) old n new count
+
+abbrev pub Leads : Option Held → ℕ → ℕ → ℕ → ℕ → Type 0
+Leads held s k n to = (c : Checked) → type_at held ≡ Some c → IsStep c.file.table s k n to
+
+abbrev pub TellsConflict : Option Held → ℕ → ℕ → ℕ → ℕ → Type 0
+TellsConflict held p q n told = (c : Checked) → type_at held ≡ Some c → IsConflict c p q n told

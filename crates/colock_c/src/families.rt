@@ -1,0 +1,100 @@
+//! Type files of families, at parameters as they cross.
+
+ghost use Rattle.std.specs.Prelude.{◌≡◌, ◌⊎◌, IfErr, IfOk};
+ghost use Rattle.table_maker.specs.Account.{account, AccountFits};
+ghost use Rattle.table_maker.specs.Amounts.{AreAmounts};
+ghost use Rattle.table_maker.specs.Counter.{counter, CounterFits};
+ghost use Rattle.table_maker.specs.Semiqueue.{semiqueue, SemiqueueFits};
+ghost use Rattle.table_maker.specs.Set.{set, SetFits};
+ghost use Rattle.line_text.specs.Text.{words_of};
+ghost use Rattle.colock_c.specs.Codes.{number};
+ghost use Rattle.colock_c.specs.Families.{AreSemiqueueWords, AreSetWords, HasNone, IsOfFamily};
+
+use crate::code::{Code, made_code};
+use crate::parameters::{capacity_of, names_of, narrowed};
+use std::alloc::Global;
+use table_maker::{make_account, make_counter, make_semiqueue, make_set};
+use type_text::TypeFile;
+
+/// The file of an account of 0 to a cap, with these amounts.
+///
+/// # Errors
+///
+/// `BadParameter`, `TooLarge` or `NoMemory`.
+pub(crate) fn account_file(alloc: Global, cap: u64, amounts: &[u64]) -> Result<TypeFile, Code>
+    ensures made { IfOk result (IsOfFamily (AreAmounts cap amounts.now) (AccountFits cap amounts.now) (account cap amounts.now)) }
+    ensures refused { IfErr result (λ code. (code ≡ Code.NoMemory) ⊎ HasNone (AreAmounts cap amounts.now) (AccountFits cap amounts.now) (number code)) }
+{
+    let (cap, amounts) = match narrowed(alloc, cap, amounts) {
+        Ok(narrow) => narrow,
+        Err(code) => return Err(code),
+    };
+    match make_account(alloc, cap, &amounts) {
+        Ok(file) => Ok(file),
+        Err(error) => Err(made_code(error)),
+    }
+}
+
+/// The file of a counter from 0 to a cap, with these amounts.
+///
+/// # Errors
+///
+/// As `account_file`.
+pub(crate) fn counter_file(alloc: Global, cap: u64, amounts: &[u64]) -> Result<TypeFile, Code>
+    ensures made { IfOk result (IsOfFamily (AreAmounts cap amounts.now) (CounterFits amounts.now) (counter cap amounts.now)) }
+    ensures refused { IfErr result (λ code. (code ≡ Code.NoMemory) ⊎ HasNone (AreAmounts cap amounts.now) (CounterFits amounts.now) (number code)) }
+{
+    let (cap, amounts) = match narrowed(alloc, cap, amounts) {
+        Ok(narrow) => narrow,
+        Err(code) => return Err(code),
+    };
+    match make_counter(alloc, cap, &amounts) {
+        Ok(file) => Ok(file),
+        Err(error) => Err(made_code(error)),
+    }
+}
+
+/// The file of a set, whose elements are the words of a text.
+///
+/// # Errors
+///
+/// As `account_file`.
+pub(crate) fn set_file(alloc: Global, elements: &[u8]) -> Result<TypeFile, Code>
+    ensures made { IfOk result (IsOfFamily (AreSetWords elements.now) (SetFits (words_of elements.now)) (set (words_of elements.now))) }
+    ensures refused { IfErr result (λ code. (code ≡ Code.NoMemory) ⊎ HasNone (AreSetWords elements.now) (SetFits (words_of elements.now)) (number code)) }
+{
+    let names = match names_of(alloc, elements) {
+        Ok(names) => names,
+        Err(code) => return Err(code),
+    };
+    match make_set(alloc, &names) {
+        Ok(file) => Ok(file),
+        Err(error) => Err(made_code(error)),
+    }
+}
+
+/// The file of a semiqueue of this capacity, whose elements are the words of a text.
+///
+/// # Errors
+///
+/// As `account_file`.
+pub(crate) fn semiqueue_file(
+    alloc: Global,
+    elements: &[u8],
+    capacity: u64,
+) -> Result<TypeFile, Code>
+    ensures made { IfOk result (IsOfFamily (AreSemiqueueWords elements.now capacity) (SemiqueueFits (words_of elements.now) capacity) (semiqueue (words_of elements.now) capacity)) }
+    ensures refused { IfErr result (λ code. (code ≡ Code.NoMemory) ⊎ HasNone (AreSemiqueueWords elements.now capacity) (SemiqueueFits (words_of elements.now) capacity) (number code)) }
+{
+    let Some(capacity) = capacity_of(capacity) else {
+        return Err(Code::BadParameter);
+    };
+    let names = match names_of(alloc, elements) {
+        Ok(names) => names,
+        Err(code) => return Err(code),
+    };
+    match make_semiqueue(alloc, &names, capacity) {
+        Ok(file) => Ok(file),
+        Err(error) => Err(made_code(error)),
+    }
+}

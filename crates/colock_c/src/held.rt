@@ -1,0 +1,70 @@
+//! What a handle holds.
+
+use crate::code::{Code, new_code, renew_code};
+use objects::Object;
+use std::alloc::Global;
+use std::sync::Arc;
+use store::Store;
+use table_checker::CheckedType;
+
+/// What a handle holds. Its end is the end of what it holds: a store aborts what is open.
+pub enum Held {
+    /// A type, for which the checker said yes.
+    OfType(Arc<CheckedType>),
+    /// The objects so far of a store that isn't made yet.
+    OfObjects(Vec<Object>),
+    /// A store.
+    OfStore(Store<Object>),
+}
+
+impl Drop for Held {
+    fn drop(self) {
+        match self {
+            Held::OfType(_checked) => {}
+            Held::OfObjects(_objects) => {}
+            Held::OfStore(store) => {
+                let (_history, _objects) = store.close();
+            }
+        }
+    }
+}
+
+impl Held {
+    ghost use Rattle.std.specs.Prelude.{◌≡◌, List, Some, None};
+    ghost use Rattle.object_trait.specs.Meaning.{Meaning};
+    ghost use Rattle.store_laws.specs.Stored.{Stored};
+    ghost use Rattle.colock_c.specs.Codes.{number};
+    ghost use Rattle.colock_c.specs.Holding.{objects_at, store_at};
+    ghost use Rattle.colock_c.specs.Making.{Makes};
+    ghost use Rattle.colock_c.specs.Epochs.{IsRenewal};
+
+    /// The store of these objects; else what there was, and why not.
+    pub(crate) fn made(self, alloc: Global, max_events: u32) -> (Held, Code)
+        ensures makes { (ms : List Meaning) → objects_at (Some self) ≡ Some ms → Makes ms max_events (number result.1) (Some result.0) }
+        ensures no_objects { objects_at (Some self) ≡ None → (result.1 ≡ Code.NotHeld) × (result.0 ≡ self) }
+    {
+        match self {
+            Held::OfObjects(objects) => match Store::new(alloc, objects, max_events) {
+                Ok(store) => (Held::OfStore(store), Code::Done),
+                Err((objects, refusal)) => (Held::OfObjects(objects), new_code(refusal)),
+            },
+            Held::OfType(checked) => (Held::OfType(checked), Code::NotHeld),
+            Held::OfStore(store) => (Held::OfStore(store), Code::NotHeld),
+        }
+    }
+
+    /// The store that begins anew where this one is; else what there was, and why not.
+    pub(crate) fn renewed(self, alloc: Global) -> (Held, Code)
+        ensures renews { (s : Stored) → store_at (Some self) ≡ Some s → IsRenewal s (number result.1) (Some result.0) }
+        ensures no_store { store_at (Some self) ≡ None → (result.1 ≡ Code.NotHeld) × (result.0 ≡ self) }
+    {
+        match self {
+            Held::OfStore(store) => match store.renew(alloc) {
+                Ok((anew, _history)) => (Held::OfStore(anew), Code::Done),
+                Err((kept, refusal)) => (Held::OfStore(kept), renew_code(refusal)),
+            },
+            Held::OfType(checked) => (Held::OfType(checked), Code::NotHeld),
+            Held::OfObjects(objects) => (Held::OfObjects(objects), Code::NotHeld),
+        }
+    }
+}

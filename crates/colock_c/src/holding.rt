@@ -1,0 +1,72 @@
+//! What is put behind a handle that holds nothing.
+
+ghost use Rattle.std.specs.Prelude.{◌≡◌, ◌⊎◌, Some, None, IfErr, IfOk};
+ghost use Rattle.colock_c.specs.Codes.{number};
+ghost use Rattle.colock_c.specs.Types.{IsMade, IsRefused, IsTypeOf};
+ghost use Rattle.colock_c.specs.Words.{refusal_words};
+
+use crate::code::Code;
+use crate::held::Held;
+use crate::slot::Slot;
+use crate::words::{ColockFault, refusal_words};
+use std::alloc::Global;
+use std::sync::Arc;
+use table_checker::{CheckedType, Kind, check};
+use type_text::TypeFile;
+
+/// Puts something behind a handle that holds nothing.
+pub(crate) fn hold(alloc: Global, slot: &mut Slot, held: Held) -> Code
+    requires { slot.old.handle.held ≡ None }
+    ensures { ((result ≡ Code.Done) × (slot.new.handle.held ≡ Some held)) ⊎ ((result ≡ Code.NoMemory) × (slot.new.handle.held ≡ None)) }
+{
+    match Box::new(alloc, held) {
+        Ok(held) => {
+            slot.put(held);
+            Code::Done
+        }
+        Err(_) => Code::NoMemory,
+    }
+}
+
+/// Puts the type of a file behind a handle that holds nothing, where the checker accepts it for a kind.
+pub(crate) fn hold_type(
+    alloc: Global,
+    slot: &mut Slot,
+    kind: Kind,
+    file: TypeFile,
+    fault: &mut ColockFault,
+) -> Code
+    requires { slot.old.handle.held ≡ None }
+    ensures { IsMade (λ f. f ≡ file) (λ n words. ⊥) kind fault.old (number result) fault.new slot.new.handle.held }
+{
+    match checked_type(alloc, kind, file, fault) {
+        Ok(checked) => hold(alloc, slot, Held::OfType(checked)),
+        Err(code) => code,
+    }
+}
+
+/// The type of a file, where the checker accepts it for a kind.
+///
+/// # Errors
+///
+/// `Refused` and the first reason, or `NoMemory`.
+fn checked_type(
+    alloc: Global,
+    kind: Kind,
+    file: TypeFile,
+    fault: &mut ColockFault,
+) -> Result<Arc<CheckedType>, Code>
+    ensures accepted { IfOk result (λ a. IsTypeOf kind file a.value × (fault.new ≡ fault.old)) }
+    ensures refused { IfErr result (λ code. ((code ≡ Code.NoMemory) × (fault.new ≡ fault.old)) ⊎ IsRefused kind file (number code) fault.new) }
+{
+    match check(file, kind) {
+        Ok(checked) => match Arc::new(alloc, checked) {
+            Ok(shared) => Ok(shared),
+            Err(_) => Err(Code::NoMemory),
+        },
+        Err((_file, why)) => {
+            *fault = refusal_words(why);
+            Err(Code::Refused)
+        }
+    }
+}

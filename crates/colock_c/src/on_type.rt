@@ -1,0 +1,119 @@
+//! What is read of a type.
+
+ghost use Rattle.std.specs.Prelude.{◌≡◌, ◌≢◌, option_map, slice_get};
+ghost use Rattle.type_table.specs.declared.op.Op.{Op as OpValue};
+ghost use Rattle.colock_c.specs.Codes.{number};
+ghost use Rattle.colock_c.specs.Named.{call_of, IsConflict, IsFoundPut, IsPut, IsStep, reply_of};
+
+use crate::code::Code;
+use table_checker::CheckedType;
+use type_table::{Name, Op, TypeTable};
+
+/// Puts a name at the front of a room, and tells how many bytes it has.
+pub(crate) fn put_name(name: Name, room: &mut [u8], count: &mut u64) -> Code
+    ensures put { IsPut name room.old (number result) room.new count.new }
+    ensures rest { number result ≢ 0 → (room.new ≡ room.old) × (count.new ≡ count.old) }
+{
+    let bytes = name.as_bytes();
+    if room.len() < bytes.len() {
+        return Code::NoRoom;
+    }
+    room[..bytes.len()].copy_from_slice(bytes);
+    *count = bytes.len() as u64;
+    Code::Done
+}
+
+/// The same of a name that may not be there.
+fn put_found(name: Option<Name>, room: &mut [u8], count: &mut u64) -> Code
+    ensures put { IsFoundPut name room.old (number result) room.new count.new }
+    ensures rest { number result ≢ 0 → (room.new ≡ room.old) × (count.new ≡ count.old) }
+{
+    match name {
+        Some(name) => put_name(name, room, count),
+        None => Code::NoOperation,
+    }
+}
+
+/// The operation of a number.
+fn op_at(ops: &[Op], k: u64) -> Option<Op>
+    ensures { result ≡ slice_get ops.now k }
+{
+    if k < ops.len() as u64 {
+        Some(ops[k as usize])
+    } else {
+        None
+    }
+}
+
+/// The name of the call of an operation.
+fn call_of(checked: &CheckedType, k: u64) -> Option<Name>
+    ensures { result ≡ call_of checked.now k }
+{
+    let op = op_at(checked.table().ops(), k)?;
+    Some(op.call)
+}
+
+/// The reply of an operation.
+fn reply_of(checked: &CheckedType, k: u64) -> Option<Name>
+    ensures { result ≡ reply_of checked.now k }
+{
+    let op = op_at(checked.table().ops(), k)?;
+    Some(op.reply)
+}
+
+/// Puts the name of the call of an operation at the front of a room.
+pub(crate) fn put_call(checked: &CheckedType, k: u64, room: &mut [u8], count: &mut u64) -> Code
+    ensures put { IsFoundPut (call_of checked.now k) room.old (number result) room.new count.new }
+    ensures rest { number result ≢ 0 → (room.new ≡ room.old) × (count.new ≡ count.old) }
+{
+    put_found(call_of(checked, k), room, count)
+}
+
+/// Puts the reply of an operation at the front of a room.
+pub(crate) fn put_reply(checked: &CheckedType, k: u64, room: &mut [u8], count: &mut u64) -> Code
+    ensures put { IsFoundPut (reply_of checked.now k) room.old (number result) room.new count.new }
+    ensures rest { number result ≢ 0 → (room.new ≡ room.old) × (count.new ≡ count.old) }
+{
+    put_found(reply_of(checked, k), room, count)
+}
+
+/// Tells the state to which an operation leads from a state.
+pub(crate) fn step(table: &TypeTable, s: u64, k: u64, to: &mut u64) -> Code
+    ensures step { IsStep table.now s k (number result) to.new }
+    ensures rest { number result ≢ 0 → to.new ≡ to.old }
+{
+    if s >= u64::from(table.states()) {
+        return Code::NoState;
+    }
+    if k >= u64::from(table.op_count()) {
+        return Code::NoOperation;
+    }
+    match table.next(s as u16, k as u8) {
+        Some(next) => {
+            *to = u64::from(next);
+            Code::Done
+        }
+        None => Code::NotLegal,
+    }
+}
+
+/// Tells whether an operation that is requested conflicts with one that is held.
+pub(crate) fn conflict(checked: &CheckedType, requested: u64, other: u64, told: &mut u32) -> Code
+    ensures conflict { IsConflict checked.now requested other (number result) told.new }
+    ensures rest { number result ≢ 0 → told.new ≡ told.old }
+{
+    let conflicts = checked.conflicts();
+    let ops = u64::from(conflicts.ops());
+    if requested >= ops {
+        return Code::NoOperation;
+    }
+    if other >= ops {
+        return Code::NoOperation;
+    }
+    if conflicts.conflicts(requested as u8, other as u8) {
+        *told = 1;
+        return Code::Done;
+    }
+    *told = 0;
+    Code::Done
+}

@@ -1,0 +1,69 @@
+//! Where C keeps a handle, and whether it holds anything.
+
+ghost use Rattle.std.specs.Prelude.{◌≡◌, ◌↔◌, IsTrue, IsSome, Some, None, MatchOption};
+
+use crate::handle::Handle;
+use crate::held::Held;
+use crate::loose::Loose;
+use std::alloc::Global;
+use std::mem;
+
+/// A handle as its owner in C keeps it, of zeros before the first call: it holds nothing then.
+#[repr(C)]
+#[derive(Drop)]
+pub struct Slot {
+    live: bool,
+    pub handle: Handle,
+    ghost flagged: { IsTrue live ↔ IsSome handle.held },
+}
+
+impl Slot {
+    /// One that holds nothing, as C makes it of zeros.
+    #[cfg(test)]
+    pub fn new(alloc: Global) -> Slot {
+        Slot {
+            live: false,
+            handle: Handle::empty(alloc),
+        }
+    }
+
+    /// Whether it holds anything.
+    pub fn is_open(&mut self) -> bool
+        ensures said { IsTrue result ↔ IsSome self.old.handle.held }
+        ensures unchanged { self.new ≡ self.old }
+    {
+        self.live
+    }
+
+    /// Takes out what it holds.
+    pub fn take(&mut self, alloc: Global) -> Option<Box<Held>>
+        ensures { MatchOption result
+            ((self.old.handle.held ≡ None) × (self.new ≡ self.old))
+            (λ held. (self.old.handle.held ≡ Some held.value) × (self.new.handle.held ≡ None)) }
+    {
+        if !self.live {
+            return None;
+        }
+        let handle = mem::replace(&mut self.handle, Handle::empty(alloc));
+        self.live = false;
+        Some(handle.into_loose().into_box())
+    }
+
+    /// Puts something in, where there is nothing.
+    pub fn put(&mut self, held: Box<Held>)
+        requires { self.old.handle.held ≡ None }
+        ensures { self.new.handle.held ≡ Some held.value }
+    {
+        self.handle = Handle::of(Loose::of(held));
+        self.live = true;
+    }
+}
+
+fn crosses<T: Send>(value: T) -> T {
+    value
+}
+
+/// A handle may go to another thread.
+pub fn slot_crosses(slot: Slot) -> Slot {
+    crosses(slot)
+}

@@ -1,0 +1,244 @@
+//! Exports: the calls of a store.
+//!
+//! Each answers `NotHeld` where the handle holds no store. All but `Done` leave the store and what the
+//! other pointers point at. A transaction, an object or a number of operations that is greater than any
+//! in a store is as one that isn't there.
+
+ghost use Rattle.std.specs.Prelude.{◌≡◌, ◌≢◌, Some, None};
+ghost use Rattle.serial_order.specs.declared.command.Command.TheVariants as command;
+ghost use Rattle.colock_c.specs.Calls.{AbortsAll, CountsOpen, Does, DoesNumbered, IsNumbered, IsTold, IsToldOf, Keeps, Numbers};
+ghost use Rattle.colock_c.specs.Codes.{number};
+ghost use Rattle.colock_c.specs.Foreseen.{Foresees, ForeseesAt};
+ghost use Rattle.colock_c.specs.Holding.{store_at};
+
+use crate::at_store;
+use crate::code::Code;
+use crate::slot::Slot;
+use crate::words::ColockAnswer;
+use std::alloc::Global;
+
+/// Begins a transaction, as a worker, and tells its number: `TooManyOpen`, `HistoryFull` or `NoMemory`.
+#[unsafe(no_mangle)]
+pub extern "C" fn colock_begin(
+    alloc: Global,
+    slot: &mut Slot,
+    worker: u8,
+    transaction: &mut u64,
+) -> u32
+    ensures step { Does slot.old.handle.held worker command.Begin result slot.new.handle.held }
+    ensures begun { IsNumbered slot.old.handle.held result transaction.new }
+    ensures rest { result ≢ 0 → transaction.new ≡ transaction.old }
+{
+    let Some(mut held) = slot.take(alloc) else {
+        return Code::NotHeld.number();
+    };
+    let code = at_store::begin(&mut held, worker, transaction);
+    slot.put(held);
+    code.number()
+}
+
+/// Calls, for a transaction, the call with this name at object x, and tells the answer: `NotOpen`,
+/// `NoObject`, `NoCall`, `HistoryFull` or `NoMemory`.
+#[unsafe(no_mangle)]
+pub extern "C" fn colock_call(
+    alloc: Global,
+    slot: &mut Slot,
+    worker: u8,
+    transaction: u64,
+    x: u32,
+    name: &[u8],
+    answer: &mut ColockAnswer,
+) -> u32
+    ensures step { Does slot.old.handle.held worker (command.Call transaction x name.now) result slot.new.handle.held }
+    ensures told { IsToldOf slot.old.handle.held worker transaction x name.now result answer.new slot.new.handle.held }
+    ensures rest { result ≢ 0 → answer.new ≡ answer.old }
+{
+    let Some(mut held) = slot.take(alloc) else {
+        return Code::NotHeld.number();
+    };
+    let code = at_store::call(&mut held, worker, transaction, x, name, answer);
+    slot.put(held);
+    code.number()
+}
+
+/// Calls the call with this number there, as `colock_call` the one with its name.
+#[unsafe(no_mangle)]
+pub extern "C" fn colock_call_op(
+    alloc: Global,
+    slot: &mut Slot,
+    worker: u8,
+    transaction: u64,
+    x: u32,
+    c: u8,
+    answer: &mut ColockAnswer,
+) -> u32
+    ensures step { DoesNumbered slot.old.handle.held worker transaction x c result slot.new.handle.held }
+    ensures told { IsTold slot.old.handle.held worker transaction x c result answer.new slot.new.handle.held }
+    ensures rest { result ≢ 0 → answer.new ≡ answer.old }
+{
+    let Some(mut held) = slot.take(alloc) else {
+        return Code::NotHeld.number();
+    };
+    let code = at_store::call_op(&mut held, worker, transaction, x, c, answer);
+    slot.put(held);
+    code.number()
+}
+
+/// The number of the call with this name at object x: `NoObject` or `NoCall`.
+#[unsafe(no_mangle)]
+pub extern "C" fn colock_call_number(
+    alloc: Global,
+    slot: &mut Slot,
+    x: u32,
+    name: &[u8],
+    call: &mut u8,
+) -> u32
+    ensures found { Numbers slot.old.handle.held x name.now result call.new }
+    ensures no_store { store_at slot.old.handle.held ≡ None → result ≡ number Code.NotHeld }
+    ensures reads { slot.new.handle.held ≡ slot.old.handle.held }
+    ensures rest { result ≢ 0 → call.new ≡ call.old }
+{
+    let Some(held) = slot.take(alloc) else {
+        return Code::NotHeld.number();
+    };
+    let code = at_store::call_number(&held, x, name, call);
+    slot.put(held);
+    code.number()
+}
+
+/// What `colock_call` would answer now. It is no event.
+#[unsafe(no_mangle)]
+pub extern "C" fn colock_would(
+    alloc: Global,
+    slot: &mut Slot,
+    transaction: u64,
+    x: u32,
+    name: &[u8],
+    answer: &mut ColockAnswer,
+) -> u32
+    ensures foreseen { Foresees slot.old.handle.held transaction x name.now result answer.new }
+    ensures no_store { store_at slot.old.handle.held ≡ None → result ≡ number Code.NotHeld }
+    ensures reads { slot.new.handle.held ≡ slot.old.handle.held }
+    ensures rest { result ≢ 0 → answer.new ≡ answer.old }
+{
+    let Some(held) = slot.take(alloc) else {
+        return Code::NotHeld.number();
+    };
+    let code = at_store::would(&held, transaction, x, name, answer);
+    slot.put(held);
+    code.number()
+}
+
+/// What `colock_call_op` would answer now. It is no event.
+#[unsafe(no_mangle)]
+pub extern "C" fn colock_would_op(
+    alloc: Global,
+    slot: &mut Slot,
+    transaction: u64,
+    x: u32,
+    c: u8,
+    answer: &mut ColockAnswer,
+) -> u32
+    ensures foreseen { ForeseesAt slot.old.handle.held transaction x c result answer.new }
+    ensures no_store { store_at slot.old.handle.held ≡ None → result ≡ number Code.NotHeld }
+    ensures reads { slot.new.handle.held ≡ slot.old.handle.held }
+    ensures rest { result ≢ 0 → answer.new ≡ answer.old }
+{
+    let Some(held) = slot.take(alloc) else {
+        return Code::NotHeld.number();
+    };
+    let code = at_store::would_op(&held, transaction, x, c, answer);
+    slot.put(held);
+    code.number()
+}
+
+/// Commits a transaction, as a worker: `NotOpen`.
+#[unsafe(no_mangle)]
+pub extern "C" fn colock_commit(alloc: Global, slot: &mut Slot, worker: u8, transaction: u64) -> u32
+    ensures { Does slot.old.handle.held worker (command.Commit transaction) result slot.new.handle.held }
+{
+    let Some(mut held) = slot.take(alloc) else {
+        return Code::NotHeld.number();
+    };
+    let code = at_store::commit(&mut held, worker, transaction);
+    slot.put(held);
+    code.number()
+}
+
+/// Aborts a transaction, as a worker: `NotOpen`.
+#[unsafe(no_mangle)]
+pub extern "C" fn colock_abort(alloc: Global, slot: &mut Slot, worker: u8, transaction: u64) -> u32
+    ensures { Does slot.old.handle.held worker (command.Abort transaction) result slot.new.handle.held }
+{
+    let Some(mut held) = slot.take(alloc) else {
+        return Code::NotHeld.number();
+    };
+    let code = at_store::abort(&mut held, worker, transaction);
+    slot.put(held);
+    code.number()
+}
+
+/// Strikes the last operations of a transaction, as a worker: `NotOpen`, `BadRollback`, `HistoryFull` or
+/// `NoMemory`.
+#[unsafe(no_mangle)]
+pub extern "C" fn colock_rollback(
+    alloc: Global,
+    slot: &mut Slot,
+    worker: u8,
+    transaction: u64,
+    operations: u64,
+) -> u32
+    ensures { Does slot.old.handle.held worker (command.Rollback transaction operations) result slot.new.handle.held }
+{
+    let Some(mut held) = slot.take(alloc) else {
+        return Code::NotHeld.number();
+    };
+    let code = at_store::rollback(&mut held, worker, transaction, operations);
+    slot.put(held);
+    code.number()
+}
+
+/// The state that is kept of object x: `NoObject`.
+#[unsafe(no_mangle)]
+pub extern "C" fn colock_kept(alloc: Global, slot: &mut Slot, x: u32, state: &mut u64) -> u32
+    ensures kept { Keeps slot.old.handle.held x result state.new }
+    ensures no_store { store_at slot.old.handle.held ≡ None → result ≡ number Code.NotHeld }
+    ensures reads { slot.new.handle.held ≡ slot.old.handle.held }
+    ensures rest { result ≢ 0 → state.new ≡ state.old }
+{
+    let Some(held) = slot.take(alloc) else {
+        return Code::NotHeld.number();
+    };
+    let code = at_store::kept(&held, x, state);
+    slot.put(held);
+    code.number()
+}
+
+/// How many transactions are open.
+#[unsafe(no_mangle)]
+pub extern "C" fn colock_open_count(alloc: Global, slot: &mut Slot, count: &mut u64) -> u32
+    ensures counted { CountsOpen slot.old.handle.held result count.new }
+    ensures no_store { store_at slot.old.handle.held ≡ None → result ≡ number Code.NotHeld }
+    ensures reads { slot.new.handle.held ≡ slot.old.handle.held }
+    ensures rest { result ≢ 0 → count.new ≡ count.old }
+{
+    let Some(held) = slot.take(alloc) else {
+        return Code::NotHeld.number();
+    };
+    let code = at_store::open_count(&held, count);
+    slot.put(held);
+    code.number()
+}
+
+/// Aborts each open transaction, in ascending order of numbers, as the worker that began it.
+#[unsafe(no_mangle)]
+pub extern "C" fn colock_abort_all(alloc: Global, slot: &mut Slot) -> u32
+    ensures { AbortsAll slot.old.handle.held result slot.new.handle.held }
+{
+    let Some(mut held) = slot.take(alloc) else {
+        return Code::NotHeld.number();
+    };
+    let code = at_store::abort_all(&mut held);
+    slot.put(held);
+    code.number()
+}

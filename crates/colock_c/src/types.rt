@@ -1,0 +1,170 @@
+//! Exports: types that are made.
+//!
+//! Each puts a type behind a handle that holds nothing, made for a kind of recovery: 0 is update in place,
+//! 1 deferred update. Each may answer `InUse`, `BadKind`, `Refused` or `NoMemory`, and the handle holds what
+//! it held. `fault` is written where the text has a fault (`BadText`) or the checker refuses the type
+//! (`Refused`).
+
+ghost use Rattle.std.specs.Prelude.{◌≡◌, IsSome, None, Some};
+ghost use Rattle.line_text.specs.Text.{words_of};
+ghost use Rattle.table_maker.specs.Account.{account, AccountFits};
+ghost use Rattle.table_maker.specs.Amounts.{AreAmounts};
+ghost use Rattle.table_maker.specs.Counter.{counter, CounterFits};
+ghost use Rattle.table_maker.specs.Semiqueue.{semiqueue, SemiqueueFits};
+ghost use Rattle.table_maker.specs.Set.{set, SetFits};
+ghost use Rattle.type_table.specs.declared.kind.Kind.{Kind};
+ghost use Rattle.colock_c.specs.Codes.{number};
+ghost use Rattle.colock_c.specs.Families.{AreSemiqueueWords, AreSetWords, HasNone, IsOfFamily};
+ghost use Rattle.colock_c.specs.Types.{IsFaulty, IsFileOf, IsMade, IsTabledOf};
+ghost use Rattle.colock_c.specs.Words.{kind_at};
+
+use crate::code::Code;
+use crate::slot::Slot;
+use crate::typing::{hold_account, hold_counter, hold_semiqueue, hold_set, hold_tabled, hold_text};
+use crate::words::{ColockFault, kind_at};
+use std::alloc::Global;
+
+/// The type of a text (docs/formats.md): `BadText`.
+#[unsafe(no_mangle)]
+pub extern "C" fn colock_type_read(
+    alloc: Global,
+    slot: &mut Slot,
+    kind: u32,
+    text: &[u8],
+    fault: &mut ColockFault,
+) -> u32
+    ensures in_use { IsSome slot.old.handle.held → (result ≡ number Code.InUse) × (slot.new.handle.held ≡ slot.old.handle.held) × (fault.new ≡ fault.old) }
+    ensures no_kind { slot.old.handle.held ≡ None → kind_at kind ≡ None → (result ≡ number Code.BadKind) × (slot.new.handle.held ≡ None) × (fault.new ≡ fault.old) }
+    ensures made { (k : Kind) → slot.old.handle.held ≡ None → kind_at kind ≡ Some k
+        → IsMade (IsFileOf text.now) (IsFaulty text.now) k fault.old result fault.new slot.new.handle.held }
+{
+    if slot.is_open() {
+        return Code::InUse.number();
+    }
+    let Some(kind) = kind_at(kind) else {
+        return Code::BadKind.number();
+    };
+    hold_text(alloc, slot, kind, text, fault).number()
+}
+
+/// The type of a text with made tables in place of its own, which states look like which and which pairs of
+/// operations have to conflict: `BadText`.
+#[unsafe(no_mangle)]
+pub extern "C" fn colock_type_tables(
+    alloc: Global,
+    slot: &mut Slot,
+    kind: u32,
+    text: &[u8],
+    fault: &mut ColockFault,
+) -> u32
+    ensures in_use { IsSome slot.old.handle.held → (result ≡ number Code.InUse) × (slot.new.handle.held ≡ slot.old.handle.held) × (fault.new ≡ fault.old) }
+    ensures no_kind { slot.old.handle.held ≡ None → kind_at kind ≡ None → (result ≡ number Code.BadKind) × (slot.new.handle.held ≡ None) × (fault.new ≡ fault.old) }
+    ensures made { (k : Kind) → slot.old.handle.held ≡ None → kind_at kind ≡ Some k
+        → IsMade (IsTabledOf text.now) (IsFaulty text.now) k fault.old result fault.new slot.new.handle.held }
+{
+    if slot.is_open() {
+        return Code::InUse.number();
+    }
+    let Some(kind) = kind_at(kind) else {
+        return Code::BadKind.number();
+    };
+    hold_tabled(alloc, slot, kind, text, fault).number()
+}
+
+/// An account: a balance of 0 to `cap`, with deposits and withdrawals of these amounts. `BadParameter` or
+/// `TooLarge`.
+#[unsafe(no_mangle)]
+pub extern "C" fn colock_type_account(
+    alloc: Global,
+    slot: &mut Slot,
+    kind: u32,
+    cap: u64,
+    amounts: &[u64],
+    fault: &mut ColockFault,
+) -> u32
+    ensures in_use { IsSome slot.old.handle.held → (result ≡ number Code.InUse) × (slot.new.handle.held ≡ slot.old.handle.held) × (fault.new ≡ fault.old) }
+    ensures no_kind { slot.old.handle.held ≡ None → kind_at kind ≡ None → (result ≡ number Code.BadKind) × (slot.new.handle.held ≡ None) × (fault.new ≡ fault.old) }
+    ensures made { (k : Kind) → slot.old.handle.held ≡ None → kind_at kind ≡ Some k
+        → IsMade (IsOfFamily (AreAmounts cap amounts.now) (AccountFits cap amounts.now) (account cap amounts.now)) (λ n words. HasNone (AreAmounts cap amounts.now) (AccountFits cap amounts.now) n × (words ≡ fault.old)) k fault.old result fault.new slot.new.handle.held }
+{
+    if slot.is_open() {
+        return Code::InUse.number();
+    }
+    let Some(kind) = kind_at(kind) else {
+        return Code::BadKind.number();
+    };
+    hold_account(alloc, slot, kind, cap, amounts, fault).number()
+}
+
+/// A counter: a number from 0 to `cap`, with steps up and down by these amounts. `BadParameter` or
+/// `TooLarge`.
+#[unsafe(no_mangle)]
+pub extern "C" fn colock_type_counter(
+    alloc: Global,
+    slot: &mut Slot,
+    kind: u32,
+    cap: u64,
+    amounts: &[u64],
+    fault: &mut ColockFault,
+) -> u32
+    ensures in_use { IsSome slot.old.handle.held → (result ≡ number Code.InUse) × (slot.new.handle.held ≡ slot.old.handle.held) × (fault.new ≡ fault.old) }
+    ensures no_kind { slot.old.handle.held ≡ None → kind_at kind ≡ None → (result ≡ number Code.BadKind) × (slot.new.handle.held ≡ None) × (fault.new ≡ fault.old) }
+    ensures made { (k : Kind) → slot.old.handle.held ≡ None → kind_at kind ≡ Some k
+        → IsMade (IsOfFamily (AreAmounts cap amounts.now) (CounterFits amounts.now) (counter cap amounts.now)) (λ n words. HasNone (AreAmounts cap amounts.now) (CounterFits amounts.now) n × (words ≡ fault.old)) k fault.old result fault.new slot.new.handle.held }
+{
+    if slot.is_open() {
+        return Code::InUse.number();
+    }
+    let Some(kind) = kind_at(kind) else {
+        return Code::BadKind.number();
+    };
+    hold_counter(alloc, slot, kind, cap, amounts, fault).number()
+}
+
+/// A set: each element, which is a word of the text, is in or out. `BadParameter` or `TooLarge`.
+#[unsafe(no_mangle)]
+pub extern "C" fn colock_type_set(
+    alloc: Global,
+    slot: &mut Slot,
+    kind: u32,
+    elements: &[u8],
+    fault: &mut ColockFault,
+) -> u32
+    ensures in_use { IsSome slot.old.handle.held → (result ≡ number Code.InUse) × (slot.new.handle.held ≡ slot.old.handle.held) × (fault.new ≡ fault.old) }
+    ensures no_kind { slot.old.handle.held ≡ None → kind_at kind ≡ None → (result ≡ number Code.BadKind) × (slot.new.handle.held ≡ None) × (fault.new ≡ fault.old) }
+    ensures made { (k : Kind) → slot.old.handle.held ≡ None → kind_at kind ≡ Some k
+        → IsMade (IsOfFamily (AreSetWords elements.now) (SetFits (words_of elements.now)) (set (words_of elements.now))) (λ n words. HasNone (AreSetWords elements.now) (SetFits (words_of elements.now)) n × (words ≡ fault.old)) k fault.old result fault.new slot.new.handle.held }
+{
+    if slot.is_open() {
+        return Code::InUse.number();
+    }
+    let Some(kind) = kind_at(kind) else {
+        return Code::BadKind.number();
+    };
+    hold_set(alloc, slot, kind, elements, fault).number()
+}
+
+/// A semiqueue: at most `capacity` items of the elements, which are the words of the text. `BadParameter` or
+/// `TooLarge`.
+#[unsafe(no_mangle)]
+pub extern "C" fn colock_type_semiqueue(
+    alloc: Global,
+    slot: &mut Slot,
+    kind: u32,
+    elements: &[u8],
+    capacity: u64,
+    fault: &mut ColockFault,
+) -> u32
+    ensures in_use { IsSome slot.old.handle.held → (result ≡ number Code.InUse) × (slot.new.handle.held ≡ slot.old.handle.held) × (fault.new ≡ fault.old) }
+    ensures no_kind { slot.old.handle.held ≡ None → kind_at kind ≡ None → (result ≡ number Code.BadKind) × (slot.new.handle.held ≡ None) × (fault.new ≡ fault.old) }
+    ensures made { (k : Kind) → slot.old.handle.held ≡ None → kind_at kind ≡ Some k
+        → IsMade (IsOfFamily (AreSemiqueueWords elements.now capacity) (SemiqueueFits (words_of elements.now) capacity) (semiqueue (words_of elements.now) capacity)) (λ n words. HasNone (AreSemiqueueWords elements.now capacity) (SemiqueueFits (words_of elements.now) capacity) n × (words ≡ fault.old)) k fault.old result fault.new slot.new.handle.held }
+{
+    if slot.is_open() {
+        return Code::InUse.number();
+    }
+    let Some(kind) = kind_at(kind) else {
+        return Code::BadKind.number();
+    };
+    hold_semiqueue(alloc, slot, kind, elements, capacity, fault).number()
+}

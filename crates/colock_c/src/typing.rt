@@ -1,0 +1,130 @@
+//! Types that are made of what crosses, and put behind a handle that holds nothing.
+
+ghost use Rattle.std.specs.Prelude.{◌≡◌, None};
+ghost use Rattle.line_text.specs.Text.{words_of};
+ghost use Rattle.table_maker.specs.Account.{account, AccountFits};
+ghost use Rattle.table_maker.specs.Amounts.{AreAmounts};
+ghost use Rattle.table_maker.specs.Counter.{counter, CounterFits};
+ghost use Rattle.table_maker.specs.Semiqueue.{semiqueue, SemiqueueFits};
+ghost use Rattle.table_maker.specs.Set.{set, SetFits};
+ghost use Rattle.colock_c.specs.Codes.{number};
+ghost use Rattle.colock_c.specs.Families.{AreSemiqueueWords, AreSetWords, HasNone, IsOfFamily};
+ghost use Rattle.colock_c.specs.Types.{IsFaulty, IsFileOf, IsMade, IsTabledOf};
+
+use crate::code::Code;
+use crate::families::{account_file, counter_file, semiqueue_file, set_file};
+use crate::holding::hold_type;
+use crate::reading::{file_of, tabled};
+use crate::slot::Slot;
+use crate::words::ColockFault;
+use std::alloc::Global;
+use table_checker::Kind;
+
+/// The type of a text.
+pub(crate) fn hold_text(
+    alloc: Global,
+    slot: &mut Slot,
+    kind: Kind,
+    text: &[u8],
+    fault: &mut ColockFault,
+) -> Code
+    requires { slot.old.handle.held ≡ None }
+    ensures { IsMade (IsFileOf text.now) (IsFaulty text.now) kind fault.old (number result) fault.new slot.new.handle.held }
+{
+    match file_of(alloc, text, fault) {
+        Ok(file) => hold_type(alloc, slot, kind, file, fault),
+        Err(code) => code,
+    }
+}
+
+/// The type of a text, with made tables in place of its own.
+pub(crate) fn hold_tabled(
+    alloc: Global,
+    slot: &mut Slot,
+    kind: Kind,
+    text: &[u8],
+    fault: &mut ColockFault,
+) -> Code
+    requires { slot.old.handle.held ≡ None }
+    ensures { IsMade (IsTabledOf text.now) (IsFaulty text.now) kind fault.old (number result) fault.new slot.new.handle.held }
+{
+    match tabled(alloc, text, fault) {
+        Ok(file) => hold_type(alloc, slot, kind, file, fault),
+        Err(code) => code,
+    }
+}
+
+/// The type of an account.
+pub(crate) fn hold_account(
+    alloc: Global,
+    slot: &mut Slot,
+    kind: Kind,
+    cap: u64,
+    amounts: &[u64],
+    fault: &mut ColockFault,
+) -> Code
+    requires { slot.old.handle.held ≡ None }
+    ensures { IsMade (IsOfFamily (AreAmounts cap amounts.now) (AccountFits cap amounts.now) (account cap amounts.now))
+        (λ n words. HasNone (AreAmounts cap amounts.now) (AccountFits cap amounts.now) n × (words ≡ fault.old)) kind fault.old (number result) fault.new slot.new.handle.held }
+{
+    match account_file(alloc, cap, amounts) {
+        Ok(file) => hold_type(alloc, slot, kind, file, fault),
+        Err(code) => code,
+    }
+}
+
+/// The type of a counter.
+pub(crate) fn hold_counter(
+    alloc: Global,
+    slot: &mut Slot,
+    kind: Kind,
+    cap: u64,
+    amounts: &[u64],
+    fault: &mut ColockFault,
+) -> Code
+    requires { slot.old.handle.held ≡ None }
+    ensures { IsMade (IsOfFamily (AreAmounts cap amounts.now) (CounterFits amounts.now) (counter cap amounts.now))
+        (λ n words. HasNone (AreAmounts cap amounts.now) (CounterFits amounts.now) n × (words ≡ fault.old)) kind fault.old (number result) fault.new slot.new.handle.held }
+{
+    match counter_file(alloc, cap, amounts) {
+        Ok(file) => hold_type(alloc, slot, kind, file, fault),
+        Err(code) => code,
+    }
+}
+
+/// The type of a set.
+pub(crate) fn hold_set(
+    alloc: Global,
+    slot: &mut Slot,
+    kind: Kind,
+    elements: &[u8],
+    fault: &mut ColockFault,
+) -> Code
+    requires { slot.old.handle.held ≡ None }
+    ensures { IsMade (IsOfFamily (AreSetWords elements.now) (SetFits (words_of elements.now)) (set (words_of elements.now)))
+        (λ n words. HasNone (AreSetWords elements.now) (SetFits (words_of elements.now)) n × (words ≡ fault.old)) kind fault.old (number result) fault.new slot.new.handle.held }
+{
+    match set_file(alloc, elements) {
+        Ok(file) => hold_type(alloc, slot, kind, file, fault),
+        Err(code) => code,
+    }
+}
+
+/// The type of a semiqueue.
+pub(crate) fn hold_semiqueue(
+    alloc: Global,
+    slot: &mut Slot,
+    kind: Kind,
+    elements: &[u8],
+    capacity: u64,
+    fault: &mut ColockFault,
+) -> Code
+    requires { slot.old.handle.held ≡ None }
+    ensures { IsMade (IsOfFamily (AreSemiqueueWords elements.now capacity) (SemiqueueFits (words_of elements.now) capacity) (semiqueue (words_of elements.now) capacity))
+        (λ n words. HasNone (AreSemiqueueWords elements.now capacity) (SemiqueueFits (words_of elements.now) capacity) n × (words ≡ fault.old)) kind fault.old (number result) fault.new slot.new.handle.held }
+{
+    match semiqueue_file(alloc, elements, capacity) {
+        Ok(file) => hold_type(alloc, slot, kind, file, fault),
+        Err(code) => code,
+    }
+}
