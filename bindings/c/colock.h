@@ -1,0 +1,284 @@
+/* colock.h: a transactional store of shared, typed objects, in memory.
+ *
+ * Only operations that don't commute keep each other waiting: two transactions may count one counter up side
+ * by side. A type is read from a text or made of a family, and checked for a kind of recovery. A store is
+ * made of objects of such types. Transactions call operations of the objects, and commit or abort.
+ *
+ *     colock_handle type = COLOCK_HANDLE, store = COLOCK_HANDLE;
+ *     colock_type_counter(&type, COLOCK_UNDO, 5, amounts, 1, &fault);
+ *     colock_store_new(&store);
+ *     colock_store_add(&store, &type);
+ *     colock_store_open(&store, 1000000);
+ *     colock_begin(&store, 0, &transaction);
+ *     colock_call(&store, 0, transaction, 0, "inc:1", 5, &answer);
+ *     colock_commit(&store, 0, transaction);
+ *     colock_close(&store);
+ *     colock_close(&type);
+ *
+ * What each call does is proved, under what its caller owes:
+ *
+ * - Each pointer is there (not NULL, not even where its count is 0), is aligned, and points at as many values
+ *   as its count says, which may be written where the pointer isn't const.
+ * - What the pointers of one call point at lies apart: no two of them share a byte.
+ * - A handle is COLOCK_HANDLE (zeros) before its first call. It is never copied or written by others. Before
+ *   its memory goes, colock_close is called, or what it holds is lost.
+ * - A handle is in one call at a time; for more threads there is a lock of the caller round each call. Any
+ *   thread may make the next call. Reading a type or a store is a call like any other.
+ *
+ * A call returns one of the codes below. COLOCK_OK is 0. Where it returns another, it has changed nothing, and
+ * written nothing, but for what is said at colock_follow, and for the fault of a type that isn't made. A
+ * handle that is closed, or holds another sort of thing than is meant, gives COLOCK_NOT_HELD and no more.
+ * No call waits, prints, ends the process, or starts a thread. Memory comes from malloc, realloc and free.
+ */
+#ifndef COLOCK_H
+#define COLOCK_H
+
+#include <stdbool.h>
+#include <stddef.h>
+#include <stdint.h>
+
+#ifdef __cplusplus
+extern "C" {
+#endif
+
+/* The version of this header's calls, and that of the library's: they have to be the same. */
+#define COLOCK_VERSION 1
+uint32_t colock_version(void);
+
+/* What a handle holds is a type, the objects of a store that is being made, or a store. */
+typedef struct colock_handle {
+    bool live_;
+    void *at_;
+} colock_handle;
+
+#define COLOCK_HANDLE {false, NULL}
+
+typedef enum colock_code {
+    COLOCK_OK = 0,                /* it was done */
+    COLOCK_NOT_OPEN = 1,          /* the transaction isn't open */
+    COLOCK_NO_OBJECT = 2,         /* the store has no object of this number */
+    COLOCK_NO_CALL = 3,           /* no operation of the object's type has this call */
+    COLOCK_TOO_MANY_OPEN = 4,     /* 1,024 transactions are open */
+    COLOCK_HISTORY_FULL = 5,      /* the history has no room for the event and the end of each open transaction */
+    COLOCK_NO_MEMORY = 6,         /* memory was refused */
+    COLOCK_BAD_ROLLBACK = 7,      /* a rollback of no operation, or of more than the transaction has */
+    COLOCK_NOT_HELD = 8,          /* the handle holds nothing, or another sort of thing than is meant */
+    COLOCK_IN_USE = 9,            /* the handle holds something already */
+    COLOCK_BAD_TEXT = 10,         /* the text has a fault */
+    COLOCK_REFUSED = 11,          /* the checker refuses the type for this kind */
+    COLOCK_BAD_KIND = 12,         /* no kind of recovery has this number */
+    COLOCK_NO_OBJECTS = 13,       /* a store of no object */
+    COLOCK_TOO_MANY_OBJECTS = 14, /* a store of more than 256 objects */
+    COLOCK_NOT_FRESH = 15,        /* an object isn't as it was made (no caller of these calls sees it) */
+    COLOCK_BAD_MAX = 16,          /* a limit below 2, or above 4,294,967,295 */
+    COLOCK_STILL_OPEN = 17,       /* a transaction is open */
+    COLOCK_NOT_MADE = 18,         /* no command makes this event now */
+    COLOCK_FORGOTTEN = 19,        /* these events were forgotten, or some of them */
+    COLOCK_BAD_PARAMETER = 20,    /* a parameter of a family is out of its range or in a wrong order */
+    COLOCK_TOO_LARGE = 21,        /* the family would have more than 64 operations or 1,024 states */
+    COLOCK_NO_STATE = 22,         /* the type has no state of this number */
+    COLOCK_NO_OPERATION = 23,     /* the type has no operation of this number */
+    COLOCK_NOT_LEGAL = 24,        /* the operation isn't legal in the state */
+    COLOCK_NO_ROOM = 25           /* the room is too small */
+} colock_code;
+
+/* How an object recovers from aborts. */
+typedef enum colock_kind {
+    COLOCK_UNDO = 0,      /* it is updated in place, and operations are taken back */
+    COLOCK_INTENTIONS = 1 /* each transaction keeps its operations by itself until it commits */
+} colock_kind;
+
+typedef enum colock_answer_kind {
+    COLOCK_REPLY = 0, /* an operation was executed */
+    COLOCK_BUSY = 1,  /* it conflicts with an operation of another transaction, the blocker */
+    COLOCK_NONE = 2   /* no operation with this call is legal now */
+} colock_answer_kind;
+
+/* What a call is answered: `number` is the operation, or the blocker, or 0. */
+typedef struct colock_answer {
+    uint64_t kind;
+    uint64_t number;
+} colock_answer;
+
+/* Why a type wasn't made. COLOCK_BAD_TEXT: `line`, from 1, is the first refused line and `kind` a
+ * colock_fault_kind. COLOCK_REFUSED: `line` is 0 and `kind` a colock_refusal, which says what the others are. */
+typedef struct colock_fault {
+    uint64_t line;
+    uint64_t kind;
+    uint64_t first;
+    uint64_t second;
+    uint64_t third;
+} colock_fault;
+
+typedef enum colock_fault_kind {
+    COLOCK_NOT_ASCII = 1,     /* a byte outside 32 to 126 */
+    COLOCK_LINE_TOO_LONG = 2, /* more than 200 bytes */
+    COLOCK_UNTERMINATED = 3,  /* no line feed ends the line */
+    COLOCK_UNKNOWN_WORD = 4,  /* an unknown keyword, a wrong number of words, or a word that is no name or kind */
+    COLOCK_BAD_NUMBER = 5,    /* a word that isn't a number */
+    COLOCK_OUT_OF_RANGE = 6,  /* a number out of its range, or too many lines of a section */
+    COLOCK_OUT_OF_ORDER = 7,  /* a section or an entry behind its place */
+    COLOCK_MISSING = 8,       /* a section that must be there isn't, or the text has no `end` */
+    COLOCK_AFTER_END = 9,     /* a line behind `end` */
+    COLOCK_TWICE_OP = 10      /* an operation that came before */
+} colock_fault_kind;
+
+typedef enum colock_refusal {
+    COLOCK_INITIAL_OUTSIDE = 1, /* the initial state isn't in the set of states */
+    COLOCK_NOT_CLOSED = 2,      /* from state `first` operation `second` leads out of the set */
+    COLOCK_NOT_SIMULATION = 3,  /* `first` looks like `second` by the text, and operation `third` tells them apart */
+    COLOCK_NOT_COMMUTING = 4    /* requested `first` and held `second` have no conflict and fail in state `third` */
+} colock_refusal;
+
+/* A type: its states are 0 to states - 1, its operations 0 to ops - 1, and `kind` a colock_kind. */
+typedef struct colock_shape {
+    uint64_t states;
+    uint64_t initial;
+    uint64_t ops;
+    uint64_t kind;
+} colock_shape;
+
+typedef enum colock_event_kind {
+    COLOCK_EVENT_BEGIN = 0,
+    COLOCK_EVENT_OP = 1,      /* `op` is the operation that was executed at `object` */
+    COLOCK_EVENT_BUSY = 2,    /* `op` is the number of the call, and `other` the blocker */
+    COLOCK_EVENT_NONE = 3,    /* `op` is the number of the call */
+    COLOCK_EVENT_COMMIT = 4,
+    COLOCK_EVENT_ABORT = 5,
+    COLOCK_EVENT_ROLLBACK = 6 /* `other` is the number of operations that were taken back */
+} colock_event_kind;
+
+/* An event of a store. What its kind doesn't have is 0, and isn't read by colock_follow. */
+typedef struct colock_event {
+    uint64_t transaction;
+    uint64_t other;
+    uint32_t object;
+    uint32_t op;
+    uint32_t kind;
+    uint32_t worker;
+} colock_event;
+
+/* ---- Types
+ *
+ * Each puts a type behind a handle that holds nothing. Each may return COLOCK_IN_USE, COLOCK_BAD_KIND,
+ * COLOCK_REFUSED or COLOCK_NO_MEMORY too. `fault` is written at COLOCK_BAD_TEXT and COLOCK_REFUSED alone. */
+
+/* The type of a text, with its own tables. COLOCK_BAD_TEXT. */
+uint32_t colock_type_read(colock_handle *type, uint32_t kind, const char *text, size_t text_count,
+                          colock_fault *fault);
+/* The type of a text with made tables in place of its own: which operations conflict is found out.
+ * COLOCK_BAD_TEXT. */
+uint32_t colock_type_tables(colock_handle *type, uint32_t kind, const char *text, size_t text_count,
+                            colock_fault *fault);
+/* An account of 0 to `cap`: calls deposit:A and withdraw:A for each amount A, and balance. Amounts are 1 to
+ * cap, ascending. COLOCK_BAD_PARAMETER, COLOCK_TOO_LARGE. */
+uint32_t colock_type_account(colock_handle *type, uint32_t kind, uint64_t cap, const uint64_t *amounts,
+                             size_t amounts_count, colock_fault *fault);
+/* A counter of 0 to `cap`: calls inc:A and dec:A for each amount A. As an account. */
+uint32_t colock_type_counter(colock_handle *type, uint32_t kind, uint64_t cap, const uint64_t *amounts,
+                             size_t amounts_count, colock_fault *fault);
+/* A set of the words of a text of `elements_count` bytes, with spaces between them: calls insert:E, delete:E and
+ * member:E for each element E. COLOCK_BAD_PARAMETER, COLOCK_TOO_LARGE. */
+uint32_t colock_type_set(colock_handle *type, uint32_t kind, const char *elements, size_t elements_count,
+                         colock_fault *fault);
+/* A semiqueue of at most `capacity` items: calls enq:E for each element E, and deq, whose reply is any item.
+ * As a set. */
+uint32_t colock_type_semiqueue(colock_handle *type, uint32_t kind, const char *elements,
+                               size_t elements_count, uint64_t capacity, colock_fault *fault);
+
+/* What is read of a type. COLOCK_NOT_HELD where the handle holds no type. */
+uint32_t colock_type_shape(colock_handle *type, colock_shape *shape);
+/* Its name, without an ending zero: the first bytes of the room, and their number, which is at most
+ * COLOCK_LONGEST_NAME. COLOCK_NO_ROOM. */
+#define COLOCK_LONGEST_NAME 32
+uint32_t colock_type_name(colock_handle *type, char *room, size_t room_count, uint64_t *count);
+/* The call of operation k, and its reply, as the name. COLOCK_NO_OPERATION, COLOCK_NO_ROOM. */
+uint32_t colock_type_call(colock_handle *type, uint64_t k, char *room, size_t room_count, uint64_t *count);
+uint32_t colock_type_reply(colock_handle *type, uint64_t k, char *room, size_t room_count, uint64_t *count);
+/* The state to which operation k leads from state s. COLOCK_NO_STATE, COLOCK_NO_OPERATION, COLOCK_NOT_LEGAL. */
+uint32_t colock_type_step(colock_handle *type, uint64_t s, uint64_t k, uint64_t *to);
+/* Whether operation `requested` conflicts with `other`, which another transaction holds: 1 or 0.
+ * COLOCK_NO_OPERATION. */
+uint32_t colock_type_conflict(colock_handle *type, uint64_t requested, uint64_t other, uint32_t *told);
+
+/* ---- The making of a store */
+
+/* Begins a store behind a handle that holds nothing: no object yet. COLOCK_IN_USE, COLOCK_NO_MEMORY. */
+uint32_t colock_store_new(colock_handle *store);
+/* Adds an object of a type, in its initial state. Objects are numbered from 0; several may have one type. The
+ * type may be closed before the store. COLOCK_NOT_HELD, COLOCK_NO_MEMORY. */
+uint32_t colock_store_add(colock_handle *store, colock_handle *type);
+/* Makes the store of its objects, whose history will have at most `max_events` events, those that were
+ * forgotten among them. COLOCK_NOT_HELD, COLOCK_NO_OBJECTS, COLOCK_TOO_MANY_OBJECTS, COLOCK_BAD_MAX,
+ * COLOCK_NO_MEMORY: the objects stay. */
+uint32_t colock_store_open(colock_handle *store, uint64_t max_events);
+
+/* ---- Transactions
+ *
+ * Each of these, and of those below, returns COLOCK_NOT_HELD where the handle holds no store. A worker is any
+ * number that the events are to tell. */
+
+/* Begins a transaction, whose number is told: they count from 0. COLOCK_TOO_MANY_OPEN, COLOCK_HISTORY_FULL,
+ * COLOCK_NO_MEMORY. */
+uint32_t colock_begin(colock_handle *store, uint8_t worker, uint64_t *transaction);
+/* Calls, for a transaction, the call of this name at an object. COLOCK_OK whether the answer is COLOCK_REPLY,
+ * COLOCK_BUSY or COLOCK_NONE: each is an event. COLOCK_NOT_OPEN, COLOCK_NO_OBJECT, COLOCK_NO_CALL,
+ * COLOCK_HISTORY_FULL, COLOCK_NO_MEMORY. */
+uint32_t colock_call(colock_handle *store, uint8_t worker, uint64_t transaction, uint32_t object,
+                     const char *name, size_t name_count, colock_answer *answer);
+/* The same by the number of the call, which colock_call_number tells once. */
+uint32_t colock_call_op(colock_handle *store, uint8_t worker, uint64_t transaction, uint32_t object,
+                        uint8_t call, colock_answer *answer);
+/* The number of the call of this name at an object: that of the first operation that has it.
+ * COLOCK_NO_OBJECT, COLOCK_NO_CALL. */
+uint32_t colock_call_number(colock_handle *store, uint32_t object, const char *name, size_t name_count,
+                            uint8_t *call);
+/* What colock_call or colock_call_op would be answered now. It is no event, and needs no memory. The codes are
+ * theirs, COLOCK_HISTORY_FULL too. */
+uint32_t colock_would(colock_handle *store, uint64_t transaction, uint32_t object, const char *name,
+                      size_t name_count, colock_answer *answer);
+uint32_t colock_would_op(colock_handle *store, uint64_t transaction, uint32_t object, uint8_t call,
+                         colock_answer *answer);
+/* Ends a transaction, which needs no memory and no more room in the history. COLOCK_NOT_OPEN. */
+uint32_t colock_commit(colock_handle *store, uint8_t worker, uint64_t transaction);
+uint32_t colock_abort(colock_handle *store, uint8_t worker, uint64_t transaction);
+/* Takes back the last operations of a transaction, which stays open. COLOCK_NOT_OPEN, COLOCK_BAD_ROLLBACK,
+ * COLOCK_HISTORY_FULL, COLOCK_NO_MEMORY. */
+uint32_t colock_rollback(colock_handle *store, uint8_t worker, uint64_t transaction, uint64_t operations);
+/* The state that is kept of an object: of COLOCK_UNDO with what open transactions did. COLOCK_NO_OBJECT. */
+uint32_t colock_kept(colock_handle *store, uint32_t object, uint64_t *state);
+/* How many transactions are open. */
+uint32_t colock_open_count(colock_handle *store, uint64_t *count);
+/* Aborts each open transaction, in ascending order, as the worker that began it. */
+uint32_t colock_abort_all(colock_handle *store);
+
+/* ---- Events
+ *
+ * A store's history is what happened, oldest first: events count from 0. */
+
+/* Copies the events from `from` on into the room, as many as there are and it has room for; tells how many.
+ * COLOCK_FORGOTTEN where `from` is below the number of those that were forgotten. */
+uint32_t colock_events(colock_handle *store, uint64_t from, colock_event *room, size_t room_count,
+                       uint64_t *count);
+/* How many events there were, and how many of the first of them were forgotten. */
+uint32_t colock_event_count(colock_handle *store, uint64_t *count, uint64_t *forgotten);
+/* Forgets the first `events` of those that are in memory, or all. */
+uint32_t colock_forget(colock_handle *store, uint64_t events);
+/* Makes events again, one after another, each as its worker: a store becomes what another was. `made` gets
+ * how many were made, at COLOCK_NOT_MADE and COLOCK_NO_MEMORY too: those before that place are made. */
+uint32_t colock_follow(colock_handle *store, const colock_event *events, size_t events_count, uint64_t *made);
+
+/* ---- Ends */
+
+/* Begins anew at the states that are kept, with no event and the same limit: transactions count from 0 again.
+ * COLOCK_STILL_OPEN, COLOCK_NO_MEMORY. */
+uint32_t colock_renew(colock_handle *store);
+/* Ends what the handle holds, of any sort; a store aborts what is open. The handle may be used again.
+ * COLOCK_NOT_HELD where it holds nothing. */
+uint32_t colock_close(colock_handle *handle);
+
+#ifdef __cplusplus
+}
+#endif
+
+#endif

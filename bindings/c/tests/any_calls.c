@@ -1,0 +1,171 @@
+/* any_calls SEED CALLS: random calls at four handles, whatever they hold. A call at a handle that holds what is
+ * meant isn't COLOCK_NOT_HELD, and at any other it is; what isn't done writes nothing; no code is unknown. */
+#include "want.h"
+
+enum { HANDLES = 4 };
+
+typedef enum sort { NOTHING, A_TYPE, OBJECTS, A_STORE } sort;
+
+static colock_handle handles[HANDLES];
+static sort holds[HANDLES];
+static uint64_t drawn;
+static long by_code[COLOCK_NO_ROOM + 1];
+
+static uint64_t draw(uint64_t below) {
+    drawn = drawn * 6364136223846793005u + 1442695040888963407u;
+    return (drawn >> 33) % below;
+}
+
+/* A number that is small mostly, and else at some edge. */
+static uint64_t number(void) {
+    static const uint64_t edges[] = {63, 64, 255, 256, 1023, 1024, 65535, 65536, UINT32_MAX, (uint64_t)UINT32_MAX + 1, UINT64_MAX};
+    return draw(8) ? draw(6) : edges[draw(sizeof edges / sizeof *edges)];
+}
+
+static void counted(uint32_t code) {
+    WANT(code <= COLOCK_NO_ROOM && code != COLOCK_NO_MEMORY && code != COLOCK_NOT_FRESH);
+    by_code[code]++;
+}
+
+/* A call that reads or changes what is of one sort. */
+static uint32_t meant_for(int h, sort meant, uint32_t code) {
+    WANT((code == COLOCK_NOT_HELD) == (holds[h] != meant));
+    counted(code);
+    return code;
+}
+
+static void make_type(int h) {
+    static const char *const texts[] = {CTR2, "type counter\nstates x\n", "type c\nstates 1\ninitial 0\nop a b\nreach 0\nend\n", ""};
+    static const char *const elements[] = {"a b", "a a", "A", "", "a b c d e f g h i j k"};
+    uint64_t amounts[3] = {number(), number(), number()};
+    const char *text = texts[draw(4)], *words = elements[draw(5)];
+    colock_fault fault = {UNTOUCHED, UNTOUCHED, UNTOUCHED, UNTOUCHED, UNTOUCHED};
+    uint32_t kind = (uint32_t)(draw(9) ? draw(2) : number()), code = 0;
+    switch (draw(6)) {
+    case 0: code = colock_type_read(&handles[h], kind, TEXT(text), &fault); break;
+    case 1: code = colock_type_tables(&handles[h], kind, TEXT(text), &fault); break;
+    case 2: code = colock_type_account(&handles[h], kind, number(), amounts, draw(4), &fault); break;
+    case 3: code = colock_type_counter(&handles[h], kind, number(), amounts, draw(4), &fault); break;
+    case 4: code = colock_type_set(&handles[h], kind, TEXT(words), &fault); break;
+    case 5: code = colock_type_semiqueue(&handles[h], kind, TEXT(words), number(), &fault); break;
+    }
+    WANT((code == COLOCK_IN_USE) == (holds[h] != NOTHING));
+    WANT((code == COLOCK_BAD_TEXT || code == COLOCK_REFUSED) == (fault.line != UNTOUCHED));
+    counted(code);
+    if (!code) holds[h] = A_TYPE;
+}
+
+static void read_type(int h) {
+    colock_shape shape = {UNTOUCHED, 0, 0, 0};
+    char room[COLOCK_LONGEST_NAME];
+    size_t size = draw(COLOCK_LONGEST_NAME + 1);
+    uint64_t count = UNTOUCHED, to = UNTOUCHED;
+    uint32_t told = UNTOUCHED;
+    uint32_t code = meant_for(h, A_TYPE, colock_type_shape(&handles[h], &shape));
+    WANT((code == COLOCK_OK) == (shape.states != UNTOUCHED));
+    memset(room, '!', sizeof room);
+    switch (draw(3)) {
+    case 0: code = colock_type_name(&handles[h], room, size, &count); break;
+    case 1: code = colock_type_call(&handles[h], number(), room, size, &count); break;
+    case 2: code = colock_type_reply(&handles[h], number(), room, size, &count); break;
+    }
+    meant_for(h, A_TYPE, code);
+    WANT(code ? count == UNTOUCHED && room[0] == '!' : count <= size && room[count - 1] != '!');
+    code = meant_for(h, A_TYPE, colock_type_step(&handles[h], number(), number(), &to));
+    WANT(code == COLOCK_OK || to == UNTOUCHED);
+    code = meant_for(h, A_TYPE, colock_type_conflict(&handles[h], number(), number(), &told));
+    WANT(code ? told == UNTOUCHED : told <= 1);
+}
+
+static void make_store(int h) {
+    int of = (h + 1 + (int)draw(HANDLES - 1)) % HANDLES;
+    uint32_t code = colock_store_new(&handles[h]);
+    WANT((code == COLOCK_IN_USE) == (holds[h] != NOTHING));
+    counted(code);
+    if (!code) holds[h] = OBJECTS;
+    for (uint64_t n = draw(4); n; n--) {
+        code = colock_store_add(&handles[h], &handles[of]);
+        WANT((code == COLOCK_NOT_HELD) == (holds[h] != OBJECTS || holds[of] != A_TYPE));
+        counted(code);
+    }
+    code = meant_for(h, OBJECTS, colock_store_open(&handles[h], draw(2) ? 1000 : number()));
+    if (!code) holds[h] = A_STORE;
+}
+
+static void transact(int h) {
+    static const char *const names[] = {"inc:1", "dec:1", "deposit:1", "withdraw:2", "balance", "insert:a", "enq:a", "deq", "", "x"};
+    const char *name = names[draw(10)];
+    colock_answer answer = {UNTOUCHED, UNTOUCHED};
+    uint64_t t = number();
+    uint32_t x = (uint32_t)number(), code = 0;
+    uint8_t c = (uint8_t)number(), worker = (uint8_t)number();
+    switch (draw(7)) {
+    case 0: code = colock_call(&handles[h], worker, t, x, TEXT(name), &answer); break;
+    case 1: code = colock_call_op(&handles[h], worker, t, x, c, &answer); break;
+    case 2: code = colock_would(&handles[h], t, x, TEXT(name), &answer); break;
+    case 3: code = colock_would_op(&handles[h], t, x, c, &answer); break;
+    case 4: meant_for(h, A_STORE, colock_commit(&handles[h], worker, t)); return;
+    case 5: meant_for(h, A_STORE, colock_abort(&handles[h], worker, t)); return;
+    case 6: meant_for(h, A_STORE, colock_rollback(&handles[h], worker, t, number())); return;
+    }
+    meant_for(h, A_STORE, code);
+    WANT(code ? answer.kind == UNTOUCHED : answer.kind <= COLOCK_NONE);
+}
+
+static void read_store(int h) {
+    uint64_t n = UNTOUCHED, m = UNTOUCHED;
+    uint8_t c = UNTOUCHED;
+    uint32_t code = meant_for(h, A_STORE, colock_kept(&handles[h], (uint32_t)number(), &n));
+    WANT(code == COLOCK_OK || n == UNTOUCHED);
+    n = UNTOUCHED;
+    code = meant_for(h, A_STORE, colock_event_count(&handles[h], &n, &m));
+    WANT(code ? n == UNTOUCHED && m == UNTOUCHED : m <= n);
+    code = meant_for(h, A_STORE, colock_call_number(&handles[h], (uint32_t)number(), TEXT("dec:1"), &c));
+    WANT(code == COLOCK_OK || c == UNTOUCHED);
+    if (!draw(9)) meant_for(h, A_STORE, colock_forget(&handles[h], number()));
+    if (!draw(9)) meant_for(h, A_STORE, colock_abort_all(&handles[h]));
+    if (!draw(9)) meant_for(h, A_STORE, colock_renew(&handles[h]));
+}
+
+/* Events of one store at another, or made up ones. */
+static void follow(int h) {
+    int from = (int)draw(HANDLES);
+    colock_event room[9];
+    uint64_t count = UNTOUCHED, made = UNTOUCHED;
+    memset(room, 0x55, sizeof room);
+    uint32_t code = meant_for(from, A_STORE, colock_events(&handles[from], number(), room, draw(9), &count));
+    WANT(code ? count == UNTOUCHED : count <= 8);
+    WANT(room[code ? 0 : count].kind == 0x55555555);
+    room[8] = (colock_event){number(), number(), (uint32_t)number(), (uint32_t)number(), (uint32_t)draw(9), (uint32_t)number()};
+    uint64_t size = code ? 0 : count;
+    code = meant_for(h, A_STORE, colock_follow(&handles[h], draw(2) ? room : room + 8, size > 1 ? 1 : size, &made));
+    WANT(code == COLOCK_NOT_HELD ? made == UNTOUCHED : made <= size);
+}
+
+int main(int argc, char **argv) {
+    WANT(argc == 3);
+    drawn = strtoull(argv[1], NULL, 10);
+    long calls = atol(argv[2]), codes = 0;
+    for (int h = 0; h < HANDLES; h++) handles[h] = (colock_handle)COLOCK_HANDLE;
+    for (long i = 0; i < calls; i++) {
+        int h = (int)draw(HANDLES);
+        uint64_t t;
+        switch (draw(40)) {
+        case 0:
+            WANT(colock_close(&handles[h]) == (holds[h] == NOTHING ? COLOCK_NOT_HELD : COLOCK_OK));
+            holds[h] = NOTHING;
+            break;
+        case 1: case 2: case 3: make_type(h); break;
+        case 4: case 5: read_type(h); break;
+        case 6: case 7: case 8: make_store(h); break;
+        case 9: case 10: read_store(h); break;
+        case 11: case 12: follow(h); break;
+        case 13: case 14: meant_for(h, A_STORE, colock_begin(&handles[h], (uint8_t)number(), &t)); break;
+        default: transact(h);
+        }
+    }
+    for (int h = 0; h < HANDLES; h++) WANT(colock_close(&handles[h]) == (holds[h] == NOTHING ? COLOCK_NOT_HELD : COLOCK_OK));
+    for (int code = 0; code <= COLOCK_NO_ROOM; code++) codes += by_code[code] > 0;
+    printf("%ld random calls at handles that hold anything: %ld codes, each where it has to be\n", calls, codes);
+    return 0;
+}

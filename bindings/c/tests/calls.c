@@ -1,0 +1,361 @@
+/* Each code of each call, but for refused memory. */
+#include "want.h"
+
+static const colock_fault NO_FAULT = {UNTOUCHED, UNTOUCHED, UNTOUCHED, UNTOUCHED, UNTOUCHED};
+
+static bool is(const colock_fault *f, uint64_t line, uint64_t kind, uint64_t a, uint64_t b, uint64_t c) {
+    return f->line == line && f->kind == kind && f->first == a && f->second == b && f->third == c;
+}
+
+static void a_text_has(const char *text, uint64_t line, uint64_t kind) {
+    colock_handle type = COLOCK_HANDLE;
+    colock_fault fault = NO_FAULT;
+    WANT(colock_type_read(&type, COLOCK_UNDO, TEXT(text), &fault) == COLOCK_BAD_TEXT);
+    WANT(is(&fault, line, kind, 0, 0, 0));
+    fault = NO_FAULT;
+    WANT(colock_type_tables(&type, COLOCK_UNDO, TEXT(text), &fault) == COLOCK_BAD_TEXT);
+    WANT(is(&fault, line, kind, 0, 0, 0));
+    WANT(colock_close(&type) == COLOCK_NOT_HELD);
+}
+
+static void texts_have_faults(void) {
+    char longest[300] = "#";
+    memset(longest + 1, 'x', 200);
+    strcpy(longest + 201, "\n");
+    a_text_has("type \t\n", 1, COLOCK_NOT_ASCII);
+    a_text_has(longest, 1, COLOCK_LINE_TOO_LONG);
+    a_text_has("type counter", 1, COLOCK_UNTERMINATED);
+    a_text_has("tipe counter\n", 1, COLOCK_UNKNOWN_WORD);
+    a_text_has("type counter\nstates x\n", 2, COLOCK_BAD_NUMBER);
+    a_text_has("type counter\nstates 1025\n", 2, COLOCK_OUT_OF_RANGE);
+    a_text_has("type counter\ntype counter\n", 2, COLOCK_OUT_OF_ORDER);
+    a_text_has("", 1, COLOCK_MISSING);
+    a_text_has("type c\nstates 1\ninitial 0\nop a b\nend\nend\n", 6, COLOCK_AFTER_END);
+    a_text_has("type c\nstates 1\ninitial 0\nop a b\nop a b\n", 5, COLOCK_TWICE_OP);
+}
+
+static void a_type_is_refused(const char *text, uint64_t kind, uint64_t a, uint64_t b, uint64_t c) {
+    colock_handle type = COLOCK_HANDLE;
+    colock_fault fault = NO_FAULT;
+    WANT(colock_type_read(&type, COLOCK_UNDO, TEXT(text), &fault) == COLOCK_REFUSED);
+    WANT(is(&fault, 0, kind, a, b, c));
+    WANT(colock_close(&type) == COLOCK_NOT_HELD);
+}
+
+static void types_are_refused(void) {
+    static const char four[] = "type c\nstates 4\ninitial 0\nop a b\nop c d\n";
+    char text[300];
+    snprintf(text, sizeof text, "%sreach 1\nend\n", four);
+    a_type_is_refused(text, COLOCK_INITIAL_OUTSIDE, 0, 0, 0);
+    snprintf(text, sizeof text, "%sstep 0 1 1\nreach 0\nend\n", four);
+    a_type_is_refused(text, COLOCK_NOT_CLOSED, 0, 1, 0);
+    colock_handle type = COLOCK_HANDLE;
+    colock_fault fault = NO_FAULT;
+    WANT(colock_type_tables(&type, COLOCK_UNDO, TEXT(text), &fault) == COLOCK_REFUSED);
+    WANT(is(&fault, 0, COLOCK_NOT_CLOSED, 0, 1, 0));
+    snprintf(text, sizeof text, "%sstep 0 1 0\nequi 0 2\nend\n", four);
+    a_type_is_refused(text, COLOCK_NOT_SIMULATION, 0, 2, 1);
+    snprintf(text, sizeof text, "%sstep 2 0 3\nstep 3 1 0\nend\n", four);
+    a_type_is_refused(text, COLOCK_NOT_COMMUTING, 1, 0, 2);
+}
+
+/* Each maker refuses a kind that isn't, and a handle that holds something, of whatever sort. */
+static void makers_refuse(colock_handle *held) {
+    static const uint64_t one[] = {1};
+    colock_handle type = COLOCK_HANDLE;
+    colock_fault f = NO_FAULT;
+    WANT(colock_type_read(&type, 2, TEXT(CTR2), &f) == COLOCK_BAD_KIND);
+    WANT(colock_type_tables(&type, 2, TEXT(CTR2), &f) == COLOCK_BAD_KIND);
+    WANT(colock_type_account(&type, 2, 5, one, 1, &f) == COLOCK_BAD_KIND);
+    WANT(colock_type_counter(&type, UINT32_MAX, 5, one, 1, &f) == COLOCK_BAD_KIND);
+    WANT(colock_type_set(&type, 2, TEXT("a"), &f) == COLOCK_BAD_KIND);
+    WANT(colock_type_semiqueue(&type, 2, TEXT("a"), 2, &f) == COLOCK_BAD_KIND);
+    WANT(colock_close(&type) == COLOCK_NOT_HELD);
+    WANT(colock_type_read(held, 2, TEXT(CTR2), &f) == COLOCK_IN_USE);
+    WANT(colock_type_tables(held, 0, TEXT(CTR2), &f) == COLOCK_IN_USE);
+    WANT(colock_type_account(held, 0, 5, one, 1, &f) == COLOCK_IN_USE);
+    WANT(colock_type_counter(held, 0, 5, one, 1, &f) == COLOCK_IN_USE);
+    WANT(colock_type_set(held, 0, TEXT("a"), &f) == COLOCK_IN_USE);
+    WANT(colock_type_semiqueue(held, 0, TEXT("a"), 2, &f) == COLOCK_IN_USE);
+    WANT(colock_store_new(held) == COLOCK_IN_USE);
+    WANT(is(&f, UNTOUCHED, UNTOUCHED, UNTOUCHED, UNTOUCHED, UNTOUCHED));
+}
+
+static void families_have_ranges(void) {
+    static const uint64_t down[] = {2, 1}, large[] = {(uint64_t)1 << 40}, one[] = {1};
+    uint64_t many[40];
+    for (int i = 0; i < 40; i++) many[i] = (uint64_t)i + 1;
+    colock_handle type = COLOCK_HANDLE;
+    colock_fault f = NO_FAULT;
+    WANT(colock_type_account(&type, 0, 5, down, 2, &f) == COLOCK_BAD_PARAMETER);
+    WANT(colock_type_account(&type, 0, 5, one, 0, &f) == COLOCK_BAD_PARAMETER);
+    WANT(colock_type_account(&type, 0, 0, one, 1, &f) == COLOCK_BAD_PARAMETER);
+    WANT(colock_type_account(&type, 0, 1000, one, 1, &f) == COLOCK_TOO_LARGE);
+    WANT(colock_type_counter(&type, 0, (uint64_t)1 << 40, one, 1, &f) == COLOCK_BAD_PARAMETER);
+    WANT(colock_type_counter(&type, 0, 5, large, 1, &f) == COLOCK_BAD_PARAMETER);
+    WANT(colock_type_counter(&type, 0, 1023, many, 40, &f) == COLOCK_TOO_LARGE);
+    WANT(colock_type_set(&type, 0, TEXT("a a"), &f) == COLOCK_BAD_PARAMETER);
+    WANT(colock_type_set(&type, 0, TEXT("A"), &f) == COLOCK_BAD_PARAMETER);
+    WANT(colock_type_set(&type, 0, TEXT(""), &f) == COLOCK_BAD_PARAMETER);
+    WANT(colock_type_set(&type, 0, TEXT("a b c d e f g h i j k"), &f) == COLOCK_TOO_LARGE);
+    WANT(colock_type_semiqueue(&type, 0, TEXT("a"), 0, &f) == COLOCK_BAD_PARAMETER);
+    WANT(colock_type_semiqueue(&type, 0, TEXT("a"), UINT64_MAX, &f) == COLOCK_BAD_PARAMETER);
+    WANT(colock_type_semiqueue(&type, 0, TEXT("a b c"), 100, &f) == COLOCK_TOO_LARGE);
+    WANT(is(&f, UNTOUCHED, UNTOUCHED, UNTOUCHED, UNTOUCHED, UNTOUCHED));
+    WANT(colock_close(&type) == COLOCK_NOT_HELD);
+}
+
+static bool is_named(uint32_t code, const char *room, const uint64_t *count, const char *name) {
+    return code == COLOCK_OK && *count == strlen(name) && !memcmp(room, name, *count) && room[*count] == '!';
+}
+
+static void a_type_is_read(void) {
+    static const uint64_t amounts[] = {1, 2};
+    colock_handle type = COLOCK_HANDLE;
+    colock_fault fault = NO_FAULT;
+    colock_shape shape = {UNTOUCHED, UNTOUCHED, UNTOUCHED, UNTOUCHED};
+    char room[COLOCK_LONGEST_NAME + 1];
+    uint64_t count = UNTOUCHED, to = UNTOUCHED;
+    uint32_t told = UNTOUCHED;
+    memset(room, '!', sizeof room);
+    WANT(colock_type_account(&type, COLOCK_INTENTIONS, 5, amounts, 2, &fault) == COLOCK_OK);
+    WANT(colock_type_shape(&type, &shape) == COLOCK_OK);
+    WANT(shape.states == 6 && shape.initial == 0 && shape.ops == 14 && shape.kind == COLOCK_INTENTIONS);
+    WANT(colock_type_name(&type, room, 6, &count) == COLOCK_NO_ROOM && count == UNTOUCHED && room[0] == '!');
+    WANT(is_named(colock_type_name(&type, room, 7, &count), room, &count, "account"));
+    memset(room, '!', sizeof room);
+    WANT(colock_type_call(&type, 14, room, 32, &count) == COLOCK_NO_OPERATION);
+    WANT(colock_type_call(&type, (uint64_t)1 << 32, room, 32, &count) == COLOCK_NO_OPERATION);
+    WANT(colock_type_call(&type, 3, room, 9, &count) == COLOCK_NO_ROOM && room[0] == '!' && count == 7);
+    WANT(is_named(colock_type_call(&type, 3, room, 32, &count), room, &count, "withdraw:1"));
+    memset(room, '!', sizeof room);
+    WANT(colock_type_reply(&type, 14, room, 32, &count) == COLOCK_NO_OPERATION);
+    WANT(colock_type_reply(&type, 3, room, 0, &count) == COLOCK_NO_ROOM && room[0] == '!');
+    WANT(is_named(colock_type_reply(&type, 3, room, 32, &count), room, &count, "short"));
+    WANT(colock_type_step(&type, 6, 0, &to) == COLOCK_NO_STATE);
+    WANT(colock_type_step(&type, 65536, 0, &to) == COLOCK_NO_STATE);
+    WANT(colock_type_step(&type, 0, 14, &to) == COLOCK_NO_OPERATION);
+    WANT(colock_type_step(&type, 0, 256, &to) == COLOCK_NO_OPERATION);
+    WANT(colock_type_step(&type, 0, 2, &to) == COLOCK_NOT_LEGAL && to == UNTOUCHED);
+    WANT(colock_type_step(&type, 1, 4, &to) == COLOCK_OK && to == 3);
+    WANT(colock_type_conflict(&type, 14, 0, &told) == COLOCK_NO_OPERATION);
+    WANT(colock_type_conflict(&type, 0, 14, &told) == COLOCK_NO_OPERATION && told == UNTOUCHED);
+    WANT(colock_type_conflict(&type, 2, 2, &told) == COLOCK_OK && told == 1);
+    WANT(colock_type_conflict(&type, 3, 3, &told) == COLOCK_OK && told == 0);
+    makers_refuse(&type);
+    WANT(colock_close(&type) == COLOCK_OK && colock_close(&type) == COLOCK_NOT_HELD);
+}
+
+/* A text without tables is refused, and accepted with made ones. */
+static void tables_are_made(void) {
+    static const char text[] = "type up\nstates 2\ninitial 0\nop inc ok\nop inc full\nstep 0 0 1\nstep 1 1 1\nend\n";
+    colock_handle type = COLOCK_HANDLE;
+    colock_fault fault = NO_FAULT;
+    uint32_t told = UNTOUCHED;
+    WANT(colock_type_read(&type, COLOCK_UNDO, TEXT(text), &fault) == COLOCK_REFUSED);
+    WANT(colock_type_tables(&type, COLOCK_UNDO, TEXT(text), &fault) == COLOCK_OK);
+    WANT(colock_type_conflict(&type, 1, 0, &told) == COLOCK_OK && told == 1);
+    WANT(colock_type_conflict(&type, 1, 1, &told) == COLOCK_OK && told == 0);
+    WANT(colock_close(&type) == COLOCK_OK);
+}
+
+/* What is read of a type isn't read of a handle that holds none. */
+static void is_no_type(colock_handle *handle) {
+    colock_shape shape = {UNTOUCHED, 0, 0, 0};
+    char room[32] = "!";
+    uint64_t count = UNTOUCHED;
+    uint32_t told = UNTOUCHED;
+    WANT(colock_type_shape(handle, &shape) == COLOCK_NOT_HELD && shape.states == UNTOUCHED);
+    WANT(colock_type_name(handle, room, 32, &count) == COLOCK_NOT_HELD);
+    WANT(colock_type_call(handle, 0, room, 32, &count) == COLOCK_NOT_HELD);
+    WANT(colock_type_reply(handle, 0, room, 32, &count) == COLOCK_NOT_HELD);
+    WANT(colock_type_step(handle, 0, 0, &count) == COLOCK_NOT_HELD);
+    WANT(colock_type_conflict(handle, 0, 0, &told) == COLOCK_NOT_HELD);
+    WANT(room[0] == '!' && count == UNTOUCHED && told == UNTOUCHED);
+}
+
+/* Nor is any call of a store made at one that holds none. */
+static void is_no_store(colock_handle *handle) {
+    uint64_t n = UNTOUCHED, m = UNTOUCHED;
+    uint8_t call = UNTOUCHED;
+    colock_answer answer = {UNTOUCHED, UNTOUCHED};
+    colock_event event = {0, 0, 0, 0, UNTOUCHED, 0};
+    WANT(colock_begin(handle, 0, &n) == COLOCK_NOT_HELD);
+    WANT(colock_call(handle, 0, 0, 0, TEXT("inc:1"), &answer) == COLOCK_NOT_HELD);
+    WANT(colock_call_op(handle, 0, 0, 0, 0, &answer) == COLOCK_NOT_HELD);
+    WANT(colock_call_number(handle, 0, TEXT("inc:1"), &call) == COLOCK_NOT_HELD);
+    WANT(colock_would(handle, 0, 0, TEXT("inc:1"), &answer) == COLOCK_NOT_HELD);
+    WANT(colock_would_op(handle, 0, 0, 0, &answer) == COLOCK_NOT_HELD);
+    WANT(colock_commit(handle, 0, 0) == COLOCK_NOT_HELD);
+    WANT(colock_abort(handle, 0, 0) == COLOCK_NOT_HELD);
+    WANT(colock_rollback(handle, 0, 0, 1) == COLOCK_NOT_HELD);
+    WANT(colock_kept(handle, 0, &n) == COLOCK_NOT_HELD);
+    WANT(colock_open_count(handle, &n) == COLOCK_NOT_HELD);
+    WANT(colock_abort_all(handle) == COLOCK_NOT_HELD);
+    WANT(colock_events(handle, 0, &event, 1, &n) == COLOCK_NOT_HELD);
+    WANT(colock_event_count(handle, &n, &m) == COLOCK_NOT_HELD);
+    WANT(colock_forget(handle, 1) == COLOCK_NOT_HELD);
+    WANT(colock_follow(handle, &event, 0, &n) == COLOCK_NOT_HELD);
+    WANT(colock_renew(handle) == COLOCK_NOT_HELD);
+    WANT(n == UNTOUCHED && m == UNTOUCHED && call == UNTOUCHED && event.kind == UNTOUCHED);
+    WANT(answer.kind == UNTOUCHED && answer.number == UNTOUCHED);
+}
+
+static void a_store_is_made(void) {
+    colock_handle store = COLOCK_HANDLE, type = COLOCK_HANDLE, none = COLOCK_HANDLE;
+    colock_fault fault = NO_FAULT;
+    WANT(colock_type_read(&type, COLOCK_UNDO, TEXT(CTR2), &fault) == COLOCK_OK);
+    is_no_type(&store), is_no_store(&store), is_no_store(&type);
+    WANT(colock_store_add(&store, &type) == COLOCK_NOT_HELD);
+    WANT(colock_store_open(&store, 9) == COLOCK_NOT_HELD && colock_store_open(&type, 9) == COLOCK_NOT_HELD);
+    WANT(colock_store_new(&store) == COLOCK_OK);
+    makers_refuse(&store), is_no_type(&store), is_no_store(&store);
+    WANT(colock_store_add(&store, &none) == COLOCK_NOT_HELD && colock_store_add(&type, &store) == COLOCK_NOT_HELD);
+    WANT(colock_store_open(&store, 9) == COLOCK_NO_OBJECTS);
+    WANT(colock_store_add(&store, &type) == COLOCK_OK && colock_store_add(&store, &type) == COLOCK_OK);
+    WANT(colock_store_open(&store, 0) == COLOCK_BAD_MAX && colock_store_open(&store, 1) == COLOCK_BAD_MAX);
+    WANT(colock_store_open(&store, (uint64_t)1 << 32) == COLOCK_BAD_MAX);
+    WANT(colock_store_open(&store, UINT64_MAX) == COLOCK_BAD_MAX);
+    WANT(colock_store_open(&store, UINT32_MAX) == COLOCK_OK);
+    makers_refuse(&store), is_no_type(&store);
+    WANT(colock_store_open(&store, 9) == COLOCK_NOT_HELD && colock_store_add(&store, &type) == COLOCK_NOT_HELD);
+    WANT(colock_store_new(&none) == COLOCK_OK && colock_store_add(&none, &store) == COLOCK_NOT_HELD);
+    WANT(colock_close(&none) == COLOCK_OK && colock_close(&type) == COLOCK_OK);
+    WANT(begin(&store, 0) == 0); /* the type lives on in it */
+    WANT(colock_close(&store) == COLOCK_OK && colock_close(&store) == COLOCK_NOT_HELD);
+    is_no_type(&store), is_no_store(&store);
+    open_counters(&store, 1, 9); /* the handle may be used again */
+    WANT(begin(&store, 0) == 0 && colock_close(&store) == COLOCK_OK);
+}
+
+static bool is_told(uint32_t code, const colock_answer *answer, uint64_t kind, uint64_t number) {
+    return code == COLOCK_OK && answer->kind == kind && answer->number == number;
+}
+
+static void calls_are_answered(colock_handle *s) {
+    colock_answer a = {UNTOUCHED, UNTOUCHED};
+    uint8_t c = UNTOUCHED;
+    WANT(begin(s, 3) == 0 && begin(s, 4) == 1);
+    WANT(is_told(colock_would(s, 0, 0, TEXT("inc:1"), &a), &a, COLOCK_REPLY, 0));
+    WANT(is_told(colock_call(s, 3, 0, 0, TEXT("inc:1"), &a), &a, COLOCK_REPLY, 0));
+    WANT(is_told(colock_would_op(s, 1, 0, 1, &a), &a, COLOCK_BUSY, 0));
+    WANT(is_told(colock_call(s, 4, 1, 0, TEXT("dec:1"), &a), &a, COLOCK_BUSY, 0));
+    WANT(colock_call_number(s, 0, TEXT("dec:1"), &c) == COLOCK_OK && c == 1);
+    WANT(colock_call_number(s, 0, TEXT("dec:2"), &c) == COLOCK_NO_CALL);
+    WANT(colock_call_number(s, 0, TEXT(""), &c) == COLOCK_NO_CALL);
+    WANT(colock_call_number(s, 2, TEXT("dec:1"), &c) == COLOCK_NO_OBJECT && c == 1);
+    WANT(is_told(colock_call_op(s, 4, 1, 1, 1, &a), &a, COLOCK_NONE, 0));
+    WANT(is_told(colock_would(s, 1, 1, TEXT("dec:1"), &a), &a, COLOCK_NONE, 0));
+}
+
+static void calls_are_refused(colock_handle *s) {
+    colock_answer a = {UNTOUCHED, UNTOUCHED};
+    static const uint64_t none[] = {2, (uint64_t)1 << 32, UINT64_MAX};
+    for (int i = 0; i < 3; i++) {
+        WANT(colock_call(s, 0, none[i], 0, TEXT("inc:1"), &a) == COLOCK_NOT_OPEN);
+        WANT(colock_call_op(s, 0, none[i], 0, 0, &a) == COLOCK_NOT_OPEN);
+        WANT(colock_would(s, none[i], 0, TEXT("inc:1"), &a) == COLOCK_NOT_OPEN);
+        WANT(colock_would_op(s, none[i], 0, 0, &a) == COLOCK_NOT_OPEN);
+        WANT(colock_commit(s, 0, none[i]) == COLOCK_NOT_OPEN && colock_abort(s, 0, none[i]) == COLOCK_NOT_OPEN);
+        WANT(colock_rollback(s, 0, none[i], 1) == COLOCK_NOT_OPEN);
+    }
+    WANT(colock_call(s, 3, 0, 2, TEXT("inc:1"), &a) == COLOCK_NO_OBJECT);
+    WANT(colock_call_op(s, 3, 0, UINT32_MAX, 0, &a) == COLOCK_NO_OBJECT);
+    WANT(colock_would(s, 0, 2, TEXT("inc:1"), &a) == COLOCK_NO_OBJECT);
+    WANT(colock_would_op(s, 0, 2, 0, &a) == COLOCK_NO_OBJECT);
+    WANT(colock_call(s, 3, 0, 0, TEXT("inc"), &a) == COLOCK_NO_CALL);
+    WANT(colock_call_op(s, 3, 0, 0, 2, &a) == COLOCK_NO_CALL);
+    WANT(colock_would(s, 0, 0, TEXT("inc:10"), &a) == COLOCK_NO_CALL);
+    WANT(colock_would_op(s, 0, 0, 255, &a) == COLOCK_NO_CALL);
+    WANT(a.kind == UNTOUCHED && a.number == UNTOUCHED);
+}
+
+static void transactions_end(colock_handle *s) {
+    uint64_t n = UNTOUCHED;
+    WANT(colock_rollback(s, 3, 0, 0) == COLOCK_BAD_ROLLBACK && colock_rollback(s, 3, 0, 2) == COLOCK_BAD_ROLLBACK);
+    WANT(colock_rollback(s, 3, 0, ((uint64_t)1 << 32) + 1) == COLOCK_BAD_ROLLBACK);
+    WANT(colock_kept(s, 0, &n) == COLOCK_OK && n == 1);
+    WANT(colock_rollback(s, 3, 0, 1) == COLOCK_OK);
+    WANT(colock_kept(s, 0, &n) == COLOCK_OK && n == 0 && colock_kept(s, 2, &n) == COLOCK_NO_OBJECT);
+    WANT(colock_open_count(s, &n) == COLOCK_OK && n == 2 && colock_renew(s) == COLOCK_STILL_OPEN);
+    WANT(colock_commit(s, 3, 0) == COLOCK_OK && colock_commit(s, 3, 0) == COLOCK_NOT_OPEN);
+    WANT(colock_abort(s, 4, 1) == COLOCK_OK && colock_abort(s, 4, 1) == COLOCK_NOT_OPEN);
+    WANT(begin(s, 5) == 2 && begin(s, 6) == 3 && colock_abort_all(s) == COLOCK_OK);
+    WANT(colock_open_count(s, &n) == COLOCK_OK && n == 0 && colock_abort_all(s) == COLOCK_OK);
+}
+
+static bool is_event(const colock_event *e, uint32_t kind, uint32_t worker, uint64_t t, uint32_t x, uint32_t op, uint64_t other) {
+    return e->kind == kind && e->worker == worker && e->transaction == t && e->object == x && e->op == op && e->other == other;
+}
+
+static void events_are_copied(colock_handle *s, colock_event room[16]) {
+    uint64_t count = UNTOUCHED, forgotten = UNTOUCHED;
+    memset(room, 0x55, 16 * sizeof *room);
+    WANT(colock_events(s, 0, room, 16, &count) == COLOCK_OK && count == 12 && room[12].kind == 0x55555555);
+    WANT(is_event(&room[0], COLOCK_EVENT_BEGIN, 3, 0, 0, 0, 0) && is_event(&room[1], COLOCK_EVENT_BEGIN, 4, 1, 0, 0, 0));
+    WANT(is_event(&room[2], COLOCK_EVENT_OP, 3, 0, 0, 0, 0) && is_event(&room[3], COLOCK_EVENT_BUSY, 4, 1, 0, 1, 0));
+    WANT(is_event(&room[4], COLOCK_EVENT_NONE, 4, 1, 1, 1, 0) && is_event(&room[5], COLOCK_EVENT_ROLLBACK, 3, 0, 0, 0, 1));
+    WANT(is_event(&room[6], COLOCK_EVENT_COMMIT, 3, 0, 0, 0, 0) && is_event(&room[7], COLOCK_EVENT_ABORT, 4, 1, 0, 0, 0));
+    WANT(is_event(&room[10], COLOCK_EVENT_ABORT, 5, 2, 0, 0, 0) && is_event(&room[11], COLOCK_EVENT_ABORT, 6, 3, 0, 0, 0));
+    colock_event two[3];
+    memset(two, 0x55, sizeof two);
+    WANT(colock_events(s, 6, two, 2, &count) == COLOCK_OK && count == 2 && two[2].kind == 0x55555555);
+    WANT(two[0].kind == COLOCK_EVENT_COMMIT && two[1].kind == COLOCK_EVENT_ABORT);
+    WANT(colock_events(s, 12, two, 2, &count) == COLOCK_OK && count == 0);
+    WANT(colock_events(s, UINT64_MAX, two, 2, &count) == COLOCK_OK && count == 0);
+    WANT(colock_forget(s, 5) == COLOCK_OK && colock_events(s, 4, two, 2, &count) == COLOCK_FORGOTTEN && count == 0);
+    WANT(colock_events(s, 5, two, 1, &count) == COLOCK_OK && count == 1 && two[0].kind == COLOCK_EVENT_ROLLBACK);
+    WANT(colock_event_count(s, &count, &forgotten) == COLOCK_OK && count == 12 && forgotten == 5);
+    WANT(colock_forget(s, UINT64_MAX) == COLOCK_OK);
+    WANT(colock_event_count(s, &count, &forgotten) == COLOCK_OK && count == 12 && forgotten == 12);
+}
+
+static void events_are_followed(colock_event room[16]) {
+    colock_handle s = COLOCK_HANDLE;
+    uint64_t made = UNTOUCHED, kept = UNTOUCHED;
+    open_counters(&s, 2, 40);
+    WANT(colock_follow(&s, room, 3, &made) == COLOCK_OK && made == 3);
+    WANT(colock_kept(&s, 0, &kept) == COLOCK_OK && kept == 1);
+    WANT(colock_follow(&s, room + 2, 10, &made) == COLOCK_OK && made == 10); /* the same operation once more */
+    WANT(colock_follow(&s, room + 6, 1, &made) == COLOCK_NOT_MADE && made == 0);
+    colock_event begins[3] = {{4, 0, 0, 0, COLOCK_EVENT_BEGIN, 0}, {5, 0, 0, 0, COLOCK_EVENT_BEGIN, 0}, {7, 0, 0, 0, COLOCK_EVENT_BEGIN, 0}};
+    WANT(colock_follow(&s, begins, 3, &made) == COLOCK_NOT_MADE && made == 2);
+    colock_event wrong[4] = {{6, 0, 0, 0, 7, 0}, {6, 0, 0, 0, 0, 256}, {((uint64_t)1 << 32) + 6, 0, 0, 0, 0, 0}, {4, 0, 0, 256, 1, 0}};
+    for (int i = 0; i < 4; i++) WANT(colock_follow(&s, wrong + i, 1, &made) == COLOCK_NOT_MADE && made == 0);
+    WANT(colock_follow(&s, wrong, 0, &made) == COLOCK_OK && made == 0);
+    WANT(colock_close(&s) == COLOCK_OK);
+}
+
+static void a_store_begins_anew(colock_handle *s) {
+    uint64_t n = UNTOUCHED, forgotten = UNTOUCHED;
+    colock_answer a;
+    WANT(begin(s, 0) == 4 && colock_call_op(s, 0, 4, 1, 0, &a) == COLOCK_OK && colock_commit(s, 0, 4) == COLOCK_OK);
+    WANT(colock_renew(s) == COLOCK_OK && colock_event_count(s, &n, &forgotten) == COLOCK_OK && n == 0 && forgotten == 0);
+    WANT(colock_kept(s, 1, &n) == COLOCK_OK && n == 1 && begin(s, 0) == 0);
+}
+
+static void a_store_is_used(void) {
+    colock_handle store = COLOCK_HANDLE;
+    colock_event room[16];
+    open_counters(&store, 2, 100);
+    calls_are_answered(&store);
+    calls_are_refused(&store);
+    transactions_end(&store);
+    events_are_copied(&store, room);
+    events_are_followed(room);
+    a_store_begins_anew(&store);
+    WANT(colock_close(&store) == COLOCK_OK);
+}
+
+int main(void) {
+    WANT(colock_version() == COLOCK_VERSION);
+    texts_have_faults();
+    types_are_refused();
+    families_have_ranges();
+    a_type_is_read();
+    tables_are_made();
+    a_store_is_made();
+    a_store_is_used();
+    puts("each code of each call: as it has to be");
+    return 0;
+}

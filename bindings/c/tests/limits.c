@@ -1,0 +1,118 @@
+/* The limits: 1,024 open transactions, 256 objects, a full history, the largest type; a store that forgets goes
+ * on. */
+#include "want.h"
+
+static void only_so_many_are_open(void) {
+    colock_handle store = COLOCK_HANDLE;
+    uint64_t t = UNTOUCHED, count = UNTOUCHED;
+    open_counters(&store, 1, 1000000);
+    for (uint64_t i = 0; i < 1024; i++) WANT(begin(&store, (uint8_t)i) == i);
+    WANT(colock_begin(&store, 0, &t) == COLOCK_TOO_MANY_OPEN && t == UNTOUCHED);
+    WANT(colock_open_count(&store, &count) == COLOCK_OK && count == 1024);
+    WANT(colock_abort(&store, 0, 500) == COLOCK_OK && begin(&store, 0) == 1024);
+    WANT(colock_begin(&store, 0, &t) == COLOCK_TOO_MANY_OPEN);
+    WANT(colock_abort_all(&store) == COLOCK_OK && begin(&store, 0) == 1025);
+    WANT(colock_close(&store) == COLOCK_OK);
+}
+
+static void only_so_many_objects_are_there(void) {
+    colock_handle store = COLOCK_HANDLE, type = COLOCK_HANDLE;
+    colock_fault fault;
+    colock_answer answer;
+    WANT(colock_type_read(&type, COLOCK_INTENTIONS, TEXT(CTR2), &fault) == COLOCK_OK);
+    for (int objects = 256; objects <= 257; objects++) {
+        WANT(colock_store_new(&store) == COLOCK_OK);
+        for (int x = 0; x < objects; x++) WANT(colock_store_add(&store, &type) == COLOCK_OK);
+        WANT(colock_store_open(&store, 9) == (objects == 256 ? COLOCK_OK : COLOCK_TOO_MANY_OBJECTS));
+        if (objects == 256) WANT(begin(&store, 0) == 0 && colock_call_op(&store, 0, 0, 255, 0, &answer) == COLOCK_OK);
+        if (objects == 256) WANT(colock_call_op(&store, 0, 0, 256, 0, &answer) == COLOCK_NO_OBJECT);
+        WANT(colock_close(&store) == COLOCK_OK);
+    }
+    WANT(colock_close(&type) == COLOCK_OK);
+}
+
+/* There is always room for the end of each open transaction. */
+static void a_history_is_full(void) {
+    colock_handle store = COLOCK_HANDLE;
+    colock_answer answer = {UNTOUCHED, UNTOUCHED};
+    uint64_t t = UNTOUCHED, count, forgotten;
+    open_counters(&store, 1, 6);
+    WANT(begin(&store, 0) == 0 && begin(&store, 0) == 1);
+    WANT(colock_call_op(&store, 0, 0, 0, 0, &answer) == COLOCK_OK);
+    WANT(colock_begin(&store, 0, &t) == COLOCK_HISTORY_FULL && t == UNTOUCHED);
+    WANT(colock_call_op(&store, 0, 1, 0, 0, &answer) == COLOCK_OK);
+    answer.kind = UNTOUCHED;
+    WANT(colock_call(&store, 0, 1, 0, TEXT("dec:1"), &answer) == COLOCK_HISTORY_FULL);
+    WANT(colock_call_op(&store, 0, 1, 0, 0, &answer) == COLOCK_HISTORY_FULL);
+    WANT(colock_would(&store, 1, 0, TEXT("inc:1"), &answer) == COLOCK_HISTORY_FULL);
+    WANT(colock_would_op(&store, 1, 0, 0, &answer) == COLOCK_HISTORY_FULL);
+    WANT(colock_rollback(&store, 0, 1, 1) == COLOCK_HISTORY_FULL && answer.kind == UNTOUCHED);
+    WANT(colock_commit(&store, 0, 0) == COLOCK_OK && colock_abort(&store, 0, 1) == COLOCK_OK);
+    WANT(colock_forget(&store, 6) == COLOCK_OK && colock_begin(&store, 0, &t) == COLOCK_HISTORY_FULL);
+    WANT(colock_event_count(&store, &count, &forgotten) == COLOCK_OK && count == 6 && forgotten == 6);
+    WANT(colock_renew(&store) == COLOCK_OK && begin(&store, 0) == 0);
+    WANT(colock_close(&store) == COLOCK_OK);
+}
+
+/* A hundred thousand transactions, of which a thousand are in memory. */
+static void much_is_forgotten(void) {
+    colock_handle store = COLOCK_HANDLE;
+    colock_answer answer;
+    colock_event event;
+    uint64_t count = UNTOUCHED, forgotten = UNTOUCHED;
+    open_counters(&store, 1, UINT32_MAX);
+    for (uint64_t i = 0; i < 100000; i++) {
+        WANT(begin(&store, 7) == i && colock_call_op(&store, 7, i, 0, (uint8_t)(i % 2), &answer) == COLOCK_OK);
+        WANT(answer.kind == COLOCK_REPLY && colock_commit(&store, 7, i) == COLOCK_OK);
+        if (i % 1000 == 999) WANT(colock_forget(&store, 3000) == COLOCK_OK);
+    }
+    WANT(colock_event_count(&store, &count, &forgotten) == COLOCK_OK && count == 300000 && forgotten == 300000);
+    WANT(begin(&store, 9) == 100000);
+    WANT(colock_events(&store, 300000, &event, 1, &count) == COLOCK_OK && count == 1 && event.worker == 9);
+    WANT(colock_close(&store) == COLOCK_OK);
+}
+
+/* A type of 1,024 states and 64 operations, each legal everywhere, of which each two conflict. */
+static void the_largest_type_is_read(void) {
+    size_t room = 4000000, at = 0;
+    char *text = malloc(room), name[COLOCK_LONGEST_NAME];
+    colock_handle type = COLOCK_HANDLE, store = COLOCK_HANDLE;
+    colock_fault fault;
+    colock_answer answer;
+    colock_shape shape;
+    uint64_t to, count, state;
+    WANT(text != NULL);
+#define PUT(...) at += (size_t)snprintf(text + at, room - at, __VA_ARGS__)
+    PUT("type a-name-of-thirty-two-bytes-000000\nstates 1024\ninitial 1023\n");
+    for (int k = 0; k < 64; k++) PUT("op add:%d a-reply-of-thirty-two-bytes-%04d\n", k, k);
+    for (int s = 0; s < 1024; s++)
+        for (int k = 0; k < 64; k++) PUT("step %d %d %d\n", s, k, (s + k) % 1024);
+    for (int p = 0; p < 64; p++)
+        for (int q = 0; q < 64; q++) PUT("conflict undo %d %d\n", p, q);
+    PUT("end\n");
+    WANT(at < room && colock_type_read(&type, COLOCK_UNDO, text, at, &fault) == COLOCK_BAD_TEXT);
+    WANT(fault.line == 1 && fault.kind == COLOCK_UNKNOWN_WORD); /* it is 33 bytes long */
+    text[strlen("type ") + 32] = ' ';
+    WANT(colock_type_read(&type, COLOCK_UNDO, text, at, &fault) == COLOCK_OK);
+    WANT(colock_type_shape(&type, &shape) == COLOCK_OK && shape.states == 1024 && shape.ops == 64 && shape.initial == 1023);
+    WANT(colock_type_name(&type, name, 31, &count) == COLOCK_NO_ROOM);
+    WANT(colock_type_name(&type, name, 32, &count) == COLOCK_OK && count == 32);
+    WANT(colock_type_reply(&type, 63, name, 32, &count) == COLOCK_OK && count == 32 && !memcmp(name + 28, "0063", 4));
+    WANT(colock_type_step(&type, 1023, 63, &to) == COLOCK_OK && to == 62);
+    WANT(colock_store_new(&store) == COLOCK_OK && colock_store_add(&store, &type) == COLOCK_OK);
+    WANT(colock_store_open(&store, 9) == COLOCK_OK && begin(&store, 0) == 0);
+    WANT(colock_call(&store, 0, 0, 0, TEXT("add:63"), &answer) == COLOCK_OK && answer.number == 63);
+    WANT(colock_kept(&store, 0, &state) == COLOCK_OK && state == 62);
+    WANT(colock_close(&store) == COLOCK_OK && colock_close(&type) == COLOCK_OK);
+    free(text);
+}
+
+int main(void) {
+    the_largest_type_is_read();
+    only_so_many_are_open();
+    only_so_many_objects_are_there();
+    a_history_is_full();
+    much_is_forgotten();
+    puts("limits: as they have to be");
+    return 0;
+}

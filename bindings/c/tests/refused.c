@@ -1,0 +1,135 @@
+/* Each allocation of a run refused in turn: refused TRANSACTIONS. Linked with --wrap of malloc, realloc and free. */
+#include "want.h"
+
+static long left = -1; /* how many are granted before one is refused; below 0, all */
+static long live = 0;
+
+void *__real_malloc(size_t n);
+void *__real_realloc(void *p, size_t n);
+void __real_free(void *p);
+
+static bool is_refused(void) {
+    return left >= 0 && left-- == 0;
+}
+
+void *__wrap_malloc(size_t n) {
+    void *p = is_refused() ? NULL : __real_malloc(n);
+    live += p != NULL;
+    return p;
+}
+
+void *__wrap_realloc(void *p, size_t n) {
+    if (is_refused()) return NULL;
+    void *q = __real_realloc(p, n);
+    live += p == NULL && q != NULL;
+    return q;
+}
+
+void __wrap_free(void *p) {
+    live -= p != NULL;
+    __real_free(p);
+}
+
+/* Does a call. Memory that is refused is the one code but that of success, and the same call is done then. */
+static long refusals = 0;
+static bool is_met[400]; /* the lines whose call was refused memory in some run */
+#define DO(e) \
+    do { \
+        uint32_t code = (e); \
+        WANT(code == COLOCK_OK || code == COLOCK_NO_MEMORY); \
+        if (code) is_met[__LINE__] = true, refusals++, code = (e); \
+        WANT(code == COLOCK_OK); \
+    } while (0)
+
+static void make_types(colock_handle types[6]) {
+    static const uint64_t amounts[] = {1, 2};
+    colock_fault f;
+    DO(colock_type_read(&types[0], COLOCK_UNDO, TEXT(CTR2), &f));
+    DO(colock_type_tables(&types[1], COLOCK_INTENTIONS, TEXT(CTR2), &f));
+    DO(colock_type_account(&types[2], COLOCK_UNDO, 5, amounts, 2, &f));
+    DO(colock_type_counter(&types[3], COLOCK_INTENTIONS, 5, amounts, 2, &f));
+    DO(colock_type_set(&types[4], COLOCK_UNDO, TEXT("a b"), &f));
+    DO(colock_type_semiqueue(&types[5], COLOCK_INTENTIONS, TEXT("a b"), 2, &f));
+}
+
+static void make_store(colock_handle *store, colock_handle types[6]) {
+    DO(colock_store_new(store));
+    for (int i = 0; i < 6; i++) DO(colock_store_add(store, &types[i]));
+    DO(colock_store_open(store, 100000));
+}
+
+/* Transactions that are all open before the first of them ends. */
+static void use(colock_handle *store, uint64_t transactions) {
+    static const char *const calls[] = {"inc:1", "dec:1", "deposit:2", "inc:2", "insert:a", "enq:b"};
+    colock_answer answer;
+    uint64_t t;
+    for (uint64_t i = 0; i < transactions; i++) {
+        DO(colock_begin(store, 1, &t));
+        WANT(t == i);
+        for (uint32_t x = 0; x < 6; x++) {
+            DO(colock_would(store, t, x, TEXT(calls[x]), &answer));
+            DO(colock_call(store, 1, t, x, TEXT(calls[x]), &answer));
+        }
+        if (answer.kind == COLOCK_REPLY) DO(colock_rollback(store, 1, t, 1));
+    }
+    for (t = 0; t < transactions; t++) {
+        if (t % 3) DO(colock_abort(store, 1, t));
+        if (t % 3 == 0) DO(colock_commit(store, 1, t));
+    }
+}
+
+/* The events of the one are those of the run in which nothing was refused, so a refusal has changed nothing.
+ * They are made again at the other, in as many steps as memory wants. */
+static void follow(colock_handle *store, colock_handle *other) {
+    static colock_event room[100000], first[100000];
+    static uint64_t first_count = 0;
+    uint64_t count, made, done = 0;
+    DO(colock_events(store, 0, room, 100000, &count));
+    if (!first_count) {
+        first_count = count;
+        memcpy(first, room, count * sizeof *room);
+    }
+    WANT(count == first_count && !memcmp(first, room, count * sizeof *room));
+    while (done < count) {
+        uint32_t code = colock_follow(other, room + done, count - done, &made);
+        WANT(code == COLOCK_OK || code == COLOCK_NO_MEMORY);
+        if (code) is_met[__LINE__] = true, refusals++;
+        done += made;
+    }
+    for (uint32_t x = 0; x < 6; x++) {
+        DO(colock_kept(store, x, &count));
+        DO(colock_kept(other, x, &made));
+        WANT(count == made);
+    }
+}
+
+static void go(uint64_t transactions) {
+    colock_handle types[6] = {COLOCK_HANDLE, COLOCK_HANDLE, COLOCK_HANDLE, COLOCK_HANDLE, COLOCK_HANDLE, COLOCK_HANDLE};
+    colock_handle store = COLOCK_HANDLE, other = COLOCK_HANDLE;
+    make_types(types);
+    make_store(&store, types);
+    make_store(&other, types);
+    use(&store, transactions);
+    follow(&store, &other);
+    DO(colock_renew(&store));
+    use(&store, transactions);
+    for (int i = 0; i < 6; i++) WANT(colock_close(&types[i]) == COLOCK_OK);
+    WANT(colock_close(&store) == COLOCK_OK && colock_close(&other) == COLOCK_OK);
+    WANT(live == 0);
+}
+
+int main(int argc, char **argv) {
+    uint64_t transactions = argc > 1 ? strtoull(argv[1], NULL, 10) : 20;
+    long n = 0, met = 0;
+    go(transactions); /* nothing is refused */
+    for (;; n++) {
+        left = n, refusals = 0;
+        go(transactions);
+        if (left >= 0) break; /* fewer allocations than that */
+        WANT(refusals <= 1);
+    }
+    for (int line = 0; line < 400; line++) met += is_met[line];
+    WANT(met == 14); /* each call that may want memory, and no other */
+    printf("%ld allocations, each refused in turn, at %ld calls: one code, the same call is done then, no leak\n", n, met);
+    return 0;
+}

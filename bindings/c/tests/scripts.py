@@ -1,0 +1,84 @@
+#!/usr/bin/env python3
+"""scripts.py COLOCK COUNT SEED RUNNER..: random scripts by `colock run` and by each runner.
+
+COLOCK is the program. A runner is a program that takes `SCRIPT TYPE..` and writes what `colock run` writes up
+to the kept states. A line for each difference, and status 1 where there is one.
+"""
+import os
+import random
+import subprocess
+import sys
+import tempfile
+
+EXAMPLES = os.path.join(os.path.dirname(os.path.abspath(__file__)), "..", "..", "..", "examples")
+TYPES = [os.path.join(EXAMPLES, name + ".type") for name in ("ctr2", "stock", "credit", "seats", "pool")]
+
+
+def calls_of(path):
+    """The names of the calls of a type file, each once."""
+    with open(path, encoding="ascii") as file:
+        return list(dict.fromkeys(line.split()[1] for line in file if line.startswith("op ")))
+
+
+def script(drawn):
+    """The text of a random script over the types."""
+    calls = [calls_of(path) for path in TYPES]
+    objects = [drawn.randrange(len(TYPES)) for _ in range(drawn.randint(1, 5))]
+    count = drawn.choice([10, 60, 300])
+    lines = [f"max {drawn.choice([2, 20, count, 4 * count])}"]
+    lines += [f"object {drawn.choice(['undo', 'intentions'])} {f}" for f in objects]
+    begun = 0
+    for _ in range(count):
+        t = drawn.randint(max(0, begun - 5), begun) if drawn.random() < 0.97 else drawn.randint(0, begun + 9)
+        x = drawn.randrange(len(objects))
+        part = drawn.random()
+        if part < 0.15:
+            lines.append("begin")
+            begun += 1
+        elif part < 0.75:
+            name = drawn.choice(calls[objects[x]]) if drawn.random() < 0.95 else "no:such"
+            lines.append(f"call {t} {x if drawn.random() < 0.97 else x + 9} {name}")
+        elif part < 0.85:
+            lines.append(f"commit {t}")
+        elif part < 0.92:
+            lines.append(f"abort {t}")
+        else:
+            lines.append(f"rollback {t} {drawn.randint(0, 3)}")
+    return "\n".join(lines + ["end", ""])
+
+
+def written(words):
+    """What a program writes, up to the audit."""
+    done = subprocess.run(words, capture_output=True, text=True, timeout=60, check=False)
+    if done.returncode:
+        return f"status {done.returncode}: {done.stderr}"
+    return done.stdout.split("# audit")[0]
+
+
+def differences(program, count, seed, runners):
+    """Random scripts, and how each runner does otherwise than the program."""
+    drawn = random.Random(seed)
+    with tempfile.TemporaryDirectory() as folder:
+        path = os.path.join(folder, "script")
+        for number in range(count):
+            with open(path, "w", encoding="ascii") as file:
+                file.write(script(drawn))
+            wanted = written([program, "run", path, *TYPES])
+            for runner in runners:
+                told = runner(path, TYPES) if callable(runner) else written([runner, path, *TYPES])
+                if told != wanted:
+                    yield f"script {number} of seed {seed}: {runner} writes\n{told}\nand not\n{wanted}"
+
+
+def main():
+    program, count, seed, runners = sys.argv[1], int(sys.argv[2]), int(sys.argv[3]), sys.argv[4:]
+    found = 0
+    for difference in differences(program, count, seed, runners):
+        found += 1
+        print(difference)
+    print(f"{count} random scripts by {len(runners)} runners: {found} differences")
+    sys.exit(1 if found else 0)
+
+
+if __name__ == "__main__":
+    main()

@@ -1,0 +1,49 @@
+/* What the tests have in common. */
+#ifndef WANT_H
+#define WANT_H
+
+#include "colock.h"
+
+#include <inttypes.h>
+#include <stdio.h>
+#include <stdlib.h>
+#include <string.h>
+
+/* Ends the test where what is wanted isn't so. */
+#define WANT(e) \
+    do { \
+        if (!(e)) { \
+            fprintf(stderr, "%s:%d: %s\n", __FILE__, __LINE__, #e); \
+            exit(1); \
+        } \
+    } while (0)
+
+/* A text and its count. */
+#define TEXT(s) (s), strlen(s)
+
+/* What no call writes. */
+#define UNTOUCHED 77
+
+static const char CTR2[] =
+    "type counter\nstates 3\ninitial 0\nop inc:1 ok\nop dec:1 ok\n"
+    "step 0 0 1\nstep 1 0 2\nstep 1 1 0\nstep 2 1 1\n"
+    "conflict undo 0 1\nconflict undo 1 0\nconflict intentions 0 0\nconflict intentions 1 1\nend\n";
+
+/* A store of so many objects of the type of CTR2, updated in place. */
+static inline void open_counters(colock_handle *store, int objects, uint64_t max_events) {
+    colock_handle type = COLOCK_HANDLE;
+    colock_fault fault;
+    WANT(colock_type_read(&type, COLOCK_UNDO, TEXT(CTR2), &fault) == COLOCK_OK);
+    WANT(colock_store_new(store) == COLOCK_OK);
+    for (int x = 0; x < objects; x++) WANT(colock_store_add(store, &type) == COLOCK_OK);
+    WANT(colock_store_open(store, max_events) == COLOCK_OK);
+    WANT(colock_close(&type) == COLOCK_OK);
+}
+
+static inline uint64_t begin(colock_handle *store, uint8_t worker) {
+    uint64_t t = UNTOUCHED;
+    WANT(colock_begin(store, worker, &t) == COLOCK_OK);
+    return t;
+}
+
+#endif

@@ -1,0 +1,62 @@
+"""The events of a store."""
+import enum
+from typing import NamedTuple
+
+from . import _library
+
+
+class EventKind(enum.IntEnum):
+    """What happened."""
+
+    BEGIN = 0
+    OP = 1
+    BUSY = 2
+    NONE = 3
+    COMMIT = 4
+    ABORT = 5
+    ROLLBACK = 6
+
+
+_OF_OBJECTS = (EventKind.OP, EventKind.BUSY, EventKind.NONE)
+_WITH_OTHER = (EventKind.BUSY, EventKind.ROLLBACK)
+
+
+class Event(NamedTuple):
+    """An event, whose text is its line in a history.
+
+    `op` is the operation of an `OP`, and the number of the call of a `BUSY` or `NONE`. `other` is the blocker of
+    a `BUSY`, and the number of operations that a `ROLLBACK` took back. What a kind doesn't have is 0.
+    """
+
+    kind: EventKind
+    worker: int
+    transaction: int
+    object: int = 0
+    op: int = 0
+    other: int = 0
+
+    def __str__(self) -> str:
+        words = [self.kind.name.lower(), self.worker, self.transaction]
+        if self.kind in _OF_OBJECTS:
+            words += [self.object, self.op]
+        if self.kind in _WITH_OTHER:
+            words.append(self.other)
+        return " ".join(map(str, words))
+
+
+def event_of(words: _library.Event) -> Event:
+    """The event as it came over."""
+    return Event(EventKind(words.kind), words.worker, words.transaction, words.object, words.op, words.other)
+
+
+def words_of(event: Event) -> _library.Event:
+    """The event as it goes over."""
+    unsigned = _library.unsigned
+    return _library.Event(
+        transaction=unsigned("the transaction", event.transaction, 64),
+        other=unsigned("the other number", event.other, 64),
+        object=unsigned("the object", event.object, 32),
+        op=unsigned("the operation", event.op, 32),
+        kind=unsigned("the kind", event.kind, 32),
+        worker=unsigned("the worker", event.worker, 32),
+    )

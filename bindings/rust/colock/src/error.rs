@@ -1,0 +1,251 @@
+use colock_sys::{code, Fault};
+use std::fmt;
+
+/// Why something wasn't done. Nothing has changed then.
+#[derive(Clone, Copy, Debug, PartialEq, Eq)]
+#[non_exhaustive]
+pub enum Error {
+    /// The transaction isn't open.
+    NotOpen,
+    /// The store has no object of this number.
+    NoObject,
+    /// No operation of the object's type has this call.
+    NoCall,
+    /// 1,024 transactions are open.
+    TooManyOpen,
+    /// The history has no room for the event, and for the end of each open transaction.
+    HistoryFull,
+    /// Memory was refused.
+    NoMemory,
+    /// A rollback of no operation, or of more than the transaction has.
+    BadRollback,
+    /// The text of a type has a fault.
+    BadText {
+        /// The first refused line, from 1.
+        line: u64,
+        /// What is wrong with it.
+        kind: FaultKind,
+    },
+    /// The checker refuses the type for this kind of recovery.
+    Refused(CheckRefusal),
+    /// A store of no object.
+    NoObjects,
+    /// A store of more than 256 objects.
+    TooManyObjects,
+    /// A limit below 2, or above 4,294,967,295.
+    BadMax,
+    /// A transaction is open.
+    StillOpen,
+    /// No command makes this event now.
+    NotMade,
+    /// These events were forgotten, or some of them.
+    Forgotten,
+    /// A parameter of a family is out of its range, or in a wrong order.
+    BadParameter,
+    /// The family would have more than 64 operations or 1,024 states.
+    TooLarge,
+    /// The type has no state of this number.
+    NoState,
+    /// The type has no operation of this number.
+    NoOperation,
+    /// A code, or a number of something else, that this crate doesn't know: it was made for another library.
+    Unknown(u64),
+}
+
+/// What is wrong with a line of the text of a type.
+#[derive(Clone, Copy, Debug, PartialEq, Eq)]
+#[non_exhaustive]
+pub enum FaultKind {
+    /// A byte outside 32 to 126.
+    NotAscii = 1,
+    /// More than 200 bytes.
+    LineTooLong = 2,
+    /// No line feed ends the line.
+    Unterminated = 3,
+    /// An unknown keyword, a wrong number of words, or a word that is no name or kind.
+    UnknownWord = 4,
+    /// A word that isn't a number.
+    BadNumber = 5,
+    /// A number out of its range, or too many lines of a section.
+    OutOfRange = 6,
+    /// A section or an entry behind its place.
+    OutOfOrder = 7,
+    /// A section that must be there isn't, or the text has no `end`.
+    Missing = 8,
+    /// A line behind `end`.
+    AfterEnd = 9,
+    /// An operation that came before.
+    TwiceOp = 10,
+}
+
+/// Why the checker refuses a type.
+#[derive(Clone, Copy, Debug, PartialEq, Eq)]
+#[non_exhaustive]
+pub enum CheckRefusal {
+    /// The initial state isn't in the set of states.
+    InitialOutside,
+    /// From a state of the set an operation leads out of it.
+    NotClosed {
+        /// The state.
+        state: u64,
+        /// The operation.
+        operation: u64,
+    },
+    /// By the text a state looks like another, and an operation tells them apart.
+    NotSimulation {
+        /// The state.
+        state: u64,
+        /// The one that it looks like.
+        other: u64,
+        /// The operation.
+        operation: u64,
+    },
+    /// Two operations that have no conflict don't commute.
+    NotCommuting {
+        /// The operation that is requested.
+        requested: u64,
+        /// The operation that is held.
+        held: u64,
+        /// The state in which they fail.
+        state: u64,
+    },
+}
+
+/// Events of which one wasn't made. Those before it were.
+#[derive(Clone, Copy, Debug, PartialEq, Eq)]
+#[non_exhaustive]
+pub struct NotFollowed {
+    /// How many were made.
+    pub made: u64,
+    /// Why the next wasn't.
+    pub error: Error,
+}
+
+impl Error {
+    pub(crate) fn of_code(code: u32) -> Error {
+        match code {
+            code::NOT_OPEN => Error::NotOpen,
+            code::NO_OBJECT => Error::NoObject,
+            code::NO_CALL => Error::NoCall,
+            code::TOO_MANY_OPEN => Error::TooManyOpen,
+            code::HISTORY_FULL => Error::HistoryFull,
+            code::NO_MEMORY => Error::NoMemory,
+            code::BAD_ROLLBACK => Error::BadRollback,
+            code::NO_OBJECTS => Error::NoObjects,
+            code::TOO_MANY_OBJECTS => Error::TooManyObjects,
+            code::BAD_MAX => Error::BadMax,
+            code::STILL_OPEN => Error::StillOpen,
+            code::NOT_MADE => Error::NotMade,
+            code::FORGOTTEN => Error::Forgotten,
+            code::BAD_PARAMETER => Error::BadParameter,
+            code::TOO_LARGE => Error::TooLarge,
+            code::NO_STATE => Error::NoState,
+            code::NO_OPERATION => Error::NoOperation,
+            other => Error::Unknown(other.into()),
+        }
+    }
+
+    /// The error of a type that wasn't made.
+    pub(crate) fn of_type(code: u32, fault: &Fault) -> Error {
+        match code {
+            code::BAD_TEXT => match FaultKind::of(fault.kind) {
+                Some(kind) => Error::BadText { line: fault.line, kind },
+                None => Error::Unknown(fault.kind),
+            },
+            code::REFUSED => match CheckRefusal::of(fault) {
+                Some(refusal) => Error::Refused(refusal),
+                None => Error::Unknown(fault.kind),
+            },
+            other => Error::of_code(other),
+        }
+    }
+}
+
+impl FaultKind {
+    fn of(kind: u64) -> Option<FaultKind> {
+        Some(match kind {
+            1 => FaultKind::NotAscii,
+            2 => FaultKind::LineTooLong,
+            3 => FaultKind::Unterminated,
+            4 => FaultKind::UnknownWord,
+            5 => FaultKind::BadNumber,
+            6 => FaultKind::OutOfRange,
+            7 => FaultKind::OutOfOrder,
+            8 => FaultKind::Missing,
+            9 => FaultKind::AfterEnd,
+            10 => FaultKind::TwiceOp,
+            _ => return None,
+        })
+    }
+}
+
+impl CheckRefusal {
+    fn of(fault: &Fault) -> Option<CheckRefusal> {
+        let Fault { kind, first, second, third, .. } = *fault;
+        Some(match kind {
+            1 => CheckRefusal::InitialOutside,
+            2 => CheckRefusal::NotClosed { state: first, operation: second },
+            3 => CheckRefusal::NotSimulation { state: first, other: second, operation: third },
+            4 => CheckRefusal::NotCommuting { requested: first, held: second, state: third },
+            _ => return None,
+        })
+    }
+}
+
+impl fmt::Display for Error {
+    fn fmt(&self, f: &mut fmt::Formatter<'_>) -> fmt::Result {
+        match self {
+            Error::NotOpen => f.write_str("the transaction isn't open"),
+            Error::NoObject => f.write_str("the store has no object of this number"),
+            Error::NoCall => f.write_str("no operation of the object's type has this call"),
+            Error::TooManyOpen => f.write_str("too many transactions are open"),
+            Error::HistoryFull => f.write_str("the history is full"),
+            Error::NoMemory => f.write_str("memory was refused"),
+            Error::BadRollback => f.write_str("a rollback of no operation, or of more than there are"),
+            Error::BadText { line, kind } => write!(f, "line {line} of the type: {kind}"),
+            Error::Refused(refusal) => write!(f, "the checker refuses the type: {refusal}"),
+            Error::NoObjects => f.write_str("a store of no object"),
+            Error::TooManyObjects => f.write_str("a store of too many objects"),
+            Error::BadMax => f.write_str("the limit of events is out of its range"),
+            Error::StillOpen => f.write_str("a transaction is open"),
+            Error::NotMade => f.write_str("no command makes this event now"),
+            Error::Forgotten => f.write_str("these events were forgotten"),
+            Error::BadParameter => f.write_str("a parameter is out of its range or in a wrong order"),
+            Error::TooLarge => f.write_str("the type would have too many operations or states"),
+            Error::NoState => f.write_str("the type has no state of this number"),
+            Error::NoOperation => f.write_str("the type has no operation of this number"),
+            Error::Unknown(number) => write!(f, "the library told {number}, which is unknown"),
+        }
+    }
+}
+
+impl fmt::Display for FaultKind {
+    fn fmt(&self, f: &mut fmt::Formatter<'_>) -> fmt::Result {
+        fmt::Debug::fmt(self, f)
+    }
+}
+
+impl fmt::Display for CheckRefusal {
+    fn fmt(&self, f: &mut fmt::Formatter<'_>) -> fmt::Result {
+        match self {
+            CheckRefusal::InitialOutside => f.write_str("InitialOutside"),
+            CheckRefusal::NotClosed { state, operation } => write!(f, "NotClosed {state} {operation}"),
+            CheckRefusal::NotSimulation { state, other, operation } => write!(f, "NotSimulation {state} {other} {operation}"),
+            CheckRefusal::NotCommuting { requested, held, state } => write!(f, "NotCommuting {requested} {held} {state}"),
+        }
+    }
+}
+
+impl fmt::Display for NotFollowed {
+    fn fmt(&self, f: &mut fmt::Formatter<'_>) -> fmt::Result {
+        write!(f, "{} events were made, and then: {}", self.made, self.error)
+    }
+}
+
+impl std::error::Error for Error {}
+
+impl std::error::Error for NotFollowed {
+    fn source(&self) -> Option<&(dyn std::error::Error + 'static)> {
+        Some(&self.error)
+    }
+}

@@ -1,0 +1,118 @@
+use colock_sys as sys;
+use std::fmt;
+
+/// What happened in a store. It is displayed as its line in the text of a history.
+#[derive(Clone, Copy, Debug, PartialEq, Eq, Hash)]
+#[non_exhaustive]
+pub enum Event {
+    /// A transaction began.
+    Begin {
+        /// Whoever began it.
+        worker: u8,
+        /// The transaction.
+        transaction: u64,
+    },
+    /// An operation was executed.
+    Operation {
+        /// Whoever called it.
+        worker: u8,
+        /// The transaction.
+        transaction: u64,
+        /// The object.
+        object: u32,
+        /// The operation.
+        operation: u32,
+    },
+    /// A call conflicted with an operation of another transaction.
+    Busy {
+        /// Whoever called it.
+        worker: u8,
+        /// The transaction.
+        transaction: u64,
+        /// The object.
+        object: u32,
+        /// The number of the call.
+        call: u32,
+        /// The other transaction.
+        blocker: u64,
+    },
+    /// No operation of a call was legal.
+    None {
+        /// Whoever called it.
+        worker: u8,
+        /// The transaction.
+        transaction: u64,
+        /// The object.
+        object: u32,
+        /// The number of the call.
+        call: u32,
+    },
+    /// A transaction committed.
+    Commit {
+        /// Whoever committed it.
+        worker: u8,
+        /// The transaction.
+        transaction: u64,
+    },
+    /// A transaction aborted.
+    Abort {
+        /// Whoever aborted it.
+        worker: u8,
+        /// The transaction.
+        transaction: u64,
+    },
+    /// The last operations of a transaction were taken back.
+    Rollback {
+        /// Whoever rolled it back.
+        worker: u8,
+        /// The transaction.
+        transaction: u64,
+        /// How many they were.
+        operations: u64,
+    },
+}
+
+impl Event {
+    /// The event of these words, or the number that is unknown.
+    pub(crate) fn of(words: &sys::Event) -> Result<Event, u64> {
+        let sys::Event { transaction, other, object, op, kind, worker } = *words;
+        let worker = u8::try_from(worker).map_err(|_| u64::from(worker))?;
+        Ok(match kind {
+            0 => Event::Begin { worker, transaction },
+            1 => Event::Operation { worker, transaction, object, operation: op },
+            2 => Event::Busy { worker, transaction, object, call: op, blocker: other },
+            3 => Event::None { worker, transaction, object, call: op },
+            4 => Event::Commit { worker, transaction },
+            5 => Event::Abort { worker, transaction },
+            6 => Event::Rollback { worker, transaction, operations: other },
+            kind => return Err(kind.into()),
+        })
+    }
+
+    pub(crate) fn words(self) -> sys::Event {
+        let words = |kind, worker: u8, transaction, object, op, other| sys::Event { transaction, other, object, op, kind, worker: worker.into() };
+        match self {
+            Event::Begin { worker, transaction } => words(0, worker, transaction, 0, 0, 0),
+            Event::Operation { worker, transaction, object, operation } => words(1, worker, transaction, object, operation, 0),
+            Event::Busy { worker, transaction, object, call, blocker } => words(2, worker, transaction, object, call, blocker),
+            Event::None { worker, transaction, object, call } => words(3, worker, transaction, object, call, 0),
+            Event::Commit { worker, transaction } => words(4, worker, transaction, 0, 0, 0),
+            Event::Abort { worker, transaction } => words(5, worker, transaction, 0, 0, 0),
+            Event::Rollback { worker, transaction, operations } => words(6, worker, transaction, 0, 0, operations),
+        }
+    }
+}
+
+impl fmt::Display for Event {
+    fn fmt(&self, f: &mut fmt::Formatter<'_>) -> fmt::Result {
+        match self {
+            Event::Begin { worker, transaction } => write!(f, "begin {worker} {transaction}"),
+            Event::Operation { worker, transaction, object, operation } => write!(f, "op {worker} {transaction} {object} {operation}"),
+            Event::Busy { worker, transaction, object, call, blocker } => write!(f, "busy {worker} {transaction} {object} {call} {blocker}"),
+            Event::None { worker, transaction, object, call } => write!(f, "none {worker} {transaction} {object} {call}"),
+            Event::Commit { worker, transaction } => write!(f, "commit {worker} {transaction}"),
+            Event::Abort { worker, transaction } => write!(f, "abort {worker} {transaction}"),
+            Event::Rollback { worker, transaction, operations } => write!(f, "rollback {worker} {transaction} {operations}"),
+        }
+    }
+}

@@ -1,0 +1,307 @@
+use crate::error::Error;
+use crate::handle::{done, Handle};
+use colock_sys as sys;
+use std::fmt;
+
+/// How an object recovers from aborts.
+#[derive(Clone, Copy, Debug, PartialEq, Eq, Hash)]
+pub enum Kind {
+    /// It is updated in place, and operations are taken back.
+    Undo = 0,
+    /// Each transaction keeps its operations by itself until it commits.
+    Intentions = 1,
+}
+
+/// The type of an object: states, operations, and which operations conflict, checked for a [`Kind`].
+///
+/// Many objects of many stores may have one type, and outlive it.
+pub struct Type(Handle);
+
+impl Type {
+    /// The type of a text, with its own conflicts.
+    ///
+    /// ```
+    /// use colock::{Error, FaultKind, Kind, Type};
+    ///
+    /// let text = "type flag\nstates 2\ninitial 0\nop raise ok\nstep 0 0 1\nconflict undo 0 0\nend\n";
+    /// assert_eq!(Type::read(text, Kind::Undo)?.states(), 2);
+    /// let wrong = Type::read("type flag\nstates two\n", Kind::Undo);
+    /// assert_eq!(wrong.err(), Some(Error::BadText { line: 2, kind: FaultKind::BadNumber }));
+    /// # Ok::<(), Error>(())
+    /// ```
+    ///
+    /// # Errors
+    ///
+    /// [`Error::BadText`], [`Error::Refused`] or [`Error::NoMemory`].
+    pub fn read(text: impl AsRef<[u8]>, kind: Kind) -> Result<Type, Error> {
+        let text = text.as_ref();
+        // SAFETY: `made` gives pointers of its own, and the text is one slice.
+        Type::made(|handle, fault| unsafe { sys::colock_type_read(handle, kind as u32, text.as_ptr(), text.len(), fault) })
+    }
+
+    /// The type of a text whose conflicts are found out: those of the text aren't used.
+    ///
+    /// ```
+    /// use colock::{Kind, Type};
+    ///
+    /// let text = "type flag\nstates 2\ninitial 0\nop raise ok\nstep 0 0 1\nend\n";
+    /// assert!(Type::read(text, Kind::Intentions).is_err());
+    /// assert!(Type::with_made_tables(text, Kind::Intentions)?.conflicts(0, 0)?);
+    /// # Ok::<(), colock::Error>(())
+    /// ```
+    ///
+    /// # Errors
+    ///
+    /// As of [`Type::read`].
+    pub fn with_made_tables(text: impl AsRef<[u8]>, kind: Kind) -> Result<Type, Error> {
+        let text = text.as_ref();
+        // SAFETY: as in `read`.
+        Type::made(|handle, fault| unsafe { sys::colock_type_tables(handle, kind as u32, text.as_ptr(), text.len(), fault) })
+    }
+
+    /// An account of 0 to `cap`: `deposit:A` and `withdraw:A` for each amount A, and `balance`. Amounts are 1 to
+    /// `cap`, ascending.
+    ///
+    /// ```
+    /// use colock::{Error, Kind, Type};
+    ///
+    /// let account = Type::account(5, &[1, 2], Kind::Undo)?;
+    /// assert_eq!((account.call_name(7)?, account.reply_name(7)?), ("withdraw:2".into(), "short".into()));
+    /// // an operation for each balance
+    /// assert_eq!(Type::account(100, &[1], Kind::Undo).err(), Some(Error::TooLarge));
+    /// # Ok::<(), Error>(())
+    /// ```
+    ///
+    /// # Errors
+    ///
+    /// [`Error::BadParameter`], [`Error::TooLarge`] or [`Error::NoMemory`].
+    pub fn account(cap: u64, amounts: &[u64], kind: Kind) -> Result<Type, Error> {
+        // SAFETY: as in `read`.
+        Type::made(|handle, fault| unsafe { sys::colock_type_account(handle, kind as u32, cap, amounts.as_ptr(), amounts.len(), fault) })
+    }
+
+    /// A counter of 0 to `cap`: `inc:A` and `dec:A` for each amount A. Amounts are 1 to `cap`, ascending.
+    ///
+    /// ```
+    /// let counter = colock::Type::counter(1000, &[1, 10], colock::Kind::Undo)?;
+    /// assert_eq!(counter.call_name(2)?, "inc:10");
+    /// # Ok::<(), colock::Error>(())
+    /// ```
+    ///
+    /// # Errors
+    ///
+    /// As of [`Type::account`].
+    pub fn counter(cap: u64, amounts: &[u64], kind: Kind) -> Result<Type, Error> {
+        // SAFETY: as in `read`.
+        Type::made(|handle, fault| unsafe { sys::colock_type_counter(handle, kind as u32, cap, amounts.as_ptr(), amounts.len(), fault) })
+    }
+
+    /// A set: `insert:E`, `delete:E` and `member:E` for each element E, which are names.
+    ///
+    /// ```
+    /// let set = colock::Type::set(&["mon", "tue"], colock::Kind::Intentions)?;
+    /// assert_eq!(set.states(), 4);
+    /// # Ok::<(), colock::Error>(())
+    /// ```
+    ///
+    /// # Errors
+    ///
+    /// As of [`Type::account`].
+    pub fn set(elements: &[&str], kind: Kind) -> Result<Type, Error> {
+        let text = spaced(elements)?;
+        // SAFETY: as in `read`.
+        Type::made(|handle, fault| unsafe { sys::colock_type_set(handle, kind as u32, text.as_ptr(), text.len(), fault) })
+    }
+
+    /// A semiqueue of at most `capacity` items: `enq:E` for each element E, and `deq`, whose reply is any item.
+    ///
+    /// ```
+    /// let pool = colock::Type::semiqueue(&["mail", "report"], 2, colock::Kind::Undo)?;
+    /// assert_eq!(pool.call_name(0)?, "enq:mail");
+    /// # Ok::<(), colock::Error>(())
+    /// ```
+    ///
+    /// # Errors
+    ///
+    /// As of [`Type::account`].
+    pub fn semiqueue(elements: &[&str], capacity: u64, kind: Kind) -> Result<Type, Error> {
+        let text = spaced(elements)?;
+        // SAFETY: as in `read`.
+        Type::made(|handle, fault| unsafe { sys::colock_type_semiqueue(handle, kind as u32, text.as_ptr(), text.len(), capacity, fault) })
+    }
+
+    fn made(make: impl FnOnce(*mut sys::Handle, *mut sys::Fault) -> u32) -> Result<Type, Error> {
+        let mut fault = sys::Fault::default();
+        match Handle::made(|handle| make(handle, &mut fault)) {
+            Ok(handle) => Ok(Type(handle)),
+            Err((code, _)) => Err(Error::of_type(code, &fault)),
+        }
+    }
+
+    pub(crate) fn handle(&self) -> &Handle {
+        &self.0
+    }
+
+    fn shape(&self) -> sys::Shape {
+        let mut shape = sys::Shape::default();
+        // SAFETY: a handle as `Handle::at` says. It holds a type, of which this is always told.
+        unsafe { sys::colock_type_shape(self.0.at(), &mut shape) };
+        shape
+    }
+
+    /// How many states there are: they are the numbers below.
+    ///
+    /// ```
+    /// # let counter = colock::Type::counter(5, &[1], colock::Kind::Undo)?;
+    /// assert_eq!(counter.states(), 6);
+    /// # Ok::<(), colock::Error>(())
+    /// ```
+    pub fn states(&self) -> u64 {
+        self.shape().states
+    }
+
+    /// The initial state.
+    ///
+    /// ```
+    /// # let counter = colock::Type::counter(5, &[1], colock::Kind::Undo)?;
+    /// assert_eq!(counter.initial(), 0);
+    /// # Ok::<(), colock::Error>(())
+    /// ```
+    pub fn initial(&self) -> u64 {
+        self.shape().initial
+    }
+
+    /// How many operations there are: they are the numbers below.
+    ///
+    /// ```
+    /// # let counter = colock::Type::counter(5, &[1], colock::Kind::Undo)?;
+    /// assert_eq!(counter.operations(), 2);
+    /// # Ok::<(), colock::Error>(())
+    /// ```
+    pub fn operations(&self) -> u64 {
+        self.shape().ops
+    }
+
+    /// The kind of recovery for which it was checked.
+    ///
+    /// ```
+    /// # use colock::{Kind, Type};
+    /// # let counter = Type::counter(5, &[1], Kind::Undo)?;
+    /// assert_eq!(counter.kind(), Kind::Undo);
+    /// # Ok::<(), colock::Error>(())
+    /// ```
+    pub fn kind(&self) -> Kind {
+        match self.shape().kind {
+            0 => Kind::Undo,
+            _ => Kind::Intentions,
+        }
+    }
+
+    /// Its name.
+    ///
+    /// ```
+    /// # let counter = colock::Type::counter(5, &[1], colock::Kind::Undo)?;
+    /// assert_eq!(counter.name(), "counter");
+    /// # Ok::<(), colock::Error>(())
+    /// ```
+    pub fn name(&self) -> String {
+        // SAFETY: `told` gives a room of its own; the handle is as `Handle::at` says, as in all below.
+        told(|room, count| unsafe { sys::colock_type_name(self.0.at(), room.as_mut_ptr(), room.len(), count) })
+            .expect("the handle holds a type, and the room has place for the longest name")
+    }
+
+    /// The call of an operation.
+    ///
+    /// ```
+    /// # let counter = colock::Type::counter(5, &[1], colock::Kind::Undo)?;
+    /// assert_eq!(counter.call_name(1)?, "dec:1");
+    /// # Ok::<(), colock::Error>(())
+    /// ```
+    ///
+    /// # Errors
+    ///
+    /// [`Error::NoOperation`].
+    pub fn call_name(&self, operation: u64) -> Result<String, Error> {
+        // SAFETY: as in `name`.
+        told(|room, count| unsafe { sys::colock_type_call(self.0.at(), operation, room.as_mut_ptr(), room.len(), count) })
+    }
+
+    /// The reply of an operation.
+    ///
+    /// ```
+    /// # let counter = colock::Type::counter(5, &[1], colock::Kind::Undo)?;
+    /// assert_eq!(counter.reply_name(1)?, "ok");
+    /// # Ok::<(), colock::Error>(())
+    /// ```
+    ///
+    /// # Errors
+    ///
+    /// [`Error::NoOperation`].
+    pub fn reply_name(&self, operation: u64) -> Result<String, Error> {
+        // SAFETY: as in `name`.
+        told(|room, count| unsafe { sys::colock_type_reply(self.0.at(), operation, room.as_mut_ptr(), room.len(), count) })
+    }
+
+    /// The state to which an operation leads from a state; `None` where it isn't legal there.
+    ///
+    /// ```
+    /// # let counter = colock::Type::counter(5, &[1], colock::Kind::Undo)?;
+    /// assert_eq!(counter.step(0, 0)?, Some(1));
+    /// assert_eq!(counter.step(0, 1)?, None);
+    /// # Ok::<(), colock::Error>(())
+    /// ```
+    ///
+    /// # Errors
+    ///
+    /// [`Error::NoState`] or [`Error::NoOperation`].
+    pub fn step(&self, state: u64, operation: u64) -> Result<Option<u64>, Error> {
+        let mut to = 0;
+        // SAFETY: as in `name`.
+        match unsafe { sys::colock_type_step(self.0.at(), state, operation, &mut to) } {
+            sys::code::NOT_LEGAL => Ok(None),
+            code => done(code).map(|()| Some(to)),
+        }
+    }
+
+    /// Whether an operation that is requested conflicts with one that another transaction holds.
+    ///
+    /// ```
+    /// # let counter = colock::Type::counter(5, &[1], colock::Kind::Undo)?;
+    /// assert!(counter.conflicts(1, 0)?);
+    /// assert!(!counter.conflicts(0, 0)?);
+    /// # Ok::<(), colock::Error>(())
+    /// ```
+    ///
+    /// # Errors
+    ///
+    /// [`Error::NoOperation`].
+    pub fn conflicts(&self, requested: u64, held: u64) -> Result<bool, Error> {
+        let mut told = 0;
+        // SAFETY: as in `name`.
+        done(unsafe { sys::colock_type_conflict(self.0.at(), requested, held, &mut told) })?;
+        Ok(told == 1)
+    }
+}
+
+impl fmt::Debug for Type {
+    fn fmt(&self, f: &mut fmt::Formatter<'_>) -> fmt::Result {
+        let shape = self.shape();
+        f.debug_struct("Type").field("name", &self.name()).field("kind", &self.kind()).field("states", &shape.states).field("operations", &shape.ops).finish()
+    }
+}
+
+/// Elements with a space between two. One that has a space in it would be read as two.
+fn spaced(elements: &[&str]) -> Result<String, Error> {
+    if elements.iter().any(|element| element.is_empty() || element.contains(' ')) {
+        return Err(Error::BadParameter);
+    }
+    Ok(elements.join(" "))
+}
+
+/// A name, which is at most 32 bytes of ASCII.
+fn told(tell: impl FnOnce(&mut [u8], *mut u64) -> u32) -> Result<String, Error> {
+    let (mut room, mut count) = ([0; 32], 0);
+    done(tell(&mut room, &mut count))?;
+    let name = usize::try_from(count).ok().and_then(|count| room.get(..count)).ok_or(Error::Unknown(count))?;
+    Ok(String::from_utf8_lossy(name).into_owned())
+}
