@@ -1,0 +1,136 @@
+//! The commands of `benches store` through libcolock, from Rust:
+//!
+//! `library KIND FILE OBJECTS OPEN CALLS MODE COMMANDS ROUNDS` prints the least nanoseconds of a run of so many
+//! commands, and what came of them, as `benches store` does.
+
+// `bench/plain_store` makes the same commands.
+#[path = "../../plain_store/workload.rs"]
+mod workload;
+
+use colock::{Error, Event, Kind, Store, Transaction, Type};
+use std::time::Instant;
+use workload::{Command, Mode, Workload, commands_of};
+
+const MOST_EVENTS: u64 = 1_000_000;
+
+/// What came of a run.
+#[derive(Default)]
+struct Outcome {
+    ops: u32,
+    busy: u32,
+    none: u32,
+    commits: u32,
+    refused: u32,
+    kept: u64,
+    history: u64,
+}
+
+/// A sum, and a further number.
+fn folded(sum: u64, number: u32) -> u64 {
+    (sum.rotate_left(5) ^ u64::from(number)).wrapping_mul(0x517c_c1b7_2722_0a95)
+}
+
+impl Outcome {
+    fn note(&mut self, event: &Event) {
+        match event {
+            Event::Operation { .. } => self.ops += 1,
+            Event::Busy { .. } => self.busy += 1,
+            Event::None { .. } => self.none += 1,
+            Event::Commit { .. } => self.commits += 1,
+            _ => {}
+        }
+        self.history = words_of(event).into_iter().fold(self.history, folded);
+    }
+}
+
+/// The kind of an event, its numbers and its worker.
+fn words_of(event: &Event) -> [u32; 6] {
+    let low = |number: u64| number as u32;
+    match *event {
+        Event::Begin { worker, transaction } => [0, low(transaction), 0, 0, 0, worker.into()],
+        Event::Operation { worker, transaction, object, operation } => [1, low(transaction), object, operation, 0, worker.into()],
+        Event::Busy { worker, transaction, object, call, blocker } => [2, low(transaction), object, call, low(blocker), worker.into()],
+        Event::None { worker, transaction, object, call } => [3, low(transaction), object, call, 0, worker.into()],
+        Event::Commit { worker, transaction } => [4, low(transaction), 0, 0, 0, worker.into()],
+        Event::Abort { worker, transaction } => [5, low(transaction), 0, 0, 0, worker.into()],
+        Event::Rollback { worker, transaction, operations } => [6, low(transaction), low(operations), 0, 0, worker.into()],
+        _ => panic!("an event of another kind"),
+    }
+}
+
+/// Gives a store the commands, and answers how many of them it refused, and what is open then.
+#[inline(never)]
+fn run<'s>(store: &'s Store, commands: &[Command], running: &mut Vec<Option<Transaction<'s>>>) -> u32 {
+    let mut refused = 0;
+    for command in commands {
+        let accepted = match *command {
+            Command::Begin => store.begin().map(|transaction| running.push(Some(transaction))).is_ok(),
+            Command::Call { t, x, c } => running[t as usize].as_mut().is_some_and(|it| it.call_op(x, c).is_ok()),
+            Command::Commit { t } => running[t as usize].take().is_some_and(|it| it.commit().is_ok()),
+            Command::Abort { t } => running[t as usize].take().is_some_and(|it| it.abort().is_ok()),
+            Command::Rollback { t, n } => running[t as usize].as_mut().is_some_and(|it| it.rollback(n.into()).is_ok()),
+        };
+        refused += u32::from(!accepted);
+    }
+    refused
+}
+
+/// The nanoseconds of a run in a new store, and what came of it.
+fn round(of: &Type, objects: u32, commands: &[Command]) -> Result<(u128, Outcome), Error> {
+    let mut store = Store::new((0..objects).map(|_| of), MOST_EVENTS)?;
+    let mut running = Vec::with_capacity(commands.len());
+    let start = Instant::now();
+    let refused = run(&store, commands, &mut running);
+    let time = start.elapsed().as_nanos();
+    running.into_iter().flatten().for_each(|it| drop(it.leave()));
+    let mut outcome = Outcome { refused, ..Outcome::default() };
+    for x in 0..objects {
+        outcome.kept = folded(outcome.kept, store.kept(x)? as u32);
+    }
+    store.abort_all();
+    store.events(0)?.iter().for_each(|event| outcome.note(event));
+    Ok((time, outcome))
+}
+
+/// The number of each call of the type: that of the first operation that has it.
+fn numbers_of(of: &Type) -> Result<Vec<u8>, Error> {
+    let store = Store::new([of], MOST_EVENTS)?;
+    let mut numbers = Vec::new();
+    for k in 0..of.operations() {
+        let c = store.call_number(0, &of.call_name(k)?)?;
+        if u64::from(c) == k {
+            numbers.push(c);
+        }
+    }
+    Ok(numbers)
+}
+
+fn number(word: &str) -> u32 {
+    word.parse().expect("a number")
+}
+
+fn main() -> Result<(), Box<dyn std::error::Error>> {
+    let words: Vec<String> = std::env::args().skip(1).collect();
+    let [kind, path, objects, open, calls, mode, commands, rounds] = words.as_slice() else {
+        panic!("KIND FILE OBJECTS OPEN CALLS MODE COMMANDS ROUNDS")
+    };
+    let mode = match mode.as_str() {
+        "plain" => Mode::Plain,
+        "old" => Mode::Old,
+        _ => Mode::Rollback,
+    };
+    let workload = Workload { objects: number(objects), open: number(open), calls: number(calls), mode, commands: number(commands) as usize };
+    let kind = if kind == "undo" { Kind::Undo } else { Kind::Intentions };
+    let of = Type::read(std::fs::read(path)?, kind)?;
+    let commands = commands_of(&workload, &numbers_of(&of)?);
+    let (mut least, mut last) = (u128::MAX, Outcome::default());
+    for _ in 0..number(rounds) {
+        let (time, outcome) = round(&of, workload.objects, &commands)?;
+        (least, last) = (least.min(time), outcome);
+    }
+    println!("nanoseconds {least}\nevent_bytes {}", size_of::<Event>());
+    println!("refused {}\nops {}\nbusy {}", last.refused, last.ops, last.busy);
+    println!("none {}\ncommits {}", last.none, last.commits);
+    println!("kept {}\nhistory {}", last.kept, last.history);
+    Ok(())
+}
