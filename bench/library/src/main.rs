@@ -58,17 +58,45 @@ fn words_of(event: &Event) -> [u32; 6] {
     }
 }
 
-/// Gives a store the commands, and answers how many of them it refused, and what is open then.
+/// A command, and the place of its transaction among those that are open.
+struct Step {
+    place: usize,
+    command: Command,
+}
+
+/// The steps of commands: who begins takes a place that is free.
+fn steps_of(commands: Vec<Command>, open: u32) -> Vec<Step> {
+    let mut free: Vec<usize> = (0..=open as usize).rev().collect();
+    let mut places = Vec::new();
+    let step = |command| {
+        let place = match command {
+            Command::Begin => {
+                places.push(free.pop().expect("a place"));
+                places[places.len() - 1]
+            }
+            Command::Call { t, .. } | Command::Rollback { t, .. } => places[t as usize],
+            Command::Commit { t } | Command::Abort { t } => {
+                free.push(places[t as usize]);
+                places[t as usize]
+            }
+        };
+        Step { place, command }
+    };
+    commands.into_iter().map(step).collect()
+}
+
+/// Gives a store the commands, and answers how many of them it refused. What is open then is in its place.
 #[inline(never)]
-fn run<'s>(store: &'s Store, commands: &[Command], running: &mut Vec<Option<Transaction<'s>>>) -> u32 {
+fn run<'s>(store: &'s Store, steps: &[Step], running: &mut [Option<Transaction<'s>>]) -> u32 {
     let mut refused = 0;
-    for command in commands {
-        let accepted = match *command {
-            Command::Begin => store.begin().map(|transaction| running.push(Some(transaction))).is_ok(),
-            Command::Call { t, x, c } => running[t as usize].as_mut().is_some_and(|it| it.call_op(x, c).is_ok()),
-            Command::Commit { t } => running[t as usize].take().is_some_and(|it| it.commit().is_ok()),
-            Command::Abort { t } => running[t as usize].take().is_some_and(|it| it.abort().is_ok()),
-            Command::Rollback { t, n } => running[t as usize].as_mut().is_some_and(|it| it.rollback(n.into()).is_ok()),
+    for step in steps {
+        let it = &mut running[step.place];
+        let accepted = match step.command {
+            Command::Begin => store.begin().map(|transaction| *it = Some(transaction)).is_ok(),
+            Command::Call { x, c, .. } => it.as_mut().is_some_and(|it| it.call_op(x, c).is_ok()),
+            Command::Commit { .. } => it.take().is_some_and(|it| it.commit().is_ok()),
+            Command::Abort { .. } => it.take().is_some_and(|it| it.abort().is_ok()),
+            Command::Rollback { n, .. } => it.as_mut().is_some_and(|it| it.rollback(n.into()).is_ok()),
         };
         refused += u32::from(!accepted);
     }
@@ -76,13 +104,16 @@ fn run<'s>(store: &'s Store, commands: &[Command], running: &mut Vec<Option<Tran
 }
 
 /// The nanoseconds of a run in a new store, and what came of it.
-fn round(of: &Type, objects: u32, commands: &[Command]) -> Result<(u128, Outcome), Error> {
+fn round(of: &Type, workload: &Workload, steps: &[Step]) -> Result<(u128, Outcome), Error> {
+    let objects = workload.objects;
     let mut store = Store::new((0..objects).map(|_| of), MOST_EVENTS)?;
-    let mut running = Vec::with_capacity(commands.len());
+    let mut running: Vec<Option<Transaction<'_>>> = (0..=workload.open).map(|_| None).collect();
     let start = Instant::now();
-    let refused = run(&store, commands, &mut running);
+    let refused = run(&store, steps, &mut running);
     let time = start.elapsed().as_nanos();
-    running.into_iter().flatten().for_each(|it| drop(it.leave()));
+    for transaction in running.into_iter().flatten() {
+        transaction.leave();
+    }
     let mut outcome = Outcome { refused, ..Outcome::default() };
     for x in 0..objects {
         outcome.kept = folded(outcome.kept, store.kept(x)? as u32);
@@ -122,10 +153,10 @@ fn main() -> Result<(), Box<dyn std::error::Error>> {
     let workload = Workload { objects: number(objects), open: number(open), calls: number(calls), mode, commands: number(commands) as usize };
     let kind = if kind == "undo" { Kind::Undo } else { Kind::Intentions };
     let of = Type::read(std::fs::read(path)?, kind)?;
-    let commands = commands_of(&workload, &numbers_of(&of)?);
+    let steps = steps_of(commands_of(&workload, &numbers_of(&of)?), workload.open);
     let (mut least, mut last) = (u128::MAX, Outcome::default());
     for _ in 0..number(rounds) {
-        let (time, outcome) = round(&of, workload.objects, &commands)?;
+        let (time, outcome) = round(&of, &workload, &steps)?;
         (least, last) = (least.min(time), outcome);
     }
     println!("nanoseconds {least}\nevent_bytes {}", size_of::<Event>());
