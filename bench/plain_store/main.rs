@@ -6,6 +6,7 @@
 
 mod intentions;
 mod locks;
+mod outcome;
 mod recovery;
 // plain_run has some uses of its own.
 #[allow(dead_code)]
@@ -20,6 +21,7 @@ use std::sync::Arc;
 use std::time::Instant;
 
 use intentions::Intentions;
+use outcome::{Outcome, folded};
 use recovery::Recovery;
 use store::{Event, EventKind, Object, Store};
 use types::Type;
@@ -28,23 +30,6 @@ use workload::{Command, Mode, Workload, commands_of};
 
 /// The most events of a history.
 const MOST_EVENTS: usize = 1_000_000;
-
-/// What came of a run.
-#[derive(Default)]
-struct Outcome {
-    ops: u32,
-    busy: u32,
-    none: u32,
-    commits: u32,
-    refused: u32,
-    kept: u64,
-    history: u64,
-}
-
-/// A sum, and a further number.
-fn folded(sum: u64, number: u32) -> u64 {
-    (sum.rotate_left(5) ^ u64::from(number)).wrapping_mul(0x517c_c1b7_2722_0a95)
-}
 
 impl Outcome {
     /// Takes an event in: which kind it is of, and its numbers.
@@ -119,13 +104,7 @@ fn measure<R: Recovery>(table: Type, workload: &Workload, rounds: u32) {
         let (time, outcome) = round::<R>(&table, workload.objects, &commands);
         (least, last) = (least.min(time), outcome);
     }
-    println!("nanoseconds {least}\nevent_bytes {}", size_of::<Event>());
-    println!(
-        "refused {}\nops {}\nbusy {}",
-        last.refused, last.ops, last.busy
-    );
-    println!("none {}\ncommits {}", last.none, last.commits);
-    println!("kept {}\nhistory {}", last.kept, last.history);
+    last.print(least, size_of::<Event>());
 }
 
 fn number(word: &str) -> u32 {

@@ -3,32 +3,18 @@
 //! `library KIND FILE OBJECTS OPEN CALLS MODE COMMANDS ROUNDS` prints the least nanoseconds of a run of so many
 //! commands, and what came of them, as `benches store` does.
 
-// `bench/plain_store` makes the same commands.
+// `bench/plain_store` makes the same commands, and tells the same of what came of them.
+#[path = "../../plain_store/outcome.rs"]
+mod outcome;
 #[path = "../../plain_store/workload.rs"]
 mod workload;
 
 use colock::{Error, Event, Kind, Store, Transaction, Type};
+use outcome::{Outcome, folded};
 use std::time::Instant;
 use workload::{Command, Mode, Workload, commands_of};
 
 const MOST_EVENTS: u64 = 1_000_000;
-
-/// What came of a run.
-#[derive(Default)]
-struct Outcome {
-    ops: u32,
-    busy: u32,
-    none: u32,
-    commits: u32,
-    refused: u32,
-    kept: u64,
-    history: u64,
-}
-
-/// A sum, and a further number.
-fn folded(sum: u64, number: u32) -> u64 {
-    (sum.rotate_left(5) ^ u64::from(number)).wrapping_mul(0x517c_c1b7_2722_0a95)
-}
 
 impl Outcome {
     fn note(&mut self, event: &Event) {
@@ -159,9 +145,6 @@ fn main() -> Result<(), Box<dyn std::error::Error>> {
         let (time, outcome) = round(&of, &workload, &steps)?;
         (least, last) = (least.min(time), outcome);
     }
-    println!("nanoseconds {least}\nevent_bytes {}", size_of::<Event>());
-    println!("refused {}\nops {}\nbusy {}", last.refused, last.ops, last.busy);
-    println!("none {}\ncommits {}", last.none, last.commits);
-    println!("kept {}\nhistory {}", last.kept, last.history);
+    last.print(least, size_of::<Event>());
     Ok(())
 }
