@@ -2,6 +2,7 @@
 use Rattle.std.proofs.Common.{◌≡◌, ℕ, ◌<◌, Bool, true, false, not, ◌||◌, ◌==◌, nat_lt, List, length, Option, Some, None, is_some, Result, slice_get, refl, sym, ap, ◌∙◌, inl, inr, arith}
 use Rattle.std.specs.Prelude.{if◌then◌else◌}
 use Rattle.std.proofs.lemmas.Bool.Decides.{nat_tests}
+use Rattle.std.proofs.Math.Bool.{or-true}
 use Rattle.serial_order.specs.History.{seen, is_open}
 use Rattle.serial_order.specs.Laws.{StandsAsRead}
 use Rattle.serial_order.specs.Operations.{of}
@@ -49,11 +50,6 @@ may_done s w command result n new step is =
     ]
 
 -- ---- rollbacks of more operations than there are
-
--- what is true makes a disjunction true
-or-true : (b : Bool) → (b || true) ≡ true
-or-true true = refl
-or-true false = refl
 
 either : (b : Bool) → is_some (if not b then Some refusal.NotOpen else Some refusal.BadRollback) ≡ true
 either true = refl

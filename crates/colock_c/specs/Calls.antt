@@ -55,6 +55,16 @@ Does (Some (OfType a)) w command n new = (n ≡ number NotHeld) × (new ≡ Some
 Does (Some (OfObjects os)) w command n new = (n ≡ number NotHeld) × (new ≡ Some (OfObjects os))
 Does (Some (OfStore s)) w command n new = (later : Stored) × (new ≡ Some (OfStore later)) × IsDone s w command n later
 
+-- what comes of a worker's commit or abort, which wants no memory: its refusal, which changes nothing, or the event that it makes
+abbrev pub IsEnded : Stored → ℕ → Command → ℕ → Stored → Type 0
+IsEnded s w command n new = (n ≡ number (code_of (refusal_of s command))) × (new ≡ after s w command)
+
+abbrev pub Ends : Option Held → ℕ → Command → ℕ → Option Held → Type 0
+Ends None w command n new = (n ≡ number NotHeld) × (new ≡ None)
+Ends (Some (OfType a)) w command n new = (n ≡ number NotHeld) × (new ≡ Some (OfType a))
+Ends (Some (OfObjects os)) w command n new = (n ≡ number NotHeld) × (new ≡ Some (OfObjects os))
+Ends (Some (OfStore s)) w command n new = (later : Stored) × (new ≡ Some (OfStore later)) × IsEnded s w command n later
+
 -- the number of a transaction that begins
 abbrev pub IsNumbered : Option Held → ℕ → ℕ → Type 0
 IsNumbered held n t = (s : Stored) → store_at held ≡ Some s → n ≡ number Done → t ≡ begins s.history

@@ -2,7 +2,7 @@
 
 ghost use Rattle.std.specs.Prelude.{◌≡◌, ◌≢◌, Some, None};
 ghost use Rattle.serial_order.specs.declared.command.Command.TheVariants as command;
-ghost use Rattle.colock_c.specs.Calls.{AbortsAll, CountsOpen, Does, DoesNumbered, IsNumbered, IsTold, IsToldOf, Keeps, Numbers};
+ghost use Rattle.colock_c.specs.Calls.{AbortsAll, CountsOpen, Does, DoesNumbered, Ends, IsNumbered, IsTold, IsToldOf, Keeps, Numbers};
 ghost use Rattle.colock_c.specs.Codes.{number};
 ghost use Rattle.colock_c.specs.Foreseen.{Foresees, ForeseesAt};
 ghost use Rattle.colock_c.specs.Holding.{store_at};
@@ -118,7 +118,7 @@ pub(crate) fn call_number(held: &Held, x: u32, name: &[u8], call: &mut u8) -> Co
 
 /// Commits a transaction.
 pub(crate) fn commit(held: &mut Held, worker: u8, transaction: u64) -> Code
-    ensures { Does (Some held.old) worker (command.Commit transaction) (number result) (Some held.new) }
+    ensures { Ends (Some held.old) worker (command.Commit transaction) (number result) (Some held.new) }
 {
     match held {
         Held::OfStore(store) => on_store::commit(store, worker, transaction),
@@ -129,7 +129,7 @@ pub(crate) fn commit(held: &mut Held, worker: u8, transaction: u64) -> Code
 
 /// Aborts a transaction.
 pub(crate) fn abort(held: &mut Held, worker: u8, transaction: u64) -> Code
-    ensures { Does (Some held.old) worker (command.Abort transaction) (number result) (Some held.new) }
+    ensures { Ends (Some held.old) worker (command.Abort transaction) (number result) (Some held.new) }
 {
     match held {
         Held::OfStore(store) => on_store::abort(store, worker, transaction),

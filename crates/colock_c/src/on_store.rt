@@ -5,7 +5,7 @@ ghost use Rattle.serial_order.specs.History.{begins, seen, is_open};
 ghost use Rattle.serial_order.specs.Replay.{call_at, open_count};
 ghost use Rattle.serial_order.specs.declared.command.Command.TheVariants as command;
 ghost use Rattle.store_laws.specs.Stored.{objects};
-ghost use Rattle.colock_c.specs.Calls.{IsAnswered, IsDone, IsKept, IsUnnumbered};
+ghost use Rattle.colock_c.specs.Calls.{IsAnswered, IsDone, IsEnded, IsKept, IsUnnumbered};
 ghost use Rattle.colock_c.specs.Codes.{number};
 
 use crate::code::{Code, code_of};
@@ -90,7 +90,7 @@ pub(crate) fn call_op(
 }
 
 pub(crate) fn commit(store: &mut Store<Object>, worker: u8, transaction: u64) -> Code
-    ensures { IsDone store.old worker (command.Commit transaction) (number result) store.new }
+    ensures { IsEnded store.old worker (command.Commit transaction) (number result) store.new }
 {
     let Some(t) = begun_at(store, transaction) else {
         return Code::NotOpen;
@@ -102,7 +102,7 @@ pub(crate) fn commit(store: &mut Store<Object>, worker: u8, transaction: u64) ->
 }
 
 pub(crate) fn abort(store: &mut Store<Object>, worker: u8, transaction: u64) -> Code
-    ensures { IsDone store.old worker (command.Abort transaction) (number result) store.new }
+    ensures { IsEnded store.old worker (command.Abort transaction) (number result) store.new }
 {
     let Some(t) = begun_at(store, transaction) else {
         return Code::NotOpen;

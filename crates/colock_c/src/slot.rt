@@ -59,11 +59,15 @@ impl Slot {
     }
 }
 
-fn crosses<T: Send>(value: T) -> T {
+fn crosses<T: Send>(value: T) -> T
+    ensures { result ≡ value }
+{
     value
 }
 
-/// A handle may go to another thread.
-pub fn slot_crosses(slot: Slot) -> Slot {
+/// A handle may go to another thread, and holds there what it held.
+pub fn slot_crosses(slot: Slot) -> Slot
+    ensures { result.handle.held ≡ slot.handle.held }
+{
     crosses(slot)
 }

@@ -6,7 +6,7 @@
 
 ghost use Rattle.std.specs.Prelude.{◌≡◌, ◌≢◌, Some, None};
 ghost use Rattle.serial_order.specs.declared.command.Command.TheVariants as command;
-ghost use Rattle.colock_c.specs.Calls.{AbortsAll, CountsOpen, Does, DoesNumbered, IsNumbered, IsTold, IsToldOf, Keeps, Numbers};
+ghost use Rattle.colock_c.specs.Calls.{AbortsAll, CountsOpen, Does, DoesNumbered, Ends, IsNumbered, IsTold, IsToldOf, Keeps, Numbers};
 ghost use Rattle.colock_c.specs.Codes.{number};
 ghost use Rattle.colock_c.specs.Foreseen.{Foresees, ForeseesAt};
 ghost use Rattle.colock_c.specs.Holding.{store_at};
@@ -152,10 +152,10 @@ pub extern "C" fn colock_would_op(
     code.number()
 }
 
-/// Commits a transaction, as a worker: `NotOpen`.
+/// Commits a transaction, as a worker: `NotOpen`. It never wants memory.
 #[unsafe(no_mangle)]
 pub extern "C" fn colock_commit(alloc: Global, slot: &mut Slot, worker: u8, transaction: u64) -> u32
-    ensures { Does slot.old.handle.held worker (command.Commit transaction) result slot.new.handle.held }
+    ensures { Ends slot.old.handle.held worker (command.Commit transaction) result slot.new.handle.held }
 {
     let Some(mut held) = slot.take(alloc) else {
         return Code::NotHeld.number();
@@ -165,10 +165,10 @@ pub extern "C" fn colock_commit(alloc: Global, slot: &mut Slot, worker: u8, tran
     code.number()
 }
 
-/// Aborts a transaction, as a worker: `NotOpen`.
+/// Aborts a transaction, as a worker: `NotOpen`. It never wants memory.
 #[unsafe(no_mangle)]
 pub extern "C" fn colock_abort(alloc: Global, slot: &mut Slot, worker: u8, transaction: u64) -> u32
-    ensures { Does slot.old.handle.held worker (command.Abort transaction) result slot.new.handle.held }
+    ensures { Ends slot.old.handle.held worker (command.Abort transaction) result slot.new.handle.held }
 {
     let Some(mut held) = slot.take(alloc) else {
         return Code::NotHeld.number();
