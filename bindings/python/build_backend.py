@@ -1,13 +1,20 @@
-"""Makes the wheel of the package: its modules, and the shared object that `make library` in bindings/c made."""
+"""Makes the wheel of the package: its modules, the shared object that `make library` in bindings/c made, and the
+program `colock`, where it was made.
+
+The program is crates/colock/out/colock, or what COLOCK of the environment names. Without it a store in memory works,
+and one in a file says what is missing.
+"""
 import base64
 import hashlib
 import os
 import re
+import stat
 import sysconfig
 import zipfile
 
 FOLDER = os.path.dirname(os.path.abspath(__file__))
 LIBRARY = os.path.join(FOLDER, "..", "c", "build", "libcolock.so")
+PROGRAM = os.environ.get("COLOCK") or os.path.join(FOLDER, "..", "..", "crates", "colock", "out", "colock")
 METADATA = """Metadata-Version: 2.1
 Name: colock
 Version: {version}
@@ -37,9 +44,19 @@ def _contents():
     package = os.path.join(FOLDER, "colock")
     paths = {name: os.path.join(package, name) for name in sorted(os.listdir(package)) if name.endswith((".py", ".typed"))}
     paths["libcolock.so"] = LIBRARY
+    if os.path.exists(PROGRAM):
+        paths["colock"] = PROGRAM
     for name, path in paths.items():
         with open(path, "rb") as file:
             yield f"colock/{name}", file.read()
+
+
+def _entry(name):
+    """The entry of a file, which keeps that the program may be executed."""
+    entry = zipfile.ZipInfo(name)
+    mode = 0o755 if name == "colock/colock" else 0o644
+    entry.external_attr = (stat.S_IFREG | mode) << 16
+    return entry
 
 
 def _digest(content):
@@ -59,7 +76,7 @@ def build_wheel(wheel_directory, config_settings=None, metadata_directory=None):
     wheel = f"colock-{version}-{tag}.whl"
     with zipfile.ZipFile(os.path.join(wheel_directory, wheel), "w", zipfile.ZIP_DEFLATED) as file:
         for name, content in contents.items():
-            file.writestr(zipfile.ZipInfo(name), content, zipfile.ZIP_DEFLATED)
+            file.writestr(_entry(name), content, zipfile.ZIP_DEFLATED)
     return wheel
 
 

@@ -1,5 +1,5 @@
-"""A transactional store of shared, typed objects, in memory, in which only operations that don't commute keep
-each other waiting: two transactions may count one counter up side by side.
+"""A transactional store of shared, typed objects, in memory or in a file, in which only operations that don't
+commute keep each other waiting: two transactions may count one counter up side by side.
 
     >>> import colock
     >>> counter = colock.Type.counter(5, [1])
@@ -23,19 +23,48 @@ A transaction in a `with` commits at its end, and aborts where an exception leav
     >>> store.kept(0)
     0
 
-A store has a lock, which each call takes: threads may share it and its transactions. No call waits for a
-transaction.
+A call may wait where another transaction is in its way. It sleeps until that one has ended or rolled back, goes
+behind older ones that wait at the object, and is told where it can't be: `TimedOut` at its limit, and `Deadlock`
+where transactions wait for each other, of which the youngest is aborted.
+
+    >>> with store.begin() as transaction:
+    ...     reply = transaction.call(0, "inc:1", wait=2.0)
+    >>> store.retry(lambda transaction: transaction.call(0, "inc:1", wait=2.0).executed().reply)
+    'ok'
+
+`Store.open` has the same store in a file, behind a child process, where each commit is durable when it is told:
+
+    with colock.Store.open("shop.db", [counter], create=True) as store:
+        store.retry(lambda transaction: transaction.call(0, "inc:1", wait=2.0).executed())
+
+`Type.from_steps` makes a type of a function, and finds out which of its operations conflict; `print` shows them:
+
+    >>> def step(state, operation):
+    ...     return {("free", "hold"): "held", ("held", "release"): "free"}.get((state, operation[0]))
+    >>> seat = colock.Type.from_steps("seat", "free", [("hold", "ok"), ("release", "ok")], step)
+    >>> print(seat)
+    seat, undo, 2 states
+                 0 1
+    0 hold ok    . x
+    1 release ok x .
+
+A store has a lock, which each call takes: threads may share it and its transactions.
 """
 from ._errors import (
     BadMax,
     BadParameter,
     BadRollback,
     BadText,
+    CannotOpen,
     Closed,
     ColockError,
+    ConnectionLost,
+    Deadlock,
+    EpochEnded,
     FaultKind,
     Forgotten,
     HistoryFull,
+    InMemoryOnly,
     NoCall,
     NoMemory,
     NoObject,
@@ -45,14 +74,23 @@ from ._errors import (
     NotFollowed,
     NotMade,
     NotOpen,
+    OtherObjects,
+    OutcomeUnknown,
     Refused,
     StillOpen,
+    TimedOut,
     TooLarge,
     TooManyObjects,
     TooManyOpen,
+    TooManyStates,
+    WasBusy,
+    WasIllegal,
 )
 from ._events import Event, EventKind
-from ._store import Busy, Illegal, Operation, Reply, Store, Transaction
+from ._replies import Busy, Illegal, Operation, Reply
+from ._stats import Stats
+from ._store import Store
+from ._transaction import Transaction
 from ._types import Kind, Type, TypeOperation
 
 __version__ = "0.1.0"
@@ -63,14 +101,19 @@ __all__ = [
     "BadRollback",
     "BadText",
     "Busy",
+    "CannotOpen",
     "Closed",
     "ColockError",
+    "ConnectionLost",
+    "Deadlock",
+    "EpochEnded",
     "Event",
     "EventKind",
     "FaultKind",
     "Forgotten",
     "HistoryFull",
     "Illegal",
+    "InMemoryOnly",
     "Kind",
     "NoCall",
     "NoMemory",
@@ -82,14 +125,21 @@ __all__ = [
     "NotMade",
     "NotOpen",
     "Operation",
+    "OtherObjects",
+    "OutcomeUnknown",
     "Refused",
     "Reply",
+    "Stats",
     "StillOpen",
     "Store",
+    "TimedOut",
     "TooLarge",
     "TooManyObjects",
     "TooManyOpen",
+    "TooManyStates",
     "Transaction",
     "Type",
     "TypeOperation",
+    "WasBusy",
+    "WasIllegal",
 ]

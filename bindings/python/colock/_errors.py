@@ -41,6 +41,96 @@ class Closed(ColockError):
     """The store or the type is closed."""
 
 
+class EpochEnded(NotOpen):
+    """The store behind a child began a new epoch, and aborted the transaction."""
+
+
+class Deadlock(ColockError):
+    """Transactions waited for each other in a circle, and this one, the youngest, was aborted.
+
+    `blocker` is the number of the transaction for which it waited.
+    """
+
+    def __init__(self, blocker: int) -> None:
+        super().__init__(blocker)
+        self.blocker = blocker
+
+    def __str__(self) -> str:
+        return f"it waited for transaction {self.blocker} in a circle, and was aborted as the youngest"
+
+
+class TimedOut(ColockError):
+    """The limit of a wait is over. Nothing was executed, and the transaction is open."""
+
+
+class WasBusy(ColockError):
+    """What `executed` says of a `Busy`: `blocker` is the number of the transaction that is in the way."""
+
+    def __init__(self, blocker: int) -> None:
+        super().__init__(blocker)
+        self.blocker = blocker
+
+    def __str__(self) -> str:
+        return f"transaction {self.blocker} is in the way"
+
+
+class WasIllegal(ColockError):
+    """What `executed` says of an `Illegal`: no operation of the call was legal."""
+
+
+class ConnectionLost(ColockError):
+    """The program that serves the store is gone, or didn't answer as it has to: `words` tell what was seen.
+
+    The store isn't to be used any more, but for `close`. What was committed is in its file.
+    """
+
+    def __init__(self, words: str) -> None:
+        super().__init__(words)
+        self.words = words
+
+
+class OutcomeUnknown(ColockError):
+    """A commit was in flight when the program was lost: it may be durable or not.
+
+    `id` names the transaction: `Store.committed` of a later opening tells what became of it.
+    """
+
+    def __init__(self, id: str) -> None:
+        super().__init__(id)
+        self.id = id
+
+    def __str__(self) -> str:
+        return f"whether transaction {self.id} is committed isn't known"
+
+
+class CannotOpen(ColockError):
+    """A store in a file wasn't opened: `words` tell what the program said, or why it wasn't started."""
+
+    def __init__(self, words: str) -> None:
+        super().__init__(words)
+        self.words = words
+
+
+class OtherObjects(ColockError, ValueError):
+    """The objects of the file aren't those that were given: the words name the first that differs."""
+
+
+class InMemoryOnly(ColockError):
+    """Only a store in memory does this."""
+
+
+class TooManyStates(ColockError, ValueError):
+    """The steps lead to more than 1,024 states. `call` and `reply` are the operation that led to most new ones."""
+
+    def __init__(self, call: str, reply: str) -> None:
+        super().__init__(call, reply)
+        self.call = call
+        self.reply = reply
+
+    def __str__(self) -> str:
+        return f"there are more than 1,024 states, and `{self.call} {self.reply}` leads to most of them"
+
+
 class NoObjects(ColockError, ValueError):
     """A store of no object."""
 

@@ -1,6 +1,6 @@
 """The events of a store."""
 import enum
-from typing import NamedTuple
+from typing import NamedTuple, Sequence
 
 from . import _library
 
@@ -19,6 +19,7 @@ class EventKind(enum.IntEnum):
 
 _OF_OBJECTS = (EventKind.OP, EventKind.BUSY, EventKind.NONE)
 _WITH_OTHER = (EventKind.BUSY, EventKind.ROLLBACK)
+_KINDS = {kind.name.lower(): kind for kind in EventKind}
 
 
 class Event(NamedTuple):
@@ -47,6 +48,17 @@ class Event(NamedTuple):
 def event_of(words: _library.Event) -> Event:
     """The event as it came over."""
     return Event(EventKind(words.kind), words.worker, words.transaction, words.object, words.op, words.other)
+
+
+def read_event(words: Sequence[str]) -> Event:
+    """The event of the words of a line in a history. Raises `ValueError` where it isn't one."""
+    kind = _KINDS.get(words[0])
+    if kind is None or len(words) != 3 + 2 * (kind in _OF_OBJECTS) + (kind in _WITH_OTHER):
+        raise ValueError(f"{' '.join(words)!r} isn't an event")
+    worker, transaction, *rest = map(int, words[1:])
+    other = rest.pop() if kind in _WITH_OTHER else 0
+    x, op = rest if kind in _OF_OBJECTS else (0, 0)
+    return Event(kind, worker, transaction, x, op, other)
 
 
 def words_of(event: Event) -> _library.Event:

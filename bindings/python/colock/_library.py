@@ -8,6 +8,7 @@ from typing import Any, Callable, Dict
 VERSION = 1
 
 OK = 0
+NOT_OPEN = 1
 NOT_HELD = 8
 BAD_TEXT = 10
 REFUSED = 11

@@ -1,169 +1,329 @@
-"""Stores and transactions."""
-import ctypes
-import threading
-from dataclasses import dataclass
+"""Stores."""
+import itertools
+import os
+import random
+import time
+import weakref
 from types import TracebackType
-from typing import Any, Callable, Iterable, List, Optional, Tuple
+from typing import Callable, Iterable, List, Optional, Tuple, TypeVar, Union
 from typing import Type as Class
 
-from . import _library
-from ._errors import ColockError, NotFollowed, NotOpen, done, error_of
-from ._events import Event, event_of, words_of
-from ._library import functions, unsigned
-from ._types import Type, TypeOperation
+from ._backend import Backend, Finish
+from ._errors import Deadlock, EpochEnded, TimedOut, WasBusy
+from ._events import Event
+from ._library import unsigned
+from ._memory import Memory
+from ._opening import Opening, open_child
+from ._outcomes import read_id
+from ._stats import Stats
+from ._transaction import Transaction
+from ._types import Type
+from ._waiting import Waiting, finished
 
+T = TypeVar("T")
+Path = Union[str, "os.PathLike[str]"]
 
-class Reply:
-    """What a call is answered: an `Operation`, `Busy` or `Illegal`."""
-
-
-@dataclass(frozen=True)
-class Operation(Reply):
-    """The operation of this number was executed, with this reply."""
-
-    number: int
-    reply: str
-
-
-@dataclass(frozen=True)
-class Busy(Reply):
-    """It conflicts with an operation that another transaction holds, the blocker. Nothing was executed."""
-
-    blocker: int
-
-
-@dataclass(frozen=True)
-class Illegal(Reply):
-    """No operation of the call is legal. Nothing was executed."""
+# So long a victim waits for the end of whom it waited for, before it is tried again.
+SECONDS_FOR_BLOCKER = 10.0
+# So long a try waits at most for its next one.
+LONGEST_BACKOFF = 1.0
+# So long it is waited for the next epoch, each time.
+SECONDS_OF_DRAIN = 0.01
 
 
 class Store:
-    """A store of objects, which are numbered from 0. A `with` closes it.
+    """A store of objects, which are numbered from 0: in memory, or by `Store.open` in a file. A `with` closes it.
 
     Each call takes the lock of the store, so threads may share it.
     """
 
     def __init__(self, types: Iterable[Type], max_events: int) -> None:
-        """A store of an object of each of these types, each in its initial state.
+        """A store in memory of an object of each of these types, each in its initial state.
 
         Its history will have at most `max_events` events, those that were forgotten among them. Raises
         `NoObjects`, `TooManyObjects`, `BadMax`, `NoMemory`, or `Closed` of a type.
         """
-        self._lock = threading.Lock()
-        self._handle = _library.Handle()
-        # how often it began anew: a transaction is of one life
-        self._life = 0
-        limit = unsigned("max_events", max_events, 64)
-        objects: List[Tuple[TypeOperation, ...]] = []
-        done(functions["store_new"](self._handle))
-        for of in types:
-            with of._lock:
-                done(functions["store_add"](self._handle, of._handle))
-            objects.append(of.operations)
-        self._objects = objects
-        done(functions["store_open"](self._handle, limit))
+        self._start(Memory(types, max_events), 0.0)
 
-    def _do(self, name: str, *arguments: Any) -> None:
-        """A call of the library at this store, whose code is that of success."""
-        with self._lock:
-            code = functions[name](self._handle, *arguments)
-        done(code)
+    @classmethod
+    def open(
+        cls,
+        path: Path,
+        objects: Optional[Iterable[Type]] = None,
+        *,
+        create: bool = False,
+        archive: Optional[Path] = None,
+        fast: bool = False,
+        drain: Optional[int] = None,
+        program: Optional[Path] = None,
+        limit: float = 60.0,
+    ) -> "Store":
+        """Opens the store in the file at a path, for this client alone.
 
-    def begin(self, worker: int = 0) -> "Transaction":
+        A child process `colock serve` has it open: what a commit answers is durable, and survives that process and
+        this one. The objects are those of the file. Where `objects` are given they are compared with these; and
+        where nothing is at the path and `create`, the file is made of them.
+
+        `archive` is a folder that keeps the history of each epoch, made where it isn't there. `fast` supposes that
+        the disk tears no write apart. `drain` is how many seconds what is open may go on in a full epoch, 5 where
+        it isn't given. `program` is the program; else `COLOCK` of the environment names it, or it is a file
+        `colock` beside the package, or on PATH. `limit` is how many seconds an answer may take.
+
+        Raises `CannotOpen`, `OtherObjects`, `ValueError` where `create` comes without objects or `limit` isn't above
+        0, or `OverflowError` where `drain` isn't a number of 32 bits.
+        """
+        opening = Opening(
+            os.path.abspath(os.fspath(path)),
+            None if objects is None else tuple(objects),
+            create,
+            None if archive is None else os.path.abspath(os.fspath(archive)),
+            fast,
+            drain,
+            None if program is None else os.fspath(program),
+            limit,
+        )
+        store = cls.__new__(cls)
+        store._start(open_child(opening), limit)
+        _in_files.add(store)
+        return store
+
+    def _start(self, backend: Backend, limit: float) -> None:
+        self._backend, self._lock, self._limit = backend, backend.lock, limit
+        self._sleepers, self._counts = backend.graph.sleepers, backend.counts
+        self._waiting = Waiting(backend)
+        self._ages = itertools.count()
+
+    def _after_fork(self) -> None:
+        self._backend.after_fork()
+        self._lock = self._backend.lock
+
+    # ---- transactions
+
+    def begin(self, worker: int = 0) -> Transaction:
         """Begins a transaction, as a worker, which is a number below 256 that its events tell.
 
-        It is open until it commits or aborts, or the store is closed. Raises `TooManyOpen`, `HistoryFull`,
-        `NoMemory` or `Closed`.
+        It is open until it commits or aborts, or the store is closed. In a file, where an epoch is full, it waits
+        for the next one. Raises `TooManyOpen`, `HistoryFull`, `NoMemory` or `Closed`; of a store in a file
+        `ConnectionLost`, `TimedOut` where the next epoch doesn't come, or `InMemoryOnly` of a worker other than 0.
         """
-        who, number = unsigned("the worker", worker, 8), ctypes.c_uint64()
+        who = unsigned("the worker", worker, 8)
         with self._lock:
-            done(functions["begin"](self._handle, who, number))
-            return Transaction(self, self._life, who, number.value)
+            begun = self._backend.begin(who)
+            if begun is not None:
+                return Transaction(self, begun[0], who, begun[1], next(self._ages))
+        return self._begun_later(who, next(self._ages))
+
+    def _begun_later(self, who: int, age: int) -> Transaction:
+        """A transaction of the next epoch."""
+        deadline = time.monotonic() + self._limit
+        while time.monotonic() < deadline:
+            time.sleep(SECONDS_OF_DRAIN)
+            t = self._begun(who, age)
+            if t is not None:
+                return t
+        raise TimedOut("the epoch is full, and the next one doesn't begin")
+
+    def _begun(self, who: int, age: int) -> Optional[Transaction]:
+        """A transaction of this age, where one begins now."""
+        with self._lock:
+            begun = self._backend.begin(who)
+        return None if begun is None else Transaction(self, begun[0], who, begun[1], age)
+
+    def retry(self, f: Callable[[Transaction], T], tries: int = 10, backoff: float = 0.001, worker: int = 0) -> T:
+        """Runs a function in a transaction, commits it where the function hasn't ended it, and returns its value.
+
+        **The function may run again**: at `WasBusy`, `Deadlock`, `TimedOut` and `EpochEnded` what it did is aborted
+        and it is tried anew, `tries` times in all, 1 or more. So it is to do nothing that the store doesn't take
+        back. A victim of a deadlock first waits for the end of whom it waited for; else it sleeps a random time,
+        at most `backoff` seconds the first time, and up to twice as long each further time, and a second at most.
+        It keeps the age of its first try, so it becomes the oldest in the end. The last error is raised. Any other
+        exception, `OutcomeUnknown` too, aborts what is open and is handed on.
+
+        Raises what the function and a commit raise, `ValueError` where `tries` is below 1, `backoff` negative or
+        it is used inside of `transact`, and what `begin` raises.
+        """
+        if tries < 1 or not backoff >= 0:
+            raise ValueError(f"{tries} tries with a backoff of {backoff} seconds")
+        who, age = unsigned("the worker", worker, 8), next(self._ages)
+        self._check_no_turn()
+        for behind in range(1, tries):
+            t = self._begun(who, age) or self._begun_later(who, age)
+            try:
+                return self._run(t, f)
+            except (WasBusy, Deadlock, TimedOut, EpochEnded) as error:
+                reason = error
+            self._pause(t, reason, behind, backoff)
+        return self._run(self._begun(who, age) or self._begun_later(who, age), f)
+
+    def _run(self, t: Transaction, f: Callable[[Transaction], T]) -> T:
+        """A try: the transaction has ended behind it."""
+        try:
+            value = f(t)
+            if not t._ended:
+                t.commit()
+            return value
+        except BaseException:
+            t._abort_quietly()
+            raise
+
+    def _pause(self, t: Transaction, reason: Exception, behind: int, backoff: float) -> None:
+        """What lies between two tries, of which so many are over."""
+        if isinstance(reason, Deadlock):
+            # a victim that began at once would take again what it gave up, before the other one wakes
+            self._waiting.await_end(t._life, reason.blocker, SECONDS_FOR_BLOCKER)
+        else:
+            time.sleep(random.uniform(0, min(backoff * 2.0 ** min(behind - 1, 60), LONGEST_BACKOFF)))
+
+    def _check_no_turn(self) -> None:
+        with self._lock:
+            if self._waiting.turns:
+                raise ValueError("what may wait can't be used inside of `transact`")
+
+    def transact(self, f: Callable[[Transaction], T], worker: int = 0) -> T:
+        """Runs a function in a transaction, in one turn of the lock: no call of another thread comes between.
+
+        It is committed behind the function where that hasn't ended it, and the function's value is returned. Calls
+        can't wait there. An exception of the function aborts it and is handed on. Raises what the function, `begin`
+        and `commit` raise.
+        """
+        who, age = unsigned("the worker", worker, 8), next(self._ages)
+        deadline = time.monotonic() + self._limit
+        while True:
+            with self._lock:
+                done = self._turn(f, who, age)
+            if done is not None:
+                finished(done[1])
+                return done[0]
+            if time.monotonic() >= deadline:
+                raise TimedOut("the epoch is full, and the next one doesn't begin")
+            time.sleep(SECONDS_OF_DRAIN)
+
+    def _turn(self, f: Callable[[Transaction], T], who: int, age: int) -> Optional[Tuple[T, Finish]]:
+        """A turn, under the lock: its value, and what is left to do behind it; None where no transaction begins now.
+
+        Each call in it takes the lock once more, so what gives that up for an answer keeps the lock of the turn.
+        """
+        self._waiting.turns += 1
+        try:
+            t = self._begun(who, age)
+            return None if t is None else self._run_in_turn(t, f)
+        finally:
+            self._waiting.turns -= 1
+
+    def _run_in_turn(self, t: Transaction, f: Callable[[Transaction], T]) -> Tuple[T, Finish]:
+        try:
+            value = f(t)
+            return value, None if t._ended else self._backend.commit(t)
+        except BaseException:
+            t._abort_quietly()
+            raise
+
+    def committed(self, id: str) -> Optional[bool]:
+        """What became of the transaction of this id, `S.N`, as `Transaction.id` and `OutcomeUnknown` tell it.
+
+        True where it is committed, False where it never will be, and None where it is open, or where it isn't
+        certain any more: of a store in memory behind `renew` or `forget`, and of one in a file where neither the
+        events nor the archive tell. The life before this opening can always be told until an epoch ends, and then
+        by the archive. Raises `ValueError` where it isn't an id, and `Closed`, `ConnectionLost` or `OSError`.
+        """
+        life, number = read_id(id)
+        with self._lock:
+            return self._backend.committed(life, number)
+
+    # ---- what is there
+
+    def stats(self) -> Stats:
+        """What was counted of this client since it opened the store."""
+        with self._lock:
+            return self._counts.told()
 
     def call_number(self, object: int, name: str) -> int:
         """The number of the call of this name at an object, for `Transaction.call_op`.
 
-        Raises `NoObject`, `NoCall` or `Closed`.
+        Raises `NoObject`, `NoCall`, `Closed` or `ConnectionLost`.
         """
-        call, content = ctypes.c_uint8(), _name(name)
-        self._do("call_number", unsigned("the object", object, 32), content, len(content), call)
-        return call.value
+        x = unsigned("the object", object, 32)
+        with self._lock:
+            return self._backend.call_number(x, name)
 
     def kept(self, object: int) -> int:
         """The state that is kept of an object: of `Kind.UNDO` with what open transactions did.
 
-        Raises `NoObject` or `Closed`.
+        Raises `NoObject`, `Closed` or `ConnectionLost`.
         """
-        state = ctypes.c_uint64()
-        self._do("kept", unsigned("the object", object, 32), state)
-        return state.value
+        x = unsigned("the object", object, 32)
+        with self._lock:
+            return self._backend.kept(x)
 
     def open_count(self) -> int:
-        """How many transactions are open. Raises `Closed`."""
-        count = ctypes.c_uint64()
-        self._do("open_count", count)
-        return count.value
+        """How many transactions are open. Raises `Closed` or `ConnectionLost`."""
+        with self._lock:
+            return self._backend.open_count()
 
     def abort_all(self) -> None:
-        """Aborts each open transaction, in ascending order, as the worker that began it. Raises `Closed`."""
-        self._do("abort_all")
+        """Aborts each open transaction, in ascending order, as the worker that began it.
+
+        Raises `Closed` or `InMemoryOnly`.
+        """
+        with self._lock:
+            self._counts.aborts += self._backend.abort_all()
 
     def events(self, start: int = 0) -> List[Event]:
-        """The events from a place on, oldest first. Events count from 0. Raises `Forgotten` or `Closed`."""
+        """The events from a place on, oldest first. Events count from 0; those of a file are of the present epoch.
+
+        Raises `Forgotten`, `Closed` or `ConnectionLost`.
+        """
         first = unsigned("the place", start, 64)
         with self._lock:
-            count, forgotten = self._counts()
-            size = max(count - first, 0) if first >= forgotten else 0
-            room, copied = (_library.Event * max(size, 1))(), ctypes.c_uint64()
-            done(functions["events"](self._handle, first, room, size, copied))
-        return [event_of(room[i]) for i in range(copied.value)]
+            return self._backend.events(first)
 
     def event_count(self) -> int:
-        """How many events there were, those that were forgotten among them. Raises `Closed`."""
+        """How many events there were, those that were forgotten among them. Raises `Closed` or `ConnectionLost`."""
         with self._lock:
-            return self._counts()[0]
+            return self._backend.event_count()
 
     def forgotten_count(self) -> int:
-        """How many of the first events were forgotten. Raises `Closed`."""
+        """How many of the first events were forgotten. Raises `Closed` or `InMemoryOnly`."""
         with self._lock:
-            return self._counts()[1]
-
-    def _counts(self) -> Tuple[int, int]:
-        count, forgotten = ctypes.c_uint64(), ctypes.c_uint64()
-        done(functions["event_count"](self._handle, count, forgotten))
-        return count.value, forgotten.value
+            return self._backend.forgotten_count()
 
     def forget(self, events: int) -> None:
-        """Forgets the first so many of the events that are in memory, or all of them. Raises `Closed`."""
-        self._do("forget", unsigned("the number of events", events, 64))
+        """Forgets the first so many of the events that are in memory, or all of them.
+
+        Raises `Closed` or `InMemoryOnly`.
+        """
+        count = unsigned("the number of events", events, 64)
+        with self._lock:
+            self._backend.forget(count)
 
     def follow(self, events: Iterable[Event]) -> None:
         """Makes events again, one after another, each as its worker: a store becomes what another was.
 
-        Raises `NotFollowed`, with how many were made, or `Closed`.
+        Raises `NotFollowed`, with how many were made, `Closed` or `InMemoryOnly`.
         """
-        words = list(map(words_of, events))
-        room, made = (_library.Event * max(len(words), 1))(*words), ctypes.c_uint64()
+        all_of_them = list(events)
         with self._lock:
-            code = functions["follow"](self._handle, room, len(words), made)
-        if code == _library.NOT_HELD:
-            raise error_of(code)
-        if code != _library.OK:
-            raise NotFollowed(made.value) from error_of(code)
+            self._backend.follow(all_of_them)
 
     def renew(self) -> None:
         """Begins anew, with no event, at the states that are kept. Transactions count from 0 again.
 
-        Raises `StillOpen`, `NoMemory` or `Closed`.
+        Raises `StillOpen`, `NoMemory`, `Closed` or `InMemoryOnly`.
         """
         with self._lock:
-            done(functions["renew"](self._handle))
-            self._life += 1
+            self._backend.renew()
+
+    # ---- the end
 
     def close(self) -> None:
-        """Aborts what is open and gives the memory back. A second time does nothing."""
+        """Aborts what is open, and gives the memory back, or ends the epoch of the file. A second time does nothing.
+
+        Raises `ConnectionLost` where the program that serves a file didn't end in order; what was committed is in
+        the file.
+        """
         with self._lock:
-            functions["close"](self._handle)
+            finish = self._backend.close()
+        finished(finish)
 
     def __enter__(self) -> "Store":
         return self
@@ -171,99 +331,15 @@ class Store:
     def __exit__(self, kind: Optional[Class[BaseException]], value: Optional[BaseException], trace: Optional[TracebackType]) -> None:
         self.close()
 
-    def __del__(self, close: Callable[..., int] = functions["close"]) -> None:
-        if hasattr(self, "_handle"):
-            close(self._handle)
+
+_in_files: "weakref.WeakSet[Store]" = weakref.WeakSet()
 
 
-class Transaction:
-    """A transaction. A `with` commits it, or aborts it where an exception leaves it.
-
-    Where it ended in the `with` already, nothing more is done. `Store.begin` makes it.
-    """
-
-    def __init__(self, store: Store, life: int, worker: int, number: int) -> None:
-        self._store, self._life, self._worker, self._number = store, life, worker, number
-        self._ended = False
-
-    @property
-    def number(self) -> int:
-        """Its number: that of the transactions before it."""
-        return self._number
-
-    def _do(self, name: str, *arguments: Any) -> None:
-        """A call of the library for this transaction, whose code is that of success."""
-        store = self._store
-        with store._lock:
-            if self._life != store._life:
-                raise NotOpen(NotOpen.__doc__)
-            code = functions[name](store._handle, *arguments)
-        done(code)
-
-    def _answered(self, name: str, object: int, *arguments: Any) -> Reply:
-        answer = _library.Answer()
-        self._do(name, *arguments, answer)
-        if answer.kind == 0:
-            return Operation(answer.number, self._store._objects[object][answer.number].reply)
-        return Busy(answer.number) if answer.kind == 1 else Illegal()
-
-    def call(self, object: int, name: str) -> Reply:
-        """Calls the call of this name at an object.
-
-        Raises `NotOpen`, `NoObject`, `NoCall`, `HistoryFull`, `NoMemory` or `Closed`.
-        """
-        x, content = unsigned("the object", object, 32), _name(name)
-        return self._answered("call", x, self._worker, self._number, x, content, len(content))
-
-    def call_op(self, object: int, call: int) -> Reply:
-        """Calls the call of this number, which `Store.call_number` tells once. Raises as `call`."""
-        x, c = unsigned("the object", object, 32), unsigned("the call", call, 8)
-        return self._answered("call_op", x, self._worker, self._number, x, c)
-
-    def would(self, object: int, name: str) -> Reply:
-        """What `call` would be answered now. Nothing is executed, and it is no event. Raises as `call`."""
-        x, content = unsigned("the object", object, 32), _name(name)
-        return self._answered("would", x, self._number, x, content, len(content))
-
-    def would_op(self, object: int, call: int) -> Reply:
-        """What `call_op` would be answered now. Raises as `call`."""
-        x, c = unsigned("the object", object, 32), unsigned("the call", call, 8)
-        return self._answered("would_op", x, self._number, x, c)
-
-    def rollback(self, operations: int) -> None:
-        """Takes back its last operations, over all objects together. It stays open.
-
-        Raises `NotOpen`, `BadRollback`, `HistoryFull`, `NoMemory` or `Closed`.
-        """
-        self._do("rollback", self._worker, self._number, unsigned("the number of operations", operations, 64))
-
-    def commit(self) -> None:
-        """Commits it. Raises `NotOpen` or `Closed`."""
-        self._do("commit", self._worker, self._number)
-        self._ended = True
-
-    def abort(self) -> None:
-        """Aborts it: nothing stays of its operations. Raises `NotOpen` or `Closed`."""
-        self._do("abort", self._worker, self._number)
-        self._ended = True
-
-    def __enter__(self) -> "Transaction":
-        return self
-
-    def __exit__(self, kind: Optional[Class[BaseException]], value: Optional[BaseException], trace: Optional[TracebackType]) -> None:
-        if self._ended:
-            return
-        if kind is None:
-            self.commit()
-            return
-        try:
-            self.abort()
-        except ColockError:
-            pass  # it has ended, and the exception that leaves the block tells more
-
-    def __repr__(self) -> str:
-        return f"<colock.Transaction {self._number} of worker {self._worker}>"
+def _close_in_fork() -> None:
+    """A fork has a copy of each pipe, and would keep the children alive."""
+    for store in list(_in_files):
+        store._after_fork()
 
 
-def _name(name: str) -> bytes:
-    return name.encode("utf-8", "surrogatepass")
+if hasattr(os, "register_at_fork"):
+    os.register_at_fork(after_in_child=_close_in_fork)

@@ -1,12 +1,14 @@
 """Types of objects."""
 import ctypes
 import enum
+import operator
 import threading
-from typing import Any, Callable, Iterable, NamedTuple, Optional, Tuple, Union
+from typing import Any, Callable, Dict, FrozenSet, Hashable, Iterable, List, NamedTuple, Optional, Sequence, Tuple, TypeVar, Union, cast
 
 from . import _library
-from ._errors import BadParameter, done, type_error
+from ._errors import BadParameter, NoOperation, done, type_error
 from ._library import functions, unsigned
+from ._steps import grid, labelled
 
 
 class Kind(enum.IntEnum):
@@ -25,10 +27,24 @@ class TypeOperation(NamedTuple):
     reply: str
 
 
+# How an operation is named: by its number, or by its call and reply.
+OperationName = Union[int, Tuple[str, str]]
+S = TypeVar("S", bound=Hashable)
+
+
+class Source(NamedTuple):
+    """What a type was made of: a text, or the family and the words of `colock make`."""
+
+    text: bytes = b""
+    has_made_tables: bool = False
+    words: Tuple[str, ...] = ()
+
+
 class Type:
     """States, operations, and which operations conflict, checked for a kind of recovery.
 
-    Many objects of many stores may have one type. It may be closed, or let go, before they are.
+    Many objects of many stores may have one type. It may be closed, or let go, before they are. Its text by
+    `print` is the grid of its conflicts: a row for each operation that is requested, a column for each that is held.
     """
 
     name: str
@@ -38,17 +54,41 @@ class Type:
     initial: int
     operations: Tuple[TypeOperation, ...]
     """The operations by their numbers."""
+    labels: Optional[Tuple[Hashable, ...]]
+    """The states by their numbers, as the function of `from_steps` has them; None of any other type."""
 
     def __init__(self, text: Union[str, bytes], kind: Kind = Kind.UNDO) -> None:
         """The type of a text, with its own conflicts. Raises `BadText`, `Refused` or `NoMemory`."""
         content = _bytes(text)
-        self._make("type_read", kind, content, len(content))
+        self._make(Source(content), "type_read", kind, content, len(content))
 
     @classmethod
     def with_made_tables(cls, text: Union[str, bytes], kind: Kind = Kind.UNDO) -> "Type":
         """The type of a text whose conflicts are found out. Raises `BadText`, `Refused` or `NoMemory`."""
         content = _bytes(text)
-        return cls._made("type_tables", kind, content, len(content))
+        return cls._made(Source(content, True), "type_tables", kind, content, len(content))
+
+    @classmethod
+    def from_steps(
+        cls,
+        name: str,
+        initial: S,
+        operations: Iterable[Tuple[str, str]],
+        step: Callable[[S, Tuple[str, str]], Optional[S]],
+        kind: Kind = Kind.UNDO,
+    ) -> "Type":
+        """The type of a function, whose conflicts are found out.
+
+        `operations` are 1 to 64 pairs of a call and a reply, and `step` tells the state to which a pair leads from
+        a state, or None where it isn't legal. States are hashable, and equal ones are one. They are found from
+        `initial` on and numbered as they are found, 1 to 1,024: `labels` has them by their numbers. Names are 1 to
+        32 of `a` to `z`, `0` to `9`, `_`, `:` and `-`. Raises `TooManyStates`, `BadParameter` where a name is none,
+        `BadText` where a pair is there twice or there are none or more than 64, `Refused` or `NoMemory`.
+        """
+        content, labels = labelled(name, initial, list(operations), step)
+        made = cls._made(Source(content, True), "type_tables", kind, content, len(content))
+        made.labels = labels
+        return made
 
     @classmethod
     def account(cls, cap: int, amounts: Iterable[int], kind: Kind = Kind.UNDO) -> "Type":
@@ -56,20 +96,19 @@ class Type:
 
         Amounts are 1 to `cap`, ascending. Raises `BadParameter`, `TooLarge` or `NoMemory`.
         """
-        room, count = _words(amounts)
-        return cls._made("type_account", kind, unsigned("the cap", cap, 64), room, count)
+        return cls._of_amounts("account", cap, list(amounts), kind)
 
     @classmethod
     def counter(cls, cap: int, amounts: Iterable[int], kind: Kind = Kind.UNDO) -> "Type":
         """A counter of 0 to `cap`: `inc:A` and `dec:A` for each amount A. As `account`."""
-        room, count = _words(amounts)
-        return cls._made("type_counter", kind, unsigned("the cap", cap, 64), room, count)
+        return cls._of_amounts("counter", cap, list(amounts), kind)
 
     @classmethod
     def set(cls, elements: Iterable[str], kind: Kind = Kind.UNDO) -> "Type":
         """A set: `insert:E`, `delete:E` and `member:E` for each element E, which are names. As `account`."""
-        content = _spaced(elements)
-        return cls._made("type_set", kind, content, len(content))
+        names = list(elements)
+        content = _spaced(names)
+        return cls._made(_family("set", 0, names), "type_set", kind, content, len(content))
 
     @classmethod
     def semiqueue(cls, elements: Iterable[str], capacity: int, kind: Kind = Kind.UNDO) -> "Type":
@@ -77,18 +116,31 @@ class Type:
 
         As `account`.
         """
-        content = _spaced(elements)
-        return cls._made("type_semiqueue", kind, content, len(content), unsigned("the capacity", capacity, 64))
+        names = list(elements)
+        content, most = _spaced(names), unsigned("the capacity", capacity, 64)
+        return cls._made(_family("semiqueue", most, names), "type_semiqueue", kind, content, len(content), most)
 
     @classmethod
-    def _made(cls, maker: str, kind: Kind, *parameters: Any) -> "Type":
+    def _of_amounts(cls, family: str, cap: int, amounts: List[int], kind: Kind) -> "Type":
+        room, count = _words(amounts)  # it raises where an amount is none
+        most = unsigned("the cap", cap, 64)
+        return cls._made(_family(family, most, amounts), "type_" + family, kind, most, room, count)
+
+    @classmethod
+    def _made(cls, source: Source, maker: str, kind: Kind, *parameters: Any) -> "Type":
         made = cls.__new__(cls)
-        made._make(maker, kind, *parameters)
+        made._make(source, maker, kind, *parameters)
         return made
 
-    def _make(self, maker: str, kind: Kind, *parameters: Any) -> None:
+    def _make(self, source: Source, maker: str, kind: Kind, *parameters: Any) -> None:
         self._lock = threading.Lock()
         self._handle = _library.Handle()
+        self._source = source
+        self.labels = None
+        self._is_used = False
+        # what is worked out once: which calls block which, and all that two types are compared by
+        self._pairs: Optional[FrozenSet[Tuple[int, int]]] = None
+        self._all: Optional[Tuple[Any, ...]] = None
         fault = _library.Fault()
         code = functions[maker](self._handle, Kind(kind), *parameters, fault)
         if code != _library.OK:
@@ -101,6 +153,8 @@ class Type:
         self.kind, self.states, self.initial = Kind(shape.kind), shape.states, shape.initial
         self.name = _told(lambda *room: functions["type_name"](self._handle, *room))
         self.operations = tuple(map(self._operation, range(shape.ops)))
+        self._numbers = {(of.call, of.reply): k for k, of in enumerate(self.operations)}
+        self._calls = _first_of_calls(self.operations)
 
     def _operation(self, k: int) -> TypeOperation:
         call = _told(lambda *room: functions["type_call"](self._handle, k, *room))
@@ -119,18 +173,57 @@ class Type:
         done(code)
         return to.value
 
-    def conflicts(self, requested: int, held: int) -> bool:
+    def conflicts(self, requested: OperationName, held: OperationName) -> bool:
         """Whether an operation that is requested conflicts with one that another transaction holds.
 
-        Raises `NoOperation` or `Closed`.
+        Each is a number, or a pair of a call and a reply. Raises `NoOperation` or `Closed`.
         """
-        p, q, told = unsigned("the operation", requested, 64), unsigned("the operation", held, 64), ctypes.c_uint32()
+        return self._conflicts(self._number_of(requested), self._number_of(held))
+
+    def _conflicts(self, requested: int, held: int) -> bool:
+        told = ctypes.c_uint32()
         with self._lock:
-            done(functions["type_conflict"](self._handle, p, q, told))
+            done(functions["type_conflict"](self._handle, requested, held, told))
         return told.value == 1
+
+    def _number_of(self, operation: OperationName) -> int:
+        if not isinstance(operation, tuple):
+            return unsigned("the operation", operation, 64)
+        number = self._numbers.get(operation)
+        if number is None:
+            raise NoOperation(f"the type has no operation {' '.join(map(str, operation))}")
+        return number
+
+    def _blocks(self) -> FrozenSet[Tuple[int, int]]:
+        """The pairs of calls, by their numbers, of which the first, once executed, may be in the way of the second.
+
+        Raises `Closed` where it wasn't asked before.
+        """
+        if self._pairs is None:
+            self._pairs = frozenset(self._blocking_pairs())
+        return self._pairs
+
+    def _blocking_pairs(self) -> Iterable[Tuple[int, int]]:
+        call_of = [self._calls[of.call] for of in self.operations]
+        numbers = range(len(call_of))
+        return ((call_of[held], call_of[asked]) for held in numbers for asked in numbers if self._conflicts(asked, held))
+
+    def _compared(self) -> Tuple[Any, ...]:
+        """What two types are compared by: name, kind, states, initial state, operations, steps and conflicts.
+
+        Raises `Closed` where it wasn't asked before.
+        """
+        if self._all is None:
+            numbers = range(len(self.operations))
+            steps = tuple(self.step(s, k) for s in range(self.states) for k in numbers)
+            conflicts = tuple(self._conflicts(p, q) for p in numbers for q in numbers)
+            self._all = (self.name, self.kind, self.states, self.initial, self.operations, steps, conflicts)
+        return self._all
 
     def close(self) -> None:
         """Gives its memory back. Stores that have it keep it. A second time does nothing."""
+        if self._is_used and self._handle.live:
+            self._blocks()  # its stores may ask later
         with self._lock:
             functions["close"](self._handle)
 
@@ -140,6 +233,12 @@ class Type:
 
     def __repr__(self) -> str:
         return f"<colock.Type {self.name!r}, {self.kind.name}, {self.states} states, {len(self.operations)} operations>"
+
+    def __str__(self) -> str:
+        """The grid of its conflicts. Raises `Closed`."""
+        numbers = range(len(self.operations))
+        held = [[q for q in numbers if self._conflicts(p, q)] for p in numbers]
+        return grid(f"{self.name}, {self.kind.name.lower()}, {self.states} states", self.operations, held)
 
 
 def _bytes(text: Union[str, bytes]) -> bytes:
@@ -152,9 +251,21 @@ def _words(numbers: Iterable[int]) -> Tuple[Any, int]:
     return (ctypes.c_uint64 * max(len(words), 1))(*words), len(words)
 
 
-def _spaced(elements: Iterable[str]) -> bytes:
+def _family(family: str, size: int, items: Sequence[object]) -> Source:
+    """The words by which `colock make` writes the type of a family."""
+    return Source(words=(family, str(size), *(item if isinstance(item, str) else str(operator.index(cast(int, item))) for item in items)))
+
+
+def _first_of_calls(operations: Sequence[TypeOperation]) -> Dict[str, int]:
+    """The numbers of the calls: each is that of the first operation that has its name."""
+    calls: Dict[str, int] = {}
+    for k, of in enumerate(operations):
+        calls.setdefault(of.call, k)
+    return calls
+
+
+def _spaced(names: Sequence[str]) -> bytes:
     """Elements with a space between two. One that has a space in it would be read as two."""
-    names = list(elements)
     if any(not name or " " in name for name in names):
         raise BadParameter("an element is empty or has a space in it")
     return _bytes(" ".join(names))

@@ -1,0 +1,47 @@
+"""What became of a transaction, by the history of its epoch."""
+import os
+from typing import Iterable, List, Optional, Sequence, Tuple
+
+from ._events import Event, EventKind
+
+MOST_OBJECTS = 256
+ENDS = {EventKind.COMMIT: True, EventKind.ABORT: False}
+
+
+def read_id(id: str) -> Tuple[int, int]:
+    """The life and the number of the text `S.N`. Raises `ValueError` where it isn't one."""
+    life, point, number = id.partition(".")
+    if not (point and life.isdecimal() and number.isdecimal() and id.isascii()):
+        raise ValueError(f"{id!r} isn't the id of a transaction")
+    return int(life), int(number)
+
+
+def outcome_among(events: Iterable[Event], number: int) -> Optional[bool]:
+    """Whether a transaction was committed, True, or aborted, False; None where no event tells."""
+    return next((ENDS[event.kind] for event in events if event.transaction == number and event.kind in ENDS), None)
+
+
+def outcome_in(lines: Optional[Sequence[bytes]], number: int) -> Optional[bool]:
+    """The same by the lines of events of a store in a file, which are worker 0's. There may be a million of them."""
+    if lines is None:
+        return None
+    for kind, is_committed in ENDS.items():
+        if f"{kind.name.lower()} 0 {number}".encode("ascii") in lines:
+            return is_committed
+    return None
+
+
+def archived(folder: Optional[str], life: int) -> Optional[List[bytes]]:
+    """The lines of events of the epoch whose last life this was, by the archive; None where it hasn't all of them.
+
+    Raises `OSError` where the file can't be read.
+    """
+    if folder is None:
+        return None
+    try:
+        with open(os.path.join(folder, f"{life}.history"), "rb") as file:
+            lines = file.read().split(b"\n")
+    except FileNotFoundError:
+        return None
+    objects = sum(line.startswith(b"object ") for line in lines[:MOST_OBJECTS])
+    return lines[objects : lines.index(b"end")] if b"end" in lines else None

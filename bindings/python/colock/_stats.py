@@ -1,0 +1,33 @@
+"""What a client counts."""
+from typing import NamedTuple, Tuple
+
+
+class Stats(NamedTuple):
+    """What was counted of this client since it opened the store."""
+
+    commits: int
+    aborts: int
+    """Aborts, those of victims and of epochs that ended among them."""
+    busy: Tuple[int, ...]
+    """By object: how often a call was answered `Busy`, and how often one went to sleep."""
+    waits: int
+    """How many calls slept."""
+    waited: float
+    """So many seconds they slept in all."""
+    deadlocks: int
+    """How many victims there were."""
+    timeouts: int
+    """How many waits ended at their limit."""
+
+
+class Counts:
+    """The same, as it grows."""
+
+    def __init__(self, objects: int) -> None:
+        self.commits = self.aborts = self.waits = self.deadlocks = self.timeouts = 0
+        self.busy = [0] * objects
+        self.waited = 0.0
+
+    def told(self) -> Stats:
+        """What was counted up to now."""
+        return Stats(self.commits, self.aborts, tuple(self.busy), self.waits, self.waited, self.deadlocks, self.timeouts)

@@ -1,0 +1,141 @@
+#!/usr/bin/env python3
+"""clients_bench.py [SECONDS]: how many transactions a second threads do. Lines `name value`, a value a second.
+
+Each part runs so many seconds (2). Without the program the parts over a child are left out.
+"""
+import os
+import sys
+import tempfile
+import threading
+import time
+
+import colock
+from colock import Store, Type
+from colock._opening import find_program
+
+THREADS = 16
+THINK = 0.001
+
+# A counter that never ends, whose ups don't hold each other up: takes and gives do.
+TALLY = """type tally
+states 1
+initial 0
+op up ok
+op take ok
+op give ok
+step 0 0 0
+step 0 1 0
+step 0 2 0
+conflict undo 1 2
+conflict undo 2 1
+end
+"""
+
+
+def measured(seconds, work):
+    """How often a second the threads do something, of which `work` is told its number."""
+    over, counts = threading.Event(), [0] * THREADS
+
+    def run(worker):
+        while not over.is_set():
+            work(worker)
+            counts[worker] += 1
+
+    threads = [threading.Thread(target=run, args=(worker,)) for worker in range(THREADS)]
+    start = time.monotonic()
+    for thread in threads:
+        thread.start()
+    time.sleep(seconds)
+    over.set()
+    for thread in threads:
+        thread.join()
+    return sum(counts) / (time.monotonic() - start)
+
+
+def think():
+    time.sleep(THINK)
+
+
+def up(store):
+    """Counts up, and thinks before the commit."""
+    def work(worker):
+        with store.begin() as t:
+            t.call(0, "up").executed()
+            think()
+    return work
+
+
+def takes_and_gives(store):
+    """One of four threads gives, and the others take, each as long as it has to wait."""
+    def work(worker):
+        def f(t):
+            t.call(0, "give" if worker % 4 == 0 else "take", wait=60).executed()
+            think()
+        store.retry(f)
+    return work
+
+
+def with_a_lock():
+    """A plain counter whose lock is held as long as the transaction lasts."""
+    lock, counter = threading.Lock(), [0]
+
+    def work(worker):
+        with lock:
+            counter[0] += 1
+            think()
+    return work
+
+
+def plain(store):
+    """Counts up without thinking."""
+    def work(worker):
+        with store.begin() as t:
+            t.call(0, "up").executed()
+    return work
+
+
+def told(name, value):
+    print(name, f"{value:.0f}", flush=True)
+    return value
+
+
+def over_a_child(seconds):
+    try:
+        program = find_program(None)
+    except colock.CannotOpen as error:
+        print(error, file=sys.stderr)
+        return
+    for name, fast in (("child_commits", False), ("child_fast_commits", True)):
+        with tempfile.TemporaryDirectory() as folder:
+            with Store.open(os.path.join(folder, "bench.db"), [Type(TALLY)], create=True, program=program, fast=fast) as store:
+                told(name, measured(seconds, plain(store)))
+
+
+def one_thread(seconds):
+    """Commands a second of one thread, as the bench of the library counts them: begin, call, commit."""
+    store, count = Store([Type.counter(1_000, [1])], 100_000_000), 0
+    start = time.perf_counter()
+    while time.perf_counter() - start < seconds:
+        for turn in range(1000):
+            t = store.begin()
+            t.call(0, "dec:1" if turn & 1 else "inc:1")
+            t.commit()
+        count += 3000
+    return count / (time.perf_counter() - start)
+
+
+def main():
+    seconds = float(sys.argv[1]) if len(sys.argv) > 1 else 2.0
+    told("commands_of_one_thread", one_thread(seconds))
+    lock = told("lock_commits", measured(seconds, with_a_lock()))
+    with Store([Type(TALLY)], 100_000_000) as store:
+        ups = told("up_commits", measured(seconds, up(store)))
+    with Store([Type(TALLY)], 100_000_000) as store:
+        mixed = told("take_and_give_commits", measured(seconds, takes_and_gives(store)))
+    print("up_over_lock", f"{ups / lock:.1f}")
+    print("take_and_give_over_lock", f"{mixed / lock:.1f}")
+    over_a_child(seconds)
+
+
+if __name__ == "__main__":
+    main()

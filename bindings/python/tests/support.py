@@ -1,0 +1,195 @@
+"""What the tests share: stores of both backends, threads with a result, and programs that answer as they like.
+
+With COLOCK_TESTS=quick in the environment what takes seconds is left out.
+"""
+import os
+import sys
+import tempfile
+import threading
+import time
+import unittest
+
+import colock
+from colock._opening import find_program
+
+QUICK = os.environ.get("COLOCK_TESTS") == "quick"
+# How long a test waits for what has to come.
+SOON = 20.0
+# How long a call waits that is to be woken: who isn't woken is found out by SOON.
+LONG = 600.0
+
+# Two calls that are legal at any time, and each of which is in the way of the other.
+TWO = """type two
+states 1
+initial 0
+op take ok
+op give ok
+step 0 0 0
+step 0 1 0
+conflict undo 0 1
+conflict undo 1 0
+conflict intentions 0 1
+conflict intentions 1 0
+end
+"""
+
+
+def program():
+    """The path of the program. A test that needs it fails in words where it isn't there."""
+    try:
+        return find_program(None)
+    except colock.CannotOpen as error:
+        raise AssertionError(f"this test needs the program: {error}") from None
+
+
+def folder_of(test):
+    """A folder that lives as long as a test."""
+    folder = tempfile.TemporaryDirectory(prefix="colock-test-")
+    test.addCleanup(folder.cleanup)
+    return folder.name
+
+
+class InMemory:
+    """Stores in memory."""
+
+    is_child = False
+
+    def make(self, types, max_events=1_000_000):
+        store = colock.Store(types, max_events)
+        self.addCleanup(store.close)
+        return store
+
+
+class OverChild:
+    """Stores in files, each in a folder of its own."""
+
+    is_child = True
+
+    def make(self, types, **options):
+        path = os.path.join(folder_of(self), "test.db")
+        store = colock.Store.open(path, types, create=True, program=program(), **options)
+        self.addCleanup(store.close)
+        return store
+
+
+class Run(threading.Thread):
+    """A thread whose result, or what it raised, is asked for."""
+
+    def __init__(self, act, *arguments):
+        super().__init__(daemon=True)
+        self.act, self.arguments, self.value, self.error = act, arguments, None, None
+        self.start()
+
+    def run(self):
+        try:
+            self.value = self.act(*self.arguments)
+        except BaseException as error:  # told by `result`
+            self.error = error
+
+    def result(self, seconds=SOON):
+        """What it returned. Raises what it raised, or fails where it goes on longer."""
+        self.join(seconds)
+        if self.is_alive():
+            raise AssertionError(f"a thread didn't end within {seconds} seconds")
+        if self.error is not None:
+            raise self.error
+        return self.value
+
+
+def until(holds, what="it", seconds=SOON):
+    """Waits until something holds, or fails."""
+    end = time.monotonic() + seconds
+    while not holds():
+        if time.monotonic() > end:
+            raise AssertionError(f"{what} didn't come within {seconds} seconds")
+        time.sleep(0.002)
+
+
+def asleep(store, count):
+    """Waits until so many sleeps have begun at a store, or calls were told Busy."""
+    until(lambda: sum(store.stats().busy) >= count, f"sleep {count}")
+
+
+class Timed:
+    """How long something took."""
+
+    def __enter__(self):
+        self.start = time.monotonic()
+        return self
+
+    def __exit__(self, *raised):
+        self.seconds = time.monotonic() - self.start
+
+
+def pid_of(store):
+    """The number of the process that serves a store."""
+    return store._backend._connection._process.pid
+
+
+def is_running(pid):
+    """Whether a process is there and hasn't ended."""
+    try:
+        with open(f"/proc/{pid}/stat", encoding="ascii", errors="replace") as file:
+            return file.read().rpartition(")")[2].split()[0] not in ("Z", "X")
+    except (FileNotFoundError, ProcessLookupError):
+        return False
+
+
+FAKE = """#!{python}
+import os, sys, time
+
+TYPE = '''{type}'''
+
+
+def say(text):
+    data = text.encode("latin-1")
+    while data:
+        data = data[os.write(1, data):]
+
+
+def requests():
+    for line in sys.stdin:
+        tag, *words = line.split()
+        yield tag, words
+
+
+def opened(greeting="colock 1 5\\n"):
+    '''Greets, and answers what a client asks as it opens; then the requests that follow.'''
+    say(greeting)
+    for tag, words in requests():
+        if words[0] == "objects":
+            say(f"{{tag}} object undo 0\\n{{tag}} ok\\n")
+        elif words[0] == "types":
+            say("".join(f"{{tag}} {{line}}\\n" for line in TYPE.split("\\n")) + f"{{tag}} ok\\n")
+        else:
+            yield tag, words
+
+
+{body}
+"""
+
+
+class Fakes(unittest.TestCase):
+    """Tests with programs that answer as they like."""
+
+    def fake(self, body):
+        """The path of a program of this body."""
+        path = os.path.join(folder_of(self), "fake")
+        with open(path, "w", encoding="utf-8") as file:
+            file.write(FAKE.format(python=sys.executable, type=TWO, body=body))
+        os.chmod(path, 0o755)
+        return path
+
+    def open(self, body, limit=SOON, archive=None):
+        """A store that this program serves."""
+        store = colock.Store.open("nothing.db", program=self.fake(body), limit=limit, archive=archive)
+        self.addCleanup(self.closed, store)
+        return store
+
+    @staticmethod
+    def closed(store):
+        """Closes a store whose program may not know how to end."""
+        try:
+            store.close()
+        except colock.ConnectionLost:
+            pass
