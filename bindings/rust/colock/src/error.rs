@@ -1,8 +1,8 @@
 use colock_sys::{code, Fault};
 use std::fmt;
 
-/// Why something wasn't done. Nothing has changed then.
-#[derive(Clone, Copy, Debug, PartialEq, Eq)]
+/// Why something wasn't done. Nothing has changed then, but where an error says that it has.
+#[derive(Clone, Debug, PartialEq, Eq)]
 #[non_exhaustive]
 pub enum Error {
     /// The transaction isn't open.
@@ -46,8 +46,42 @@ pub enum Error {
     TooLarge,
     /// The type has no state of this number.
     NoState,
-    /// The type has no operation of this number.
+    /// The type has no operation of this number, or none of this call and reply.
     NoOperation,
+    /// A call was busy, where [`Reply::executed`](crate::Reply::executed) asked for its operation.
+    Busy {
+        /// Who was in its way.
+        blocker: u64,
+    },
+    /// No operation of a call was legal, where [`Reply::executed`](crate::Reply::executed) asked for it.
+    Illegal,
+    /// The transaction waited in a circle and was the youngest in it. It has been aborted.
+    Deadlock {
+        /// For whom it waited.
+        waited_for: u64,
+    },
+    /// The limit of a wait is over. Nothing was executed, and the transaction is open.
+    TimedOut,
+    /// The store behind a child began a new epoch, and aborted the transaction.
+    EpochEnded,
+    /// The child is lost, in words. Nothing that was asked since the last answer is known to be done.
+    ConnectionLost(String),
+    /// The child was lost while a commit was in flight: it may be durable or not. This is the transaction's id,
+    /// of which [`SharedStore::committed`](crate::SharedStore::committed) tells when the file was opened again.
+    OutcomeUnknown(String),
+    /// A file wasn't opened or made, in words: those of the program, or why it wasn't started.
+    CannotOpen(String),
+    /// The objects of the file aren't those that were given.
+    OtherObjects,
+    /// Only a store in memory does this.
+    InMemoryOnly,
+    /// A type of more than 1,024 states. This operation made the most new ones.
+    TooManyStates {
+        /// Its call.
+        call: String,
+        /// Its reply.
+        reply: String,
+    },
     /// A code, or a number of something else, that this crate doesn't know: it was made for another library.
     Unknown(u64),
 }
@@ -112,7 +146,7 @@ pub enum CheckRefusal {
 }
 
 /// Events of which one wasn't made. Those before it were.
-#[derive(Clone, Copy, Debug, PartialEq, Eq)]
+#[derive(Clone, Debug, PartialEq, Eq)]
 #[non_exhaustive]
 pub struct NotFollowed {
     /// How many were made.
@@ -213,8 +247,29 @@ impl fmt::Display for Error {
             Error::BadParameter => f.write_str("a parameter is out of its range or in a wrong order"),
             Error::TooLarge => f.write_str("the type would have too many operations or states"),
             Error::NoState => f.write_str("the type has no state of this number"),
-            Error::NoOperation => f.write_str("the type has no operation of this number"),
+            Error::NoOperation => f.write_str("the type has no such operation"),
             Error::Unknown(number) => write!(f, "the library told {number}, which is unknown"),
+            other => other.write_of_clients(f),
+        }
+    }
+}
+
+impl Error {
+    /// The words of what the library by itself never tells.
+    fn write_of_clients(&self, f: &mut fmt::Formatter<'_>) -> fmt::Result {
+        match self {
+            Error::Busy { blocker } => write!(f, "transaction {blocker} is in the way"),
+            Error::Illegal => f.write_str("no operation of the call is legal"),
+            Error::Deadlock { waited_for } => write!(f, "a deadlock: the transaction waited for {waited_for}, and was aborted"),
+            Error::TimedOut => f.write_str("the limit of the wait is over"),
+            Error::EpochEnded => f.write_str("a new epoch began, which aborted the transaction"),
+            Error::ConnectionLost(words) => write!(f, "the store is lost: {words}"),
+            Error::OutcomeUnknown(id) => write!(f, "the store was lost while transaction {id} was committed"),
+            Error::CannotOpen(words) => write!(f, "the store can't be opened: {words}"),
+            Error::OtherObjects => f.write_str("the store has other objects"),
+            Error::InMemoryOnly => f.write_str("only a store in memory does this"),
+            Error::TooManyStates { call, reply } => write!(f, "the type has too many states, most of them by {call} {reply}"),
+            other => fmt::Debug::fmt(other, f),
         }
     }
 }

@@ -23,6 +23,7 @@ impl Handle {
     /// Where it is, for a call of the library.
     ///
     /// The pointer is there, aligned and apart from all others, and no other call has it: none calls back.
+    #[inline]
     pub(crate) fn at(&self) -> *mut sys::Handle {
         self.0.get()
     }
@@ -36,6 +37,7 @@ impl Drop for Handle {
 }
 
 /// The error of a code.
+#[inline]
 pub(crate) fn done(code: u32) -> Result<(), Error> {
     match code {
         sys::code::OK => Ok(()),

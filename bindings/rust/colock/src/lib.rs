@@ -1,5 +1,5 @@
-//! A transactional store of shared, typed objects, in memory, in which only operations that don't commute keep
-//! each other waiting: two transactions may count one counter up side by side.
+//! A transactional store of shared, typed objects in which only operations that don't commute keep each other waiting:
+//! two transactions may count one counter up side by side. It is in memory, or in a file.
 //!
 //! A [`Type`] is read of a text or made of a family, and checked for a [`Kind`] of recovery. A [`Store`] has
 //! objects of such types. A [`Transaction`] calls operations of the objects, and commits, or aborts where it
@@ -51,20 +51,109 @@
 //! # Ok::<(), colock::Error>(())
 //! ```
 //!
+//! # Waiting
+//!
+//! A [`SharedStore`] is shared between threads as it is, and its calls may wait: [`SharedTransaction::call_within`]
+//! sleeps until who is in the way has ended or taken operations back. [`SharedTransaction::call`] never waits.
+//!
+//! - **The gate.** A call goes behind an older transaction that waits at the same object, where it would block that
+//!   one's call. So a stream of young ones keeps nobody waiting for ever. Who is waited for passes.
+//! - **Deadlock.** Where transactions wait in a circle, the youngest of them is aborted at once, and its call fails
+//!   with [`Error::Deadlock`].
+//! - **Again.** [`SharedStore::retry`] runs a function as a transaction, and again where it was in the way of others;
+//!   it keeps the age of its first try, so that it isn't the youngest for ever.
+//! - **At once.** [`SharedStore::transact`] does a whole transaction in one turn of the lock, which is the fastest where
+//!   nobody thinks between two calls.
+//!
+//! ```
+//! use colock::{Error, Kind, Retry, SharedStore, Type};
+//! use std::time::Duration;
+//!
+//! // each moves a piece from one stock to the other, half of them the other way
+//! let stock = Type::counter(16, &[1, 8], Kind::Undo)?;
+//! let store = SharedStore::new([&stock, &stock], 1_000_000)?;
+//! for object in 0..2 {
+//!     store.transact(|turn| turn.call(object, "inc:8")?.executed())?;
+//! }
+//! std::thread::scope(|scope| {
+//!     for worker in 0..8 {
+//!         let store = &store;
+//!         scope.spawn(move || {
+//!             let moved = store.retry(&Retry { tries: 100, ..Retry::default() }, |transaction| {
+//!                 let wait = Duration::from_secs(10);
+//!                 transaction.call_within(worker % 2, "dec:1", wait)?.executed()?;
+//!                 transaction.call_within(1 - worker % 2, "inc:1", wait)?.executed()
+//!             });
+//!             assert!(moved.is_ok());
+//!         });
+//!     }
+//! });
+//! assert_eq!((store.kept(0)?, store.kept(1)?), (8, 8));
+//! # Ok::<(), Error>(())
+//! ```
+//!
+//! # Durable stores
+//!
+//! [`OpenOptions`] opens a store in a file, with the same calls. The program `colock serve` has the file, as a child
+//! process; a commit that was answered survives a crash. A child that is lost isn't started again: each call fails with
+//! [`Error::ConnectionLost`] then, and a commit that was in flight with [`Error::OutcomeUnknown`]. Open the file again,
+//! and [`SharedStore::committed`] tells what became of it.
+//!
+//! ```no_run
+//! use colock::{Error, Kind, OpenOptions, Type};
+//!
+//! let seats = Type::set(&["a1", "a2", "b1"], Kind::Undo)?;
+//! let path = std::env::temp_dir().join("seats.db");
+//! let options = OpenOptions::new().objects(&[&seats]).create(true);
+//! let store = options.clone().open(&path)?;
+//! let mut transaction = store.begin()?;
+//! transaction.call(0, "insert:a1")?.executed()?;
+//! if let Err(Error::OutcomeUnknown(id)) = transaction.commit() {
+//!     drop(store);
+//!     println!("{:?}", options.open(&path)?.committed(&id)?);
+//! }
+//! # Ok::<(), Error>(())
+//! ```
+//!
 //! # What is proved
 //!
-//! What each call of the library does is proved; this crate, which is a layer of `unsafe` calls to it, is
-//! tested only.
+//! What each call of the library does is proved, and so is what the program `colock serve` answers. This crate is
+//! tested only: its layer of `unsafe` calls, and all of the waiting and of the child.
 
+mod calling;
+mod calls;
+mod child;
+mod creating;
 mod error;
 mod event;
 mod handle;
+mod locks;
+mod opening;
+mod past;
+mod program;
+mod request;
+mod retry;
+mod shared;
+mod shared_transaction;
+mod slot;
+mod source;
+mod stats;
+mod steps;
 mod store;
+mod store_state;
 mod transaction;
+mod turn;
 mod types;
+mod waiting;
 
 pub use error::{CheckRefusal, Error, FaultKind, NotFollowed};
 pub use event::Event;
+pub use opening::OpenOptions;
+pub use retry::{Cause, Retry};
+pub use shared::SharedStore;
+pub use shared_transaction::SharedTransaction;
+pub use stats::Stats;
 pub use store::Store;
 pub use transaction::{Reply, Transaction, TransactionId};
+pub use turn::Turn;
 pub use types::{Kind, Type};

@@ -49,6 +49,7 @@ impl Store {
         Ok(Store { handle, life: next_life() })
     }
 
+    #[inline]
     pub(crate) fn handle(&self) -> &Handle {
         &self.handle
     }
@@ -88,6 +89,7 @@ impl Store {
     /// # Errors
     ///
     /// As of [`Store::begin`].
+    #[inline]
     pub fn begin_as(&self, worker: u8) -> Result<Transaction<'_>, Error> {
         let mut number = 0;
         // SAFETY: as in `new`.

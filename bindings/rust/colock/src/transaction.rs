@@ -19,6 +19,32 @@ pub enum Reply {
     None,
 }
 
+impl Reply {
+    /// The operation that was executed.
+    ///
+    /// ```
+    /// # use colock::{Error, Kind, Store, Type};
+    /// # let counter = Type::counter(5, &[1], Kind::Undo)?;
+    /// # let store = Store::new([&counter], 100)?;
+    /// let mut transaction = store.begin()?;
+    /// assert_eq!(transaction.call(0, "inc:1")?.executed(), Ok(0));
+    /// assert_eq!(store.begin()?.call(0, "dec:1")?.executed(), Err(Error::Busy { blocker: 0 }));
+    /// # Ok::<(), Error>(())
+    /// ```
+    ///
+    /// # Errors
+    ///
+    /// [`Error::Busy`] or [`Error::Illegal`] where nothing was executed.
+    #[inline]
+    pub fn executed(self) -> Result<u64, Error> {
+        match self {
+            Reply::Operation(operation) => Ok(operation),
+            Reply::Busy { blocker } => Err(Error::Busy { blocker }),
+            Reply::None => Err(Error::Illegal),
+        }
+    }
+}
+
 /// A transaction that is open. Where it is dropped, it aborts.
 ///
 /// ```
@@ -49,6 +75,7 @@ pub struct TransactionId {
 }
 
 impl<'s> Transaction<'s> {
+    #[inline]
     pub(crate) fn of(store: &'s Store, worker: u8, number: u64) -> Transaction<'s> {
         Transaction { store, worker, number }
     }
@@ -83,6 +110,7 @@ impl<'s> Transaction<'s> {
     ///
     /// [`Error::NotOpen`] where another [`TransactionId`] of it ended it, [`Error::NoObject`],
     /// [`Error::NoCall`], [`Error::HistoryFull`] or [`Error::NoMemory`].
+    #[inline]
     pub fn call(&mut self, object: u32, name: &str) -> Result<Reply, Error> {
         let Transaction { store, worker, number } = *self;
         // SAFETY: `answered` gives an answer of its own; the handle is as `Handle::at` says, as in all below.
@@ -103,6 +131,7 @@ impl<'s> Transaction<'s> {
     /// # Errors
     ///
     /// As of [`Transaction::call`].
+    #[inline]
     pub fn call_op(&mut self, object: u32, call: u8) -> Result<Reply, Error> {
         let Transaction { store, worker, number } = *self;
         // SAFETY: as in `call`.
@@ -181,6 +210,7 @@ impl<'s> Transaction<'s> {
     /// # Errors
     ///
     /// [`Error::NotOpen`] where another [`TransactionId`] of it ended it.
+    #[inline]
     pub fn commit(self) -> Result<(), Error> {
         let TransactionId { worker, number, .. } = self.id();
         let store = self.store;
@@ -216,12 +246,14 @@ impl<'s> Transaction<'s> {
     /// store.resume(id)?.commit()?;
     /// # Ok::<(), colock::Error>(())
     /// ```
+    #[inline]
     pub fn leave(self) -> TransactionId {
         let id = self.id();
         mem::forget(self);
         id
     }
 
+    #[inline]
     fn id(&self) -> TransactionId {
         TransactionId { life: self.store.life(), worker: self.worker, number: self.number }
     }
@@ -253,6 +285,7 @@ impl TransactionId {
     }
 }
 
+#[inline]
 fn answered(call: impl FnOnce(*mut sys::Answer) -> u32) -> Result<Reply, Error> {
     let mut answer = sys::Answer::default();
     done(call(&mut answer))?;

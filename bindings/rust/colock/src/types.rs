@@ -1,5 +1,6 @@
 use crate::error::Error;
 use crate::handle::{done, Handle};
+use crate::source::Source;
 use colock_sys as sys;
 use std::fmt;
 
@@ -14,8 +15,11 @@ pub enum Kind {
 
 /// The type of an object: states, operations, and which operations conflict, checked for a [`Kind`].
 ///
-/// Many objects of many stores may have one type, and outlive it.
-pub struct Type(Handle);
+/// Many objects of many stores may have one type, and outlive it. It is displayed as the grid of its conflicts.
+pub struct Type {
+    handle: Handle,
+    source: Source,
+}
 
 impl Type {
     /// The type of a text, with its own conflicts.
@@ -36,7 +40,7 @@ impl Type {
     pub fn read(text: impl AsRef<[u8]>, kind: Kind) -> Result<Type, Error> {
         let text = text.as_ref();
         // SAFETY: `made` gives pointers of its own, and the text is one slice.
-        Type::made(|handle, fault| unsafe { sys::colock_type_read(handle, kind as u32, text.as_ptr(), text.len(), fault) })
+        Type::made(Source::Text(text.to_vec()), |handle, fault| unsafe { sys::colock_type_read(handle, kind as u32, text.as_ptr(), text.len(), fault) })
     }
 
     /// The type of a text whose conflicts are found out: those of the text aren't used.
@@ -56,7 +60,7 @@ impl Type {
     pub fn with_made_tables(text: impl AsRef<[u8]>, kind: Kind) -> Result<Type, Error> {
         let text = text.as_ref();
         // SAFETY: as in `read`.
-        Type::made(|handle, fault| unsafe { sys::colock_type_tables(handle, kind as u32, text.as_ptr(), text.len(), fault) })
+        Type::made(Source::Tables(text.to_vec()), |handle, fault| unsafe { sys::colock_type_tables(handle, kind as u32, text.as_ptr(), text.len(), fault) })
     }
 
     /// An account of 0 to `cap`: `deposit:A` and `withdraw:A` for each amount A, and `balance`. Amounts are 1 to
@@ -77,7 +81,9 @@ impl Type {
     /// [`Error::BadParameter`], [`Error::TooLarge`] or [`Error::NoMemory`].
     pub fn account(cap: u64, amounts: &[u64], kind: Kind) -> Result<Type, Error> {
         // SAFETY: as in `read`.
-        Type::made(|handle, fault| unsafe { sys::colock_type_account(handle, kind as u32, cap, amounts.as_ptr(), amounts.len(), fault) })
+        Type::made(Source::family("account", cap, amounts), |handle, fault| unsafe {
+            sys::colock_type_account(handle, kind as u32, cap, amounts.as_ptr(), amounts.len(), fault)
+        })
     }
 
     /// A counter of 0 to `cap`: `inc:A` and `dec:A` for each amount A. Amounts are 1 to `cap`, ascending.
@@ -93,7 +99,9 @@ impl Type {
     /// As of [`Type::account`].
     pub fn counter(cap: u64, amounts: &[u64], kind: Kind) -> Result<Type, Error> {
         // SAFETY: as in `read`.
-        Type::made(|handle, fault| unsafe { sys::colock_type_counter(handle, kind as u32, cap, amounts.as_ptr(), amounts.len(), fault) })
+        Type::made(Source::family("counter", cap, amounts), |handle, fault| unsafe {
+            sys::colock_type_counter(handle, kind as u32, cap, amounts.as_ptr(), amounts.len(), fault)
+        })
     }
 
     /// A set: `insert:E`, `delete:E` and `member:E` for each element E, which are names.
@@ -110,7 +118,7 @@ impl Type {
     pub fn set(elements: &[&str], kind: Kind) -> Result<Type, Error> {
         let text = spaced(elements)?;
         // SAFETY: as in `read`.
-        Type::made(|handle, fault| unsafe { sys::colock_type_set(handle, kind as u32, text.as_ptr(), text.len(), fault) })
+        Type::made(Source::family("set", 0, elements), |handle, fault| unsafe { sys::colock_type_set(handle, kind as u32, text.as_ptr(), text.len(), fault) })
     }
 
     /// A semiqueue of at most `capacity` items: `enq:E` for each element E, and `deq`, whose reply is any item.
@@ -127,25 +135,31 @@ impl Type {
     pub fn semiqueue(elements: &[&str], capacity: u64, kind: Kind) -> Result<Type, Error> {
         let text = spaced(elements)?;
         // SAFETY: as in `read`.
-        Type::made(|handle, fault| unsafe { sys::colock_type_semiqueue(handle, kind as u32, text.as_ptr(), text.len(), capacity, fault) })
+        Type::made(Source::family("semiqueue", capacity, elements), |handle, fault| unsafe {
+            sys::colock_type_semiqueue(handle, kind as u32, text.as_ptr(), text.len(), capacity, fault)
+        })
     }
 
-    fn made(make: impl FnOnce(*mut sys::Handle, *mut sys::Fault) -> u32) -> Result<Type, Error> {
+    fn made(source: Source, make: impl FnOnce(*mut sys::Handle, *mut sys::Fault) -> u32) -> Result<Type, Error> {
         let mut fault = sys::Fault::default();
         match Handle::made(|handle| make(handle, &mut fault)) {
-            Ok(handle) => Ok(Type(handle)),
+            Ok(handle) => Ok(Type { handle, source }),
             Err((code, _)) => Err(Error::of_type(code, &fault)),
         }
     }
 
     pub(crate) fn handle(&self) -> &Handle {
-        &self.0
+        &self.handle
+    }
+
+    pub(crate) fn source(&self) -> &Source {
+        &self.source
     }
 
     fn shape(&self) -> sys::Shape {
         let mut shape = sys::Shape::default();
         // SAFETY: a handle as `Handle::at` says. It holds a type, of which this is always told.
-        unsafe { sys::colock_type_shape(self.0.at(), &mut shape) };
+        unsafe { sys::colock_type_shape(self.handle.at(), &mut shape) };
         shape
     }
 
@@ -206,7 +220,7 @@ impl Type {
     /// ```
     pub fn name(&self) -> String {
         // SAFETY: `told` gives a room of its own; the handle is as `Handle::at` says, as in all below.
-        told(|room, count| unsafe { sys::colock_type_name(self.0.at(), room.as_mut_ptr(), room.len(), count) })
+        told(|room, count| unsafe { sys::colock_type_name(self.handle.at(), room.as_mut_ptr(), room.len(), count) })
             .expect("the handle holds a type, and the room has place for the longest name")
     }
 
@@ -223,7 +237,7 @@ impl Type {
     /// [`Error::NoOperation`].
     pub fn call_name(&self, operation: u64) -> Result<String, Error> {
         // SAFETY: as in `name`.
-        told(|room, count| unsafe { sys::colock_type_call(self.0.at(), operation, room.as_mut_ptr(), room.len(), count) })
+        told(|room, count| unsafe { sys::colock_type_call(self.handle.at(), operation, room.as_mut_ptr(), room.len(), count) })
     }
 
     /// The reply of an operation.
@@ -239,7 +253,7 @@ impl Type {
     /// [`Error::NoOperation`].
     pub fn reply_name(&self, operation: u64) -> Result<String, Error> {
         // SAFETY: as in `name`.
-        told(|room, count| unsafe { sys::colock_type_reply(self.0.at(), operation, room.as_mut_ptr(), room.len(), count) })
+        told(|room, count| unsafe { sys::colock_type_reply(self.handle.at(), operation, room.as_mut_ptr(), room.len(), count) })
     }
 
     /// The state to which an operation leads from a state; `None` where it isn't legal there.
@@ -257,7 +271,7 @@ impl Type {
     pub fn step(&self, state: u64, operation: u64) -> Result<Option<u64>, Error> {
         let mut to = 0;
         // SAFETY: as in `name`.
-        match unsafe { sys::colock_type_step(self.0.at(), state, operation, &mut to) } {
+        match unsafe { sys::colock_type_step(self.handle.at(), state, operation, &mut to) } {
             sys::code::NOT_LEGAL => Ok(None),
             code => done(code).map(|()| Some(to)),
         }
@@ -278,8 +292,45 @@ impl Type {
     pub fn conflicts(&self, requested: u64, held: u64) -> Result<bool, Error> {
         let mut told = 0;
         // SAFETY: as in `name`.
-        done(unsafe { sys::colock_type_conflict(self.0.at(), requested, held, &mut told) })?;
+        done(unsafe { sys::colock_type_conflict(self.handle.at(), requested, held, &mut told) })?;
         Ok(told == 1)
+    }
+
+    /// The operation of a call and a reply.
+    ///
+    /// ```
+    /// # use colock::{Error, Kind, Type};
+    /// # let counter = Type::counter(5, &[1], Kind::Undo)?;
+    /// assert_eq!(counter.operation("dec:1", "ok"), Ok(1));
+    /// assert_eq!(counter.operation("dec:1", "short"), Err(Error::NoOperation));
+    /// # Ok::<(), Error>(())
+    /// ```
+    ///
+    /// # Errors
+    ///
+    /// [`Error::NoOperation`].
+    pub fn operation(&self, call: &str, reply: &str) -> Result<u64, Error> {
+        for operation in 0..self.operations() {
+            if self.call_name(operation)? == call && self.reply_name(operation)? == reply {
+                return Ok(operation);
+            }
+        }
+        Err(Error::NoOperation)
+    }
+
+    /// As [`Type::conflicts`], of operations by their calls and replies.
+    ///
+    /// ```
+    /// # let counter = colock::Type::counter(5, &[1], colock::Kind::Undo)?;
+    /// assert!(counter.conflicts_named(("dec:1", "ok"), ("inc:1", "ok"))?);
+    /// # Ok::<(), colock::Error>(())
+    /// ```
+    ///
+    /// # Errors
+    ///
+    /// [`Error::NoOperation`].
+    pub fn conflicts_named(&self, requested: (&str, &str), held: (&str, &str)) -> Result<bool, Error> {
+        self.conflicts(self.operation(requested.0, requested.1)?, self.operation(held.0, held.1)?)
     }
 }
 

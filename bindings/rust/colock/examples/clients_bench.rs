@@ -1,0 +1,173 @@
+//! `clients_bench PART SECONDS [DATABASE]`: what waiting and turns cost, beside a plain mutex. It prints lines `NAME VALUE`,
+//! each value a number of commits a second.
+//!
+//! - `think`: sixteen threads count one counter up, and each transaction thinks for a millisecond.
+//! - `mixed`: the same, where each thread counts down and up by turns, by calls that wait.
+//! - `turns`: nobody thinks; one thread, and four, count a counter up and down by turns.
+//! - `child`: sixteen threads count a wheel on at a store in a file, which is made where nothing is there.
+//!
+//! The plain counter is held for the whole of a transaction; of its log each transaction has three entries.
+
+use colock::{Error, Event, Kind, OpenOptions, SharedStore, Type};
+use std::error::Error as AnyError;
+use std::sync::atomic::{AtomicBool, AtomicU64, Ordering};
+use std::sync::Mutex;
+use std::thread;
+use std::time::{Duration, Instant};
+
+const THREADS: u64 = 16;
+const THINKING: Duration = Duration::from_millis(1);
+const LONG: Duration = Duration::from_secs(60);
+
+/// A counter with a log, for a mutex round it. An entry of the log is an event as a store has them.
+struct Plain {
+    count: u64,
+    begun: u64,
+    log: Vec<Event>,
+}
+
+impl Plain {
+    fn new() -> Mutex<Plain> {
+        Mutex::new(Plain { count: 500, begun: 0, log: Vec::new() })
+    }
+
+    fn count(&mut self, is_up: bool) {
+        let transaction = self.begun;
+        self.begun += 1;
+        self.log.push(Event::Begin { worker: 0, transaction });
+        self.count = if is_up { self.count + 1 } else { self.count - 1 };
+        self.log.push(Event::Operation { worker: 0, transaction, object: 0, operation: u32::from(!is_up) });
+    }
+
+    fn commit(&mut self) {
+        self.log.push(Event::Commit { worker: 0, transaction: self.begun - 1 });
+    }
+
+    /// How many commits there are by the log, which is to be kept.
+    fn commits(&self) -> usize {
+        self.log.iter().filter(|event| matches!(event, Event::Commit { .. })).count()
+    }
+}
+
+/// How often threads do something in a second, for so long. What they do is told the thread and the time.
+fn per_second(threads: u64, limit: Duration, act: impl Fn(u64, u64) + Sync) -> f64 {
+    let (is_over, count) = (AtomicBool::new(false), AtomicU64::new(0));
+    let start = Instant::now();
+    thread::scope(|scope| {
+        for thread in 0..threads {
+            let (act, is_over, count) = (&act, &is_over, &count);
+            scope.spawn(move || {
+                let mut done = 0;
+                while !is_over.load(Ordering::Relaxed) {
+                    act(thread, done);
+                    done += 1;
+                }
+                count.fetch_add(done, Ordering::Relaxed);
+            });
+        }
+        thread::sleep(limit);
+        is_over.store(true, Ordering::Relaxed);
+    });
+    count.load(Ordering::Relaxed) as f64 / start.elapsed().as_secs_f64()
+}
+
+/// One transaction that thinks: by a turn of the plain counter.
+fn think_plainly(plain: &Mutex<Plain>, is_up: bool) {
+    let mut plain = plain.lock().unwrap();
+    plain.count(is_up);
+    thread::sleep(THINKING);
+    plain.commit();
+}
+
+/// A wheel of two places, all of whose ticks commute.
+fn wheel() -> Result<Type, Error> {
+    Type::from_steps("wheel", false, &[("tick", "ok"), ("at", "0"), ("at", "1")], Kind::Undo, |is_at_one, operation| match operation {
+        ("tick", _) => Some(!is_at_one),
+        (_, place) => (*is_at_one == (place == "1")).then_some(*is_at_one),
+    })
+}
+
+fn think(limit: Duration) -> Result<(), Error> {
+    let store = SharedStore::new([&wheel()?], u32::MAX.into())?;
+    let tick = store.call_number(0, "tick")?;
+    let shared = per_second(THREADS, limit, |_, _| {
+        let mut t = store.begin().unwrap();
+        t.call_op(0, tick).unwrap().executed().unwrap();
+        thread::sleep(THINKING);
+        t.commit().unwrap();
+    });
+    let plain = Plain::new();
+    let mutex = per_second(THREADS, limit, |_, _| think_plainly(&plain, true));
+    println!("think_store {shared:.0}\nthink_mutex {mutex:.0}");
+    Ok(())
+}
+
+/// A store of a counter that is half full.
+fn half_full() -> Result<SharedStore, Error> {
+    let counter = Type::counter(1000, &[1, 500], Kind::Undo)?;
+    let store = SharedStore::new([&counter], u32::MAX.into())?;
+    store.transact(|turn| turn.call(0, "inc:500")?.executed())?;
+    Ok(store)
+}
+
+fn mixed(limit: Duration) -> Result<(), Error> {
+    let store = half_full()?;
+    let calls = [store.call_number(0, "dec:1")?, store.call_number(0, "inc:1")?];
+    let shared = per_second(THREADS, limit, |_, done| {
+        let mut t = store.begin().unwrap();
+        t.call_op_within(0, calls[(done % 2) as usize], LONG).unwrap().executed().unwrap();
+        thread::sleep(THINKING);
+        t.commit().unwrap();
+    });
+    let plain = Plain::new();
+    let mutex = per_second(THREADS, limit, |_, done| think_plainly(&plain, done % 2 == 1));
+    println!("mixed_store {shared:.0}\nmixed_mutex {mutex:.0}");
+    Ok(())
+}
+
+fn turns(limit: Duration) -> Result<(), Error> {
+    for threads in [1, 4] {
+        let store = half_full()?;
+        let calls = [store.call_number(0, "dec:1")?, store.call_number(0, "inc:1")?];
+        let shared = per_second(threads, limit, |_, done| {
+            let done = store.transact(|turn| turn.call_op(0, calls[(done % 2) as usize])?.executed());
+            assert!(done.is_ok());
+        });
+        drop(store);
+        let plain = Plain::new();
+        let mutex = per_second(threads, limit, |_, done| {
+            let mut plain = plain.lock().unwrap();
+            plain.count(done % 2 == 1);
+            plain.commit();
+        });
+        assert!(plain.lock().unwrap().commits() > 0);
+        println!("turns_store_{threads} {shared:.0}\nturns_mutex_{threads} {mutex:.0}");
+    }
+    Ok(())
+}
+
+fn child(limit: Duration, path: &str) -> Result<(), Error> {
+    let wheel = wheel()?;
+    let store = OpenOptions::new().objects(&[&wheel]).create(true).open(path)?;
+    let tick = store.call_number(0, "tick")?;
+    let shared = per_second(THREADS, limit, |_, _| {
+        let mut t = store.begin().unwrap();
+        t.call_op(0, tick).unwrap().executed().unwrap();
+        t.commit().unwrap();
+    });
+    println!("child_store {shared:.0}");
+    store.close()
+}
+
+fn main() -> Result<(), Box<dyn AnyError>> {
+    let words: Vec<String> = std::env::args().skip(1).collect();
+    let limit = |seconds: &String| seconds.parse().map(Duration::from_secs_f64);
+    match &words[..] {
+        [part, seconds] if part == "think" => think(limit(seconds)?)?,
+        [part, seconds] if part == "mixed" => mixed(limit(seconds)?)?,
+        [part, seconds] if part == "turns" => turns(limit(seconds)?)?,
+        [part, seconds, path] if part == "child" => child(limit(seconds)?, path)?,
+        _ => return Err("clients_bench think|mixed|turns SECONDS, or child SECONDS DATABASE".into()),
+    }
+    Ok(())
+}

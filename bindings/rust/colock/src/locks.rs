@@ -1,0 +1,8 @@
+use std::sync::{Mutex, MutexGuard, PoisonError};
+
+/// The lock of a mutex. No panic of this crate leaves anything half done, and a panic in a caller's function, which
+/// poisons the mutex, comes between two calls.
+#[inline]
+pub(crate) fn locked<T>(mutex: &Mutex<T>) -> MutexGuard<'_, T> {
+    mutex.lock().unwrap_or_else(PoisonError::into_inner)
+}

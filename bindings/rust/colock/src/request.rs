@@ -1,0 +1,211 @@
+//! The lines of `colock serve`: what is asked, and what is answered.
+
+use crate::error::Error;
+use crate::event::Event;
+use std::fmt;
+use std::str::FromStr;
+
+/// A transaction of a store: the life in which it began, and its number. It is displayed as `S.N`.
+#[derive(Clone, Copy, Debug, PartialEq, Eq)]
+pub(crate) struct Id {
+    pub(crate) life: u64,
+    pub(crate) number: u64,
+}
+
+impl fmt::Display for Id {
+    fn fmt(&self, f: &mut fmt::Formatter<'_>) -> fmt::Result {
+        write!(f, "{}.{}", self.life, self.number)
+    }
+}
+
+impl FromStr for Id {
+    type Err = ();
+
+    fn from_str(text: &str) -> Result<Id, ()> {
+        let (life, number) = text.split_once('.').ok_or(())?;
+        Ok(Id { life: decimal(life)?, number: decimal(number)? })
+    }
+}
+
+/// A number of digits alone.
+fn decimal(text: &str) -> Result<u64, ()> {
+    if text.bytes().all(|byte| byte.is_ascii_digit()) {
+        text.parse().map_err(drop)
+    } else {
+        Err(())
+    }
+}
+
+/// What is asked. It is displayed as its line, without the tag.
+#[derive(Clone, Copy, Debug)]
+pub(crate) enum Request<'a> {
+    Begin,
+    Call(Id, u32, &'a str),
+    Would(Id, u32, &'a str),
+    Commit(Id),
+    Abort(Id),
+    Rollback(Id, u32),
+    Kept(u32),
+    Objects,
+    Types,
+    Events(u32, u32),
+    Stats,
+    End,
+}
+
+impl Request<'_> {
+    /// Whether lines come before the last one of its answer.
+    pub(crate) fn is_list(&self) -> bool {
+        matches!(self, Request::Objects | Request::Types | Request::Events(..))
+    }
+
+    /// The transaction that it commits.
+    pub(crate) fn committed(&self) -> Option<Id> {
+        match self {
+            Request::Commit(id) => Some(*id),
+            _ => None,
+        }
+    }
+}
+
+impl fmt::Display for Request<'_> {
+    fn fmt(&self, f: &mut fmt::Formatter<'_>) -> fmt::Result {
+        match self {
+            Request::Begin => f.write_str("begin"),
+            Request::Call(id, object, name) => write!(f, "call {id} {object} {name}"),
+            Request::Would(id, object, name) => write!(f, "would {id} {object} {name}"),
+            Request::Commit(id) => write!(f, "commit {id}"),
+            Request::Abort(id) => write!(f, "abort {id}"),
+            Request::Rollback(id, count) => write!(f, "rollback {id} {count}"),
+            Request::Kept(object) => write!(f, "kept {object}"),
+            Request::Objects => f.write_str("objects"),
+            Request::Types => f.write_str("types"),
+            Request::Events(from, count) => write!(f, "events {from} {count}"),
+            Request::Stats => f.write_str("stats"),
+            Request::End => f.write_str("end"),
+        }
+    }
+}
+
+/// The last line of an answer, without the tag.
+#[derive(Clone, Debug, PartialEq, Eq)]
+pub(crate) enum Answer<'a> {
+    /// It is done, with what is behind the word.
+    Ok(&'a str),
+    Reply(&'a str),
+    Busy(Id),
+    /// The epoch is full.
+    Drain,
+    None,
+    Refused(Error),
+}
+
+/// The answer of a line; nothing where it is none.
+pub(crate) fn answer(line: &str) -> Option<Answer<'_>> {
+    let (word, rest) = line.split_once(' ').unwrap_or((line, ""));
+    match (word, rest) {
+        ("ok", rest) => Some(Answer::Ok(rest)),
+        ("reply", name) if !name.is_empty() => Some(Answer::Reply(name)),
+        ("busy", "drain") => Some(Answer::Drain),
+        ("busy", id) => id.parse().ok().map(Answer::Busy),
+        ("none", "") => Some(Answer::None),
+        ("refused", kind) => refusal(kind).map(Answer::Refused),
+        _ => None,
+    }
+}
+
+fn refusal(kind: &str) -> Option<Error> {
+    Some(match kind {
+        "NotOpen" => Error::NotOpen,
+        "NoObject" => Error::NoObject,
+        "NoCall" => Error::NoCall,
+        "TooManyOpen" => Error::TooManyOpen,
+        "HistoryFull" => Error::HistoryFull,
+        "NoMemory" => Error::NoMemory,
+        "BadRollback" => Error::BadRollback,
+        _ => return None,
+    })
+}
+
+/// The event of a line of a history; nothing where it is none.
+pub(crate) fn event(line: &str) -> Option<Event> {
+    let mut words = line.split(' ');
+    let kind = words.next()?;
+    let mut number = || words.next().and_then(|word| decimal(word).ok());
+    let (worker, transaction) = (u8::try_from(number()?).ok()?, number()?);
+    let small = |number: u64| u32::try_from(number).ok();
+    let event = match kind {
+        "begin" => Event::Begin { worker, transaction },
+        "op" => Event::Operation { worker, transaction, object: small(number()?)?, operation: small(number()?)? },
+        "busy" => Event::Busy { worker, transaction, object: small(number()?)?, call: small(number()?)?, blocker: number()? },
+        "none" => Event::None { worker, transaction, object: small(number()?)?, call: small(number()?)? },
+        "commit" => Event::Commit { worker, transaction },
+        "abort" => Event::Abort { worker, transaction },
+        "rollback" => Event::Rollback { worker, transaction, operations: number()? },
+        _ => return None,
+    };
+    words.next().is_none().then_some(event)
+}
+
+#[cfg(test)]
+mod tests {
+    use super::{answer, event, Answer, Id, Request};
+    use crate::{Error, Event};
+
+    #[test]
+    fn requests_are_spelled() {
+        let id = Id { life: 3, number: 14 };
+        let rows = [
+            (Request::Begin, "begin"),
+            (Request::Call(id, 2, "inc:1"), "call 3.14 2 inc:1"),
+            (Request::Would(id, 2, "inc:1"), "would 3.14 2 inc:1"),
+            (Request::Rollback(id, 4_294_967_295), "rollback 3.14 4294967295"),
+            (Request::Events(5, 65_536), "events 5 65536"),
+        ];
+        for (request, line) in rows {
+            assert_eq!(request.to_string(), line);
+        }
+    }
+
+    #[test]
+    fn answers_are_read() {
+        let rows = [
+            ("ok", Some(Answer::Ok(""))),
+            ("ok 3.14", Some(Answer::Ok("3.14"))),
+            ("reply ok", Some(Answer::Reply("ok"))),
+            ("busy 3.14", Some(Answer::Busy(Id { life: 3, number: 14 }))),
+            ("busy drain", Some(Answer::Drain)),
+            ("none", Some(Answer::None)),
+            ("refused NotOpen", Some(Answer::Refused(Error::NotOpen))),
+            ("refused Else", None),
+            ("fault BadTag", None),
+            ("busy 3", None),
+            ("busy 3.+4", None),
+            ("none 4", None),
+            ("reply", None),
+            ("", None),
+        ];
+        for (line, wanted) in rows {
+            assert_eq!(answer(line), wanted, "{line}");
+        }
+    }
+
+    #[test]
+    fn events_are_read_as_they_are_displayed() {
+        let events = [
+            Event::Begin { worker: 0, transaction: 7 },
+            Event::Operation { worker: 255, transaction: 7, object: 1, operation: 2 },
+            Event::Busy { worker: 0, transaction: 7, object: 1, call: 2, blocker: 3 },
+            Event::None { worker: 0, transaction: 7, object: 1, call: 2 },
+            Event::Commit { worker: 0, transaction: 7 },
+            Event::Abort { worker: 0, transaction: 7 },
+            Event::Rollback { worker: 0, transaction: 7, operations: 4 },
+        ];
+        for wanted in events {
+            assert_eq!(event(&wanted.to_string()), Some(wanted));
+        }
+        for wrong in ["", "begin", "begin 0", "begin 256 0", "begin 0 0 0", "op 0 0 0", "other 0 0", "begin 0 x"] {
+            assert_eq!(event(wrong), None, "{wrong}");
+        }
+    }
+}

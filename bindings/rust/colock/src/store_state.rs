@@ -1,0 +1,136 @@
+//! What is under the one lock of a shared store.
+
+use crate::child::Conversation;
+use crate::error::Error;
+use crate::request::{Id, Request};
+use crate::slot::Slot;
+use crate::stats::Stats;
+use crate::store::Store;
+use crate::transaction::Transaction;
+use crate::waiting::{Verdict, Waiting};
+use std::collections::BTreeMap;
+use std::mem::ManuallyDrop;
+use std::sync::Arc;
+
+/// Where the store is.
+#[derive(Debug)]
+pub(crate) enum Held {
+    Memory(Store),
+    Child(Served),
+}
+
+/// A store behind a child, with what the client knows of it.
+#[derive(Debug)]
+pub(crate) struct Served {
+    pub(crate) conversation: Conversation,
+    /// Who is open, and the last moment at which operations were taken back.
+    pub(crate) open: BTreeMap<u64, u64>,
+    /// How often operations were taken back.
+    pub(crate) moment: u64,
+}
+
+/// A transaction, by what every call of it needs.
+#[derive(Clone, Copy, Debug)]
+pub(crate) struct Ticket {
+    pub(crate) id: Id,
+    pub(crate) age: u64,
+    pub(crate) worker: u8,
+}
+
+/// What is under the lock.
+#[derive(Debug)]
+pub(crate) struct State {
+    pub(crate) held: Held,
+    pub(crate) waiting: Waiting,
+    pub(crate) stats: Stats,
+    /// Of a child the life that was told last, in memory how often the store began anew.
+    pub(crate) life: u64,
+}
+
+impl State {
+    pub(crate) fn new(held: Held, objects: usize, life: u64) -> State {
+        State { held, waiting: Waiting::new(), stats: Stats::new(objects), life }
+    }
+
+    /// The store in memory.
+    #[inline]
+    pub(crate) fn memory(&mut self) -> Result<&mut Store, Error> {
+        match &mut self.held {
+            Held::Memory(store) => Ok(store),
+            Held::Child(_) => Err(Error::InMemoryOnly),
+        }
+    }
+
+    /// Writes a request to the child, whose answer comes into the slot.
+    pub(crate) fn send(&mut self, request: Request<'_>) -> Result<Arc<Slot>, Error> {
+        self.served()?.conversation.send(request)
+    }
+
+    /// The store behind a child.
+    pub(crate) fn served(&mut self) -> Result<&mut Served, Error> {
+        match &mut self.held {
+            Held::Child(served) => Ok(served),
+            Held::Memory(_) => Err(Error::ConnectionLost("the store is in memory".to_string())),
+        }
+    }
+
+    /// A transaction has begun over a child. Where a later life was told meanwhile, it has been aborted.
+    pub(crate) fn began(&mut self, id: Id) {
+        self.told_life(id.life);
+        if let (Held::Child(served), true) = (&mut self.held, id.life == self.life) {
+            served.open.insert(id.number, 0);
+        }
+    }
+
+    /// Whether the transaction can still be open: why not, if not.
+    #[inline]
+    pub(crate) fn is_of_life(&self, ticket: Ticket) -> Result<(), Error> {
+        match self.held {
+            _ if ticket.id.life == self.life => Ok(()),
+            Held::Memory(_) => Err(Error::NotOpen),
+            Held::Child(_) => Err(Error::EpochEnded),
+        }
+    }
+
+    /// Whether a transaction of the present life is open.
+    pub(crate) fn is_open(&self, number: u64) -> bool {
+        match &self.held {
+            Held::Memory(store) => resumed(store, 0, number).would_op(0, 0) != Err(Error::NotOpen),
+            Held::Child(served) => served.open.contains_key(&number),
+        }
+    }
+
+    /// A life was told. Where it is a new one, what was open has been aborted.
+    pub(crate) fn told_life(&mut self, life: u64) {
+        if let (Held::Child(served), true) = (&mut self.held, life > self.life) {
+            self.life = life;
+            served.open.clear();
+            self.waiting.release_all(Verdict::EpochEnded);
+        }
+    }
+}
+
+impl Served {
+    pub(crate) fn new(conversation: Conversation) -> Served {
+        Served { conversation, open: BTreeMap::new(), moment: 0 }
+    }
+
+    /// Whether a blocker that was told of may have let go since a moment.
+    pub(crate) fn has_let_go(&self, number: u64, since: u64) -> bool {
+        self.open.get(&number).is_none_or(|moment| *moment > since)
+    }
+
+    /// A transaction takes operations back.
+    pub(crate) fn takes_back(&mut self, number: u64) {
+        self.moment += 1;
+        if let Some(moment) = self.open.get_mut(&number) {
+            *moment = self.moment;
+        }
+    }
+}
+
+/// A transaction of a store in memory, which isn't aborted where this is dropped.
+#[inline]
+pub(crate) fn resumed(store: &Store, worker: u8, number: u64) -> ManuallyDrop<Transaction<'_>> {
+    ManuallyDrop::new(Transaction::of(store, worker, number))
+}

@@ -1,0 +1,162 @@
+//! What the tests of shared stores have in common: a store in memory or in a file, from one list of types.
+#![allow(dead_code, unused_macros)] // each file of tests uses a part
+
+use colock::{Kind, OpenOptions, SharedStore, Type};
+use std::env;
+use std::fs;
+use std::ops::Deref;
+use std::path::{Path, PathBuf};
+use std::process;
+use std::sync::atomic::{AtomicU64, Ordering};
+use std::thread;
+use std::time::{Duration, Instant};
+
+/// More than any wait that ends takes.
+pub const LONG: Duration = Duration::from_secs(60);
+
+/// The program. The tests over a child can't do without.
+pub fn program() -> PathBuf {
+    let named = env::var_os("COLOCK").expect("COLOCK has to name the program `colock`: the tests over a child need it");
+    fs::canonicalize(&named).expect("the program that COLOCK names has to be there")
+}
+
+/// A folder that goes away where this is dropped.
+pub struct Folder(PathBuf);
+
+impl Folder {
+    pub fn new() -> Folder {
+        static COUNT: AtomicU64 = AtomicU64::new(0);
+        let path = env::temp_dir().join(format!("colock-test-{}-{}", process::id(), COUNT.fetch_add(1, Ordering::Relaxed)));
+        fs::create_dir(&path).unwrap();
+        Folder(path)
+    }
+
+    pub fn file(&self, name: &str) -> PathBuf {
+        self.0.join(name)
+    }
+
+    pub fn path(&self) -> &Path {
+        &self.0
+    }
+}
+
+impl Drop for Folder {
+    fn drop(&mut self) {
+        let _ = fs::remove_dir_all(&self.0);
+    }
+}
+
+/// A store, with the folder of its file where it has one.
+pub struct Fixture {
+    store: SharedStore,
+    _folder: Option<Folder>,
+}
+
+impl Fixture {
+    /// The store without its gate.
+    pub fn without_gate(self) -> Fixture {
+        let Fixture { store, _folder } = self;
+        Fixture { store: store.without_gate(), _folder }
+    }
+
+    /// Closes the store.
+    pub fn close(self) -> Result<(), colock::Error> {
+        self.store.close()
+    }
+}
+
+impl Deref for Fixture {
+    type Target = SharedStore;
+
+    fn deref(&self) -> &SharedStore {
+        &self.store
+    }
+}
+
+/// How a store is made of its objects.
+pub type Make = fn(&[&Type]) -> Fixture;
+
+pub fn in_memory(objects: &[&Type]) -> Fixture {
+    Fixture { store: SharedStore::new(objects.iter().copied(), u32::MAX.into()).unwrap(), _folder: None }
+}
+
+pub fn over_a_child(objects: &[&Type]) -> Fixture {
+    let folder = Folder::new();
+    let store = OpenOptions::new().objects(objects).create(true).program(program()).open(folder.file("a.db")).unwrap();
+    Fixture { store, _folder: Some(folder) }
+}
+
+/// Each of these tests over both: a function of how a store is made.
+macro_rules! over_both {
+    ($($name:ident),* $(,)?) => {
+        mod in_memory {
+            $(#[test] fn $name() { super::$name($crate::common::in_memory) })*
+        }
+        mod over_a_child {
+            $(#[test] fn $name() { super::$name($crate::common::over_a_child) })*
+        }
+    };
+}
+
+/// A counter up to 1,000, by 1 and by 500.
+pub fn counter() -> Type {
+    Type::counter(1000, &[1, 500], Kind::Undo).unwrap()
+}
+
+/// A store of so many counters, each at 500.
+pub fn filled(make: Make, objects: u32) -> Fixture {
+    let of = counter();
+    let store = make(&vec![&of; objects as usize]);
+    for object in 0..objects {
+        store.transact(|turn| turn.call(object, "inc:500")?.executed()).unwrap();
+    }
+    store
+}
+
+/// Waits until something is so, and fails where it isn't in a long time.
+pub fn until(is_so: impl Fn() -> bool) {
+    let start = Instant::now();
+    while !is_so() {
+        assert!(start.elapsed() < LONG, "it didn't come to that");
+        thread::sleep(Duration::from_millis(1));
+    }
+}
+
+/// Waits until so many sleeps were begun.
+pub fn until_asleep(store: &SharedStore, sleeps: u64) {
+    until(|| store.stats().waits >= sleeps);
+}
+
+/// The lines of the events from a place on.
+pub fn lines(store: &SharedStore, start: u64) -> Vec<String> {
+    store.events(start).unwrap().iter().map(ToString::to_string).collect()
+}
+
+/// The text of a type, without conflicts.
+pub fn text_of(of: &Type) -> String {
+    let mut text = format!("type {}\nstates {}\ninitial {}\n", of.name(), of.states(), of.initial());
+    for k in 0..of.operations() {
+        text += &format!("op {} {}\n", of.call_name(k).unwrap(), of.reply_name(k).unwrap());
+    }
+    for (state, k) in (0..of.states()).flat_map(|state| (0..of.operations()).map(move |k| (state, k))) {
+        if let Some(to) = of.step(state, k).unwrap() {
+            text += &format!("step {state} {k} {to}\n");
+        }
+    }
+    text + "end\n"
+}
+
+/// Numbers that look random, by a seed.
+pub struct Drawn(u64);
+
+impl Drawn {
+    pub fn new(seed: u64) -> Drawn {
+        Drawn(seed.wrapping_mul(0x9e37_79b9_7f4a_7c15) ^ 0x5851_f42d_4c95_7f2d)
+    }
+
+    /// A number below this one.
+    pub fn below(&mut self, most: u64) -> u64 {
+        self.0 = self.0.wrapping_mul(6_364_136_223_846_793_005).wrapping_add(1_442_695_040_888_963_407);
+        (self.0 >> 33) % most
+    }
+}

@@ -1,0 +1,319 @@
+//! A child that isn't as it should be: a script of the shell, which says what a test wants. None makes a client hang.
+
+mod common;
+
+use colock::{Error, OpenOptions, Reply, SharedStore, SharedTransaction};
+use common::{until_asleep, Folder, LONG};
+use std::fs;
+use std::os::unix::fs::PermissionsExt;
+use std::sync::{Mutex, MutexGuard, PoisonError};
+use std::thread;
+use std::time::{Duration, Instant};
+
+/// How long an answer may take in these tests.
+const LIMIT: Duration = Duration::from_millis(500);
+
+/// More than the limit, and less than what a test waits for a hang.
+const SOON: Duration = Duration::from_secs(5);
+
+/// A program that greets, and tells of one counter from 0 to 2. Further arms of its `case` come in the place of BODY.
+const SERVED: &str = r#"#!/bin/sh
+echo "colock 1 1"
+while read -r tag verb rest; do
+    case "$verb" in
+    objects) echo "$tag object undo 0"; echo "$tag ok" ;;
+    types)
+        for line in "type counter" "states 3" "initial 0" "op inc:1 ok" "op dec:1 ok" \
+            "step 0 0 1" "step 1 0 2" "step 1 1 0" "step 2 1 1" "conflict undo 0 1" "conflict undo 1 0" "end" ""; do
+            echo "$tag $line"
+        done
+        echo "$tag ok" ;;
+    BODY
+    esac
+done
+"#;
+
+/// A folder with a program. One test at a time: a script that is written can't be started while it is open, and another
+/// test that starts its own just then would have it open.
+struct Fake {
+    folder: Folder,
+    _turn: MutexGuard<'static, ()>,
+}
+
+impl Fake {
+    /// A program of this text.
+    fn of(text: &str) -> Fake {
+        static TURN: Mutex<()> = Mutex::new(());
+        let turn = TURN.lock().unwrap_or_else(PoisonError::into_inner);
+        let folder = Folder::new();
+        let program = folder.file("fake");
+        fs::write(&program, text).unwrap();
+        fs::set_permissions(&program, fs::Permissions::from_mode(0o755)).unwrap();
+        fs::write(folder.file("a.db"), "").unwrap();
+        Fake { folder, _turn: turn }
+    }
+
+    /// A program that serves, with more arms of its `case`.
+    fn serving(arms: &str) -> Fake {
+        Fake::of(&SERVED.replace("BODY", arms))
+    }
+
+    /// The same turn, with another program.
+    fn serving_again(self, arms: &str) -> Fake {
+        let Fake { folder, _turn } = self;
+        fs::write(folder.file("fake"), SERVED.replace("BODY", arms)).unwrap();
+        Fake { folder, _turn }
+    }
+
+    fn open(&self) -> Result<SharedStore, Error> {
+        OpenOptions::new().program(self.folder.file("fake")).limit(LIMIT).open(self.folder.file("a.db"))
+    }
+
+    /// The words with which it isn't opened, which come soon.
+    fn refused(&self) -> String {
+        let start = Instant::now();
+        let opened = self.open();
+        assert!(start.elapsed() < SOON, "{:?}", start.elapsed());
+        match opened {
+            Err(Error::CannotOpen(words)) => words,
+            other => panic!("{other:?}"),
+        }
+    }
+}
+
+/// The words with which a child is lost, which come soon.
+fn lost<T: std::fmt::Debug>(act: impl FnOnce() -> Result<T, Error>) -> String {
+    let start = Instant::now();
+    let done = act();
+    assert!(start.elapsed() < SOON, "{:?}", start.elapsed());
+    match done {
+        Err(Error::ConnectionLost(words)) => words,
+        other => panic!("{other:?}"),
+    }
+}
+
+#[test]
+fn greetings_are_looked_at() {
+    let rows = [
+        ("#!/bin/sh\necho 'colock 2 1'\nexec sleep 60\n", "version 2"),
+        ("#!/bin/sh\necho hello\nexec sleep 60\n", "no greeting: hello"),
+        ("#!/bin/sh\necho 'colock: a.db: cannot open' >&2\nexit 3\n", "colock: a.db: cannot open"),
+        ("#!/bin/sh\nexec sleep 60\n", "no answer within"),
+        ("#!/bin/sh\nprintf 'colock 1 1'\n", "no whole line"),
+        ("#!/bin/sh\nprintf '\\377\\n'\nexec sleep 60\n", "no whole line"),
+        ("#!/bin/sh\nhead -c 1000000 /dev/zero\nexec sleep 60\n", "no whole line"),
+        ("#!/bin/sh\necho 'colock 1 1'\necho '1 object redo 0'\necho '1 ok'\nexec sleep 60\n", ""),
+        ("#!/bin/sh\nexit 0\n", "the program ended"),
+    ];
+    for (text, words) in rows {
+        let told = Fake::of(text).refused();
+        assert!(told.contains(words), "{text}: {told}");
+    }
+    let nothing = Fake::of("not a program\n");
+    fs::set_permissions(nothing.folder.file("fake"), fs::Permissions::from_mode(0o644)).unwrap();
+    assert!(nothing.refused().contains("ermission denied"));
+}
+
+#[test]
+fn a_command_that_hangs_is_ended() {
+    let fake = Fake::of("#!/bin/sh\nexec sleep 60\n");
+    let (counter, start) = (common::counter(), Instant::now());
+    let options = OpenOptions::new().objects(&[&counter]).create(true).program(fake.folder.file("fake")).limit(LIMIT);
+    assert!(matches!(options.open(fake.folder.file("new.db")), Err(Error::CannotOpen(_))));
+    assert!(start.elapsed() < SOON);
+}
+
+#[test]
+fn broken_lines_are_no_answers() {
+    let rows = [
+        ("stats) echo \"$tag ok events\" ;;", "no answer to what was asked: events"),
+        ("stats) echo \"$tag hello\" ;;", "no answer to what was asked: hello"),
+        ("stats) echo \"$tag fault BadWords\" ;;", "no answer to what was asked: fault BadWords"),
+        ("stats) echo \"$tag\" ;;", "an answer to another request"),
+        ("stats) echo \"other ok events 0 begun 0 open 0\" ;;", "an answer to another request"),
+        ("stats) echo ;;", "an answer to another request"),
+        ("stats) printf '%s ok events 0' \"$tag\"; exit 0 ;;", "no whole line"),
+        ("stats) echo 'colock: a.db: cannot read or write' >&2; exit 3 ;;", "the program ended: colock: a.db: cannot read or write"),
+    ];
+    for (arm, words) in rows {
+        let fake = Fake::serving(arm);
+        let store = fake.open().unwrap();
+        let told = lost(|| store.event_count());
+        assert!(told.contains(words), "{arm}: {told}");
+        lost(|| store.begin().map(drop));
+        lost(|| store.kept(0));
+    }
+}
+
+#[test]
+fn an_answer_that_nobody_asked_for_is_a_loss() {
+    let fake = Fake::serving("kept) echo \"$tag ok 1\"; echo \"$tag ok 2\" ;;");
+    let store = fake.open().unwrap();
+    let _first = store.kept(0); // which was told, or lost already
+    common::until(|| store.kept(0).is_err());
+    // where the next request is on its way already, the line is another one's
+    let told = lost(|| store.kept(0));
+    assert!(told.contains("nobody asked for") || told.contains("another request"), "{told}");
+}
+
+#[test]
+fn lists_are_looked_at() {
+    for arm in ["events) echo \"$tag begin\"; echo \"$tag ok\" ;;", "events) echo \"$tag begin 0 0\"; echo \"$tag begin 0 1\"; exit 0 ;;"] {
+        let fake = Fake::serving(arm);
+        let store = fake.open().unwrap();
+        lost(|| store.events(0));
+    }
+}
+
+#[test]
+fn an_answer_that_is_late_is_a_loss() {
+    // the sleep has the pipe, and outlives the script
+    let fake = Fake::serving("stats) sleep 2; echo \"$tag ok events 0 begun 0 open 0\" ;;");
+    let store = fake.open().unwrap();
+    let start = Instant::now();
+    assert!(lost(|| store.event_count()).contains("no answer within 500ms"));
+    assert!((LIMIT..LIMIT + Duration::from_secs(1)).contains(&start.elapsed()), "{:?}", start.elapsed());
+    lost(|| store.begin().map(drop));
+    drop(store);
+    assert!(start.elapsed() < SOON);
+}
+
+/// A program whose first transaction holds what the second wants. Commits and counts are never answered.
+const SILENT: &str = "begin) echo \"$tag ok 1.$((n + 0))\"; n=$((n + 1)) ;;
+    call) case \"$rest\" in 1.1*) echo \"$tag busy 1.0\" ;; *) echo \"$tag reply ok\" ;; esac ;;
+    commit | stats) ;;";
+
+#[test]
+fn a_silent_child_is_lost_to_all() {
+    let fake = Fake::serving(SILENT);
+    let store = fake.open().unwrap();
+    let (mut first, mut second) = (store.begin().unwrap(), store.begin().unwrap());
+    assert_eq!(first.call(0, "inc:1"), Ok(Reply::Operation(0)));
+    thread::scope(|scope| {
+        let asleep = scope.spawn(move || second.call_within(0, "dec:1", LONG));
+        until_asleep(&store, 1);
+        let asking = scope.spawn(|| store.event_count());
+        thread::sleep(LIMIT / 4);
+        // an answer to this one can't come before that of the one before it
+        let committing = scope.spawn(move || first.commit());
+        lost(|| asleep.join().unwrap());
+        lost(|| asking.join().unwrap());
+        assert_eq!(committing.join().unwrap(), Err(Error::OutcomeUnknown("1.0".to_string())));
+    });
+    lost(|| store.begin().map(drop));
+}
+
+#[test]
+fn a_commit_wakes_before_it_is_answered() {
+    let body = "begin) echo \"$tag ok 1.$((n + 0))\"; n=$((n + 1)) ;;
+    call) if [ -z \"$told\" ]; then case \"$rest\" in 1.1*) told=1; echo \"$tag busy 1.0\" ;; *) echo \"$tag reply ok\" ;; esac
+        else echo \"$tag reply ok\"; fi ;;
+    would) echo \"$late ok\"; late=; echo \"$tag reply ok\" ;;
+    commit) if [ \"$rest\" = 1.0 ]; then late=$tag; else echo \"$tag ok\"; fi ;;";
+    let fake = Fake::serving(body);
+    let store = fake.open().unwrap();
+    let (mut first, mut second) = (store.begin().unwrap(), store.begin().unwrap());
+    assert_eq!(first.call(0, "inc:1"), Ok(Reply::Operation(0)));
+    thread::scope(|scope| {
+        let waiter = scope.spawn(move || second.call_within(0, "dec:1", LONG).and_then(|reply| second.commit().map(|()| reply)));
+        until_asleep(&store, 1);
+        // answered when the second one asks, which it does since this one is written
+        assert_eq!(first.commit(), Ok(()));
+        assert_eq!(waiter.join().unwrap(), Ok(Reply::Operation(1)));
+    });
+    assert_eq!(store.stats().commits, 2);
+}
+
+/// A program that answers the call of the second transaction when the first one ends or rolls back, with what was so before.
+/// A file beside it tells that it has the call.
+const BELATED: &str = r#"begin) echo "$tag ok 1.$((n + 0))"; n=$((n + 1)) ;;
+    call) case "$rest" in 1.1*) if [ -z "$told" ]; then told=1; late=$tag; : > "$0.called"; else echo "$tag reply ok"; fi ;;
+        *) echo "$tag reply ok" ;; esac ;;
+    rollback | commit | abort) if [ -n "$late" ]; then echo "$late busy 1.0"; late=; fi; echo "$tag ok" ;;
+    would) echo "$tag reply ok" ;;
+    end) echo "$tag ok"; exit 0 ;;"#;
+
+#[test]
+fn a_blocker_that_let_go_meanwhile_isnt_waited_for() {
+    type LetGo = fn(SharedTransaction<'_>);
+    let rows: [LetGo; 3] = [
+        |mut blocker| {
+            blocker.rollback(1).unwrap();
+            blocker.commit().unwrap();
+        },
+        |blocker| blocker.commit().unwrap(),
+        |blocker| blocker.abort().unwrap(),
+    ];
+    for let_go in rows {
+        let fake = Fake::serving(BELATED);
+        let store = fake.open().unwrap();
+        let (mut first, mut second) = (store.begin().unwrap(), store.begin().unwrap());
+        assert_eq!(first.call(0, "inc:1"), Ok(Reply::Operation(0)));
+        thread::scope(|scope| {
+            let waiter = scope.spawn(move || second.call_within(0, "dec:1", SOON));
+            common::until(|| fake.folder.file("fake.called").exists());
+            let_go(first);
+            assert_eq!(waiter.join().unwrap(), Ok(Reply::Operation(1)));
+        });
+        assert_eq!(store.stats().waits, 0);
+        assert_eq!(store.close(), Ok(()));
+    }
+}
+
+/// A program that ends its epoch before the third transaction begins.
+const RENEWED: &str = r#"begin) case "$n" in '') echo "$tag ok 1.0"; n=1 ;; 1) echo "$tag ok 1.1"; n=2 ;; *) echo "$tag ok 2.0" ;; esac ;;
+    call) case "$rest" in 1.1*) echo "$tag busy 1.0" ;; *) echo "$tag reply ok" ;; esac ;;
+    commit) case "$rest" in 1.*) echo "$tag refused NotOpen" ;; *) echo "$tag ok" ;; esac ;;
+    end) echo "$tag ok"; exit 0 ;;"#;
+
+#[test]
+fn transactions_of_an_epoch_that_ended_are_told_so() {
+    let fake = Fake::serving(RENEWED);
+    let store = fake.open().unwrap();
+    let (mut first, mut second) = (store.begin().unwrap(), store.begin().unwrap());
+    assert_eq!(first.call(0, "inc:1"), Ok(Reply::Operation(0)));
+    thread::scope(|scope| {
+        let asleep = scope.spawn(move || (second.call_within(0, "dec:1", LONG), second.commit()));
+        until_asleep(&store, 1);
+        let third = store.begin().unwrap();
+        assert_eq!(third.id(), "2.0");
+        assert_eq!(asleep.join().unwrap(), (Err(Error::EpochEnded), Err(Error::EpochEnded)));
+        assert_eq!((first.call(0, "inc:1"), first.rollback(1)), (Err(Error::EpochEnded), Err(Error::EpochEnded)));
+        assert_eq!(first.commit(), Err(Error::EpochEnded));
+        assert_eq!(third.commit(), Ok(()));
+    });
+    // without a word of a begin, a refusal says so
+    assert_eq!(store.close(), Ok(()));
+    let fake = fake.serving_again("begin) echo \"$tag ok 1.0\" ;; commit | call) echo \"$tag refused NotOpen\" ;;");
+    let store = fake.open().unwrap();
+    let mut t = store.begin().unwrap();
+    assert_eq!((t.call(0, "inc:1"), t.commit()), (Err(Error::EpochEnded), Err(Error::EpochEnded)));
+}
+
+#[test]
+fn a_full_epoch_is_asked_again() {
+    let later = "begin) n=\"$n.\"; if [ \"$n\" = .... ]; then echo \"$tag ok 2.0\"; else echo \"$tag busy drain\"; fi ;; abort) echo \"$tag ok\" ;;";
+    let fake = Fake::serving(later);
+    let store = fake.open().unwrap();
+    assert_eq!(store.begin().unwrap().id(), "2.0");
+    drop(store);
+    let fake = fake.serving_again("begin) echo \"$tag busy drain\" ;;");
+    let store = fake.open().unwrap();
+    let start = Instant::now();
+    assert_eq!(store.begin().err(), Some(Error::TimedOut));
+    assert!((LIMIT..SOON).contains(&start.elapsed()), "{:?}", start.elapsed());
+    let turn = store.transact(|turn| turn.call(0, "inc:1")?.executed());
+    assert_eq!(turn, Err(Error::TimedOut));
+}
+
+#[test]
+fn a_child_that_doesnt_end_is_killed() {
+    for arm in ["end) ;;", "end) echo \"$tag ok\"; exec sleep 60 ;;"] {
+        let fake = Fake::serving(arm);
+        let store = fake.open().unwrap();
+        let (process, start) = (store.child_process().unwrap(), Instant::now());
+        let _told = store.close();
+        assert!(start.elapsed() < SOON, "{:?}", start.elapsed());
+        assert!(!std::path::Path::new(&format!("/proc/{process}")).exists());
+    }
+}

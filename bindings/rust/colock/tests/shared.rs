@@ -1,0 +1,324 @@
+//! What a shared store does without waiting: calls, turns, counts, ends; in memory and over a child.
+
+#[macro_use]
+mod common;
+
+use colock::{Error, Event, Kind, Reply, Retry, SharedStore, Type};
+use common::{counter, filled, lines, Make};
+use std::panic::{catch_unwind, AssertUnwindSafe};
+use std::thread;
+
+over_both![
+    calls_are_answered,
+    what_is_wrong_is_told,
+    a_drop_aborts,
+    events_are_read_from_a_place,
+    a_turn_is_a_whole_transaction,
+    turns_dont_overlap,
+    a_turn_that_fails_aborts,
+    a_turn_that_panics_aborts,
+    a_turn_asks_and_rolls_back,
+    a_retry_commits,
+    errors_of_callers_are_handed_on,
+    what_came_of_a_transaction_is_told,
+    stores_are_closed,
+];
+
+fn calls_are_answered(make: Make) {
+    let store = make(&[&counter(), &counter()]);
+    let (up, down) = (store.call_number(0, "inc:1").unwrap(), store.call_number(1, "dec:1").unwrap());
+    let (mut first, mut second) = (store.begin().unwrap(), store.begin().unwrap());
+    assert_eq!((first.number(), second.number()), (0, 1));
+    assert_eq!(first.would(0, "inc:1"), Ok(Reply::Operation(0)));
+    assert_eq!(first.call(0, "inc:1"), Ok(Reply::Operation(0)));
+    assert_eq!(second.call_op(0, up), Ok(Reply::Operation(0))); // beside the first
+    assert_eq!((second.would(0, "dec:1"), second.would_op(0, down)), (Ok(Reply::Busy { blocker: 0 }), Ok(Reply::Busy { blocker: 0 })));
+    assert_eq!(second.call(0, "dec:1"), Ok(Reply::Busy { blocker: 0 }));
+    assert_eq!(second.call(1, "dec:1"), Ok(Reply::None));
+    assert_eq!((store.kept(0), store.kept(1), store.open_count()), (Ok(2), Ok(0), Ok(2)));
+    first.rollback(1).unwrap();
+    assert_eq!(store.kept(0), Ok(1));
+    first.commit().unwrap();
+    second.abort().unwrap();
+    assert_eq!((store.kept(0), store.open_count(), store.event_count()), (Ok(0), Ok(0), Ok(9)));
+    let wanted = ["begin 0 0", "begin 0 1", "op 0 0 0 0", "op 0 1 0 0", "busy 0 1 0 1 0", "none 0 1 1 1", "rollback 0 0 1", "commit 0 0", "abort 0 1"];
+    assert_eq!(lines(&store, 0), wanted);
+}
+
+fn what_is_wrong_is_told(make: Make) {
+    let store = make(&[&counter()]);
+    let mut t = store.begin().unwrap();
+    assert_eq!((t.call(1, "inc:1"), t.would(1, "inc:1")), (Err(Error::NoObject), Err(Error::NoObject)));
+    for name in ["inc", "", "inc:1 ", "inc:1\n2 end", "inc:1 0"] {
+        assert_eq!((t.call(0, name), t.would(0, name)), (Err(Error::NoCall), Err(Error::NoCall)), "{name}");
+        assert_eq!(t.call_within(0, name, common::LONG), Err(Error::NoCall), "{name}");
+    }
+    assert_eq!((t.call_op(0, 4), t.would_op(0, 255)), (Err(Error::NoCall), Err(Error::NoCall)));
+    assert_eq!((t.rollback(0), t.rollback(1), t.rollback(u64::MAX)), (Err(Error::BadRollback), Err(Error::BadRollback), Err(Error::BadRollback)));
+    assert_eq!((store.kept(1), store.call_number(1, "inc:1"), store.call_number(0, "x")), (Err(Error::NoObject), Err(Error::NoObject), Err(Error::NoCall)));
+    assert_eq!(store.event_count(), Ok(1));
+    t.commit().unwrap();
+}
+
+fn a_drop_aborts(make: Make) {
+    let store = make(&[&counter()]);
+    let mut t = store.begin().unwrap();
+    assert_eq!(t.call(0, "inc:1"), Ok(Reply::Operation(0)));
+    drop(t);
+    assert_eq!((store.kept(0), store.open_count()), (Ok(0), Ok(0)));
+    assert_eq!(lines(&store, 2), ["abort 0 0"]);
+    assert_eq!((store.stats().commits, store.stats().aborts), (0, 1));
+}
+
+fn events_are_read_from_a_place(make: Make) {
+    let store = make(&[&counter()]);
+    store.begin().unwrap().commit().unwrap();
+    assert_eq!(store.events(1), Ok(vec![Event::Commit { worker: 0, transaction: 0 }]));
+    assert_eq!((store.events(2), store.events(u64::MAX)), (Ok(vec![]), Ok(vec![])));
+}
+
+fn a_turn_is_a_whole_transaction(make: Make) {
+    let store = make(&[&counter(), &counter()]);
+    let number = store.transact(|turn| {
+        turn.call(0, "inc:1")?.executed()?;
+        turn.call_op(1, 0)?.executed()?;
+        Ok::<u64, Error>(turn.number())
+    });
+    assert_eq!(number, Ok(0));
+    assert_eq!((store.kept(0), store.kept(1), store.open_count()), (Ok(1), Ok(1), Ok(0)));
+    assert_eq!(lines(&store, 0), ["begin 0 0", "op 0 0 0 0", "op 0 0 1 0", "commit 0 0"]);
+    assert_eq!(store.stats().commits, 1);
+}
+
+fn turns_dont_overlap(make: Make) {
+    let store = make(&[&counter()]);
+    thread::scope(|scope| {
+        for _ in 0..4 {
+            scope.spawn(|| {
+                for _ in 0..50 {
+                    store.transact(|turn| turn.call(0, "inc:1")?.executed()).unwrap();
+                }
+            });
+        }
+    });
+    assert_eq!(store.kept(0), Ok(200));
+    let wanted = (0..200).flat_map(|t| [format!("begin 0 {t}"), format!("op 0 {t} 0 0"), format!("commit 0 {t}")]);
+    assert_eq!(lines(&store, 0), wanted.collect::<Vec<_>>());
+}
+
+fn a_turn_that_fails_aborts(make: Make) {
+    let store = filled(make, 1);
+    let failed: Result<(), String> = store
+        .transact(|turn| {
+            turn.call(0, "inc:1").map_err(|error| Text(error.to_string()))?.executed()?;
+            Err(Text("no more".to_string()))
+        })
+        .map_err(|text: Text| text.0);
+    assert_eq!(failed, Err("no more".to_string()));
+    assert_eq!((store.kept(0), store.open_count()), (Ok(500), Ok(0)));
+}
+
+/// An error of a caller.
+struct Text(String);
+
+impl From<Error> for Text {
+    fn from(error: Error) -> Text {
+        Text(error.to_string())
+    }
+}
+
+fn a_turn_that_panics_aborts(make: Make) {
+    let store = filled(make, 1);
+    let panicked = catch_unwind(AssertUnwindSafe(|| {
+        store.transact(|turn| -> Result<(), Error> {
+            turn.call(0, "inc:1")?.executed()?;
+            panic!("in the middle of a turn");
+        })
+    }));
+    assert!(panicked.is_err());
+    assert_eq!((store.kept(0), store.open_count()), (Ok(500), Ok(0)));
+    store.transact(|turn| turn.call(0, "inc:1")?.executed()).unwrap();
+    assert_eq!(store.kept(0), Ok(501));
+}
+
+fn a_turn_asks_and_rolls_back(make: Make) {
+    let store = filled(make, 1);
+    store
+        .transact(|turn| {
+            assert_eq!((turn.would(0, "inc:1")?, turn.would_op(0, 0)?), (Reply::Operation(0), Reply::Operation(0)));
+            turn.call(0, "inc:1")?.executed()?;
+            turn.rollback(1)?;
+            assert_eq!(turn.rollback(1), Err(Error::BadRollback));
+            turn.call(0, "dec:1")?.executed()
+        })
+        .unwrap();
+    assert_eq!(store.kept(0), Ok(499));
+}
+
+fn a_retry_commits(make: Make) {
+    let store = filled(make, 1);
+    let told = store.retry(&Retry::default(), |t| t.call(0, "inc:1")?.executed());
+    assert_eq!((told, store.kept(0)), (Ok(0), Ok(501)));
+}
+
+fn errors_of_callers_are_handed_on(make: Make) {
+    let store = filled(make, 1);
+    let mut tries = 0;
+    let told: Result<(), Box<dyn std::error::Error>> = store.retry(&Retry::default(), |t| {
+        tries += 1;
+        t.call(0, "inc:1")?.executed()?;
+        Err("sold out".into())
+    });
+    assert_eq!((told.unwrap_err().to_string(), tries), ("sold out".to_string(), 1));
+    let told: Result<u64, Box<dyn std::error::Error + Send + Sync>> = store.retry(&Retry::default(), |t| {
+        tries += 1;
+        let _reply = t.call(0, "inc:1")?;
+        Ok(t.call(0, "inc:500")?.executed()?)
+    });
+    assert_eq!((told.unwrap_err().to_string(), tries), (Error::Illegal.to_string(), 2));
+    assert_eq!((store.kept(0), store.open_count()), (Ok(500), Ok(0)));
+}
+
+fn what_came_of_a_transaction_is_told(make: Make) {
+    let store = make(&[&counter()]);
+    let ids: Vec<String> = (0..3)
+        .map(|_| {
+            store
+                .begin()
+                .map(|t| {
+                    let id = t.id();
+                    t.commit().unwrap();
+                    id
+                })
+                .unwrap()
+        })
+        .collect();
+    assert!(ids.iter().all(|id| store.committed(id) == Ok(Some(true))));
+    let (open, aborted) = (store.begin().unwrap(), store.begin().unwrap());
+    let id = aborted.id();
+    aborted.abort().unwrap();
+    assert_eq!((store.committed(&open.id()), store.committed(&id)), (Ok(None), Ok(Some(false))));
+    let never = ids[0].replace(".0", ".100");
+    assert_eq!(store.committed(&never), Ok(None));
+    for wrong in ["", "1", "1.", ".1", "1.x", "1.-1", "1.1.1"] {
+        assert_eq!(store.committed(wrong), Err(Error::BadParameter), "{wrong}");
+    }
+}
+
+fn stores_are_closed(make: Make) {
+    let store = make(&[&counter()]);
+    store.transact(|turn| turn.call(0, "inc:1")?.executed()).unwrap();
+    assert_eq!(store.close(), Ok(()));
+}
+
+#[test]
+fn what_only_a_store_in_memory_does() {
+    let store = common::in_memory(&[&counter()]);
+    let mut t = store.begin_as(7).unwrap();
+    assert_eq!(t.call(0, "inc:1"), Ok(Reply::Operation(0)));
+    assert_eq!(store.renew(), Err(Error::StillOpen));
+    store.abort_all().unwrap();
+    assert_eq!((t.call(0, "inc:1"), t.rollback(1)), (Err(Error::NotOpen), Err(Error::NotOpen)));
+    assert_eq!(lines(&store, 0), ["begin 7 0", "op 7 0 0 0", "abort 7 0"]);
+    store.forget(2).unwrap();
+    assert_eq!((store.forgotten_count(), store.events(1), store.event_count()), (Ok(2), Err(Error::Forgotten), Ok(3)));
+    store.renew().unwrap();
+    let mut again = store.begin().unwrap();
+    assert_eq!((again.number(), again.id().as_str()), (0, "1.0"));
+    // the number is another one's now
+    assert_eq!((t.call(0, "inc:1"), t.commit()), (Err(Error::NotOpen), Err(Error::NotOpen)));
+    assert_eq!(again.call(0, "inc:1"), Ok(Reply::Operation(0)));
+    again.commit().unwrap();
+    let other = common::in_memory(&[&counter()]);
+    other.follow(&store.events(0).unwrap()).unwrap();
+    assert_eq!((other.kept(0), other.committed("0.0")), (Ok(1), Ok(Some(true))));
+    assert_eq!((store.committed("0.0"), store.committed("1.0")), (Ok(None), Ok(Some(true))));
+}
+
+#[test]
+fn what_a_child_doesnt_do() {
+    let store = common::over_a_child(&[&counter()]);
+    assert_eq!(store.begin_as(1).err(), Some(Error::InMemoryOnly));
+    assert_eq!(
+        (store.forgotten_count(), store.forget(1), store.renew(), store.abort_all()),
+        (Err(Error::InMemoryOnly), Err(Error::InMemoryOnly), Err(Error::InMemoryOnly), Err(Error::InMemoryOnly))
+    );
+    let followed = store.follow(&[Event::Begin { worker: 0, transaction: 0 }]).unwrap_err();
+    assert_eq!((followed.made, followed.error), (0, Error::InMemoryOnly));
+    assert_eq!(store.begin_as(0).unwrap().id(), "1.0");
+}
+
+#[test]
+fn limits_of_a_store_in_memory() {
+    let counter = counter();
+    assert_eq!(SharedStore::new([], 9).err(), Some(Error::NoObjects));
+    assert_eq!(SharedStore::new([&counter], 1).err(), Some(Error::BadMax));
+    let store = SharedStore::new([&counter], 3).unwrap();
+    let mut t = store.begin().unwrap();
+    assert_eq!(t.call(0, "inc:1"), Ok(Reply::Operation(0)));
+    assert_eq!((t.call(0, "inc:1"), t.call_within(0, "inc:1", common::LONG)), (Err(Error::HistoryFull), Err(Error::HistoryFull)));
+    assert_eq!(store.begin().err(), Some(Error::HistoryFull));
+    t.commit().unwrap();
+}
+
+#[test]
+fn shared_between_threads() {
+    fn is_shared<T: Send + Sync>() {}
+    fn is_sent<T: Send>() {}
+    is_shared::<SharedStore>();
+    is_sent::<colock::SharedTransaction<'static>>();
+}
+
+#[test]
+fn types_are_made_of_steps() {
+    let operations = [("take:1", "ok"), ("take:1", "none"), ("give:1", "ok")];
+    let step = |pieces: &u32, operation: (&str, &str)| match operation {
+        ("take:1", "ok") => pieces.checked_sub(1),
+        ("take:1", _) => (*pieces == 0).then_some(0),
+        _ => (*pieces < 2).then_some(pieces + 1),
+    };
+    let stock = Type::from_steps("stock", 2, &operations, Kind::Undo, step).unwrap();
+    // found from two pieces on, an operation after another: 2 pieces, 1, 0
+    assert_eq!((stock.name().as_str(), stock.states(), stock.initial(), stock.operations()), ("stock", 3, 0, 3));
+    let steps: Vec<Option<u64>> = (0..9).map(|cell| stock.step(cell / 3, cell % 3).unwrap()).collect();
+    assert_eq!(steps, [Some(1), None, None, Some(2), None, Some(0), None, Some(2), Some(1)]);
+    assert_eq!(stock.conflicts_named(("take:1", "ok"), ("give:1", "ok")), Ok(true));
+    assert_eq!(stock.conflicts_named(("take:1", "ok"), ("take:1", "ok")), Ok(false));
+    assert_eq!(stock.conflicts_named(("take:1", "ok"), ("give:1", "full")), Err(Error::NoOperation));
+    assert_eq!(stock.operation("give:1", "ok"), Ok(2));
+}
+
+#[test]
+fn types_of_steps_have_limits() {
+    let up = [("dec", "ok"), ("inc", "ok")];
+    let many = Type::from_steps("line", 0_u32, &up, Kind::Undo, |state, (call, _)| (call == "inc").then_some(state + 1));
+    assert_eq!(many.err(), Some(Error::TooManyStates { call: "inc".to_string(), reply: "ok".to_string() }));
+    let most = Type::from_steps("line", 0_u32, &up, Kind::Undo, |state, (call, _)| (call == "inc" && *state < 1023).then_some(state + 1));
+    assert_eq!(most.unwrap().states(), 1024);
+    let same = |_: &u32, _: (&str, &str)| Some(0);
+    let words: [(&str, &[(&str, &str)]); 5] = [("Line", &up), ("", &up), ("line", &[]), ("line", &[("a b", "ok")]), ("line", &[("a", "b\nend")])];
+    for (name, operations) in words {
+        assert_eq!(Type::from_steps(name, 0, operations, Kind::Undo, same).err(), Some(Error::BadParameter), "{name}");
+    }
+    let names: Vec<String> = (0..65).map(|k| k.to_string()).collect();
+    let operations: Vec<(&str, &str)> = names.iter().map(|name| (name.as_str(), "ok")).collect();
+    assert_eq!(Type::from_steps("line", 0, &operations, Kind::Undo, same).err(), Some(Error::TooLarge));
+    assert_eq!(Type::from_steps("line", 0, &operations[..64], Kind::Undo, same).unwrap().operations(), 64);
+    let twice = Type::from_steps("line", 0, &[("a", "b"), ("a", "b")], Kind::Undo, same);
+    assert!(matches!(twice.err(), Some(Error::BadText { line: 5, .. })));
+}
+
+#[test]
+fn types_are_displayed_as_grids() {
+    let account = Type::account(1, &[1], Kind::Intentions).unwrap();
+    let grid = account.to_string();
+    let rows: Vec<&str> = grid.lines().collect();
+    assert_eq!((rows[0], rows.len()), ("account, intentions, 2 states", 8));
+    for (requested, row) in rows[2..].iter().enumerate() {
+        let marks: Vec<&str> = row.split(' ').rev().take(6).collect();
+        for (held, mark) in marks.iter().rev().enumerate() {
+            let wanted = if account.conflicts(requested as u64, held as u64).unwrap() { "x" } else { "." };
+            assert_eq!(*mark, wanted, "{grid}");
+        }
+    }
+}

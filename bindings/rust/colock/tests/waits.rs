@@ -1,0 +1,465 @@
+//! Who waits for whom in a shared store, and who is let go; in memory and over a child.
+
+#[macro_use]
+mod common;
+
+use colock::{Error, Reply, Retry, SharedStore, SharedTransaction};
+use common::{filled, lines, until_asleep, Make, LONG};
+use std::sync::atomic::{AtomicBool, AtomicU64, Ordering};
+use std::sync::Barrier;
+use std::thread;
+use std::time::{Duration, Instant};
+
+/// Longer than anything takes that doesn't wait for a limit.
+const AT_ONCE: Duration = Duration::from_secs(1);
+
+const SHORT: Duration = Duration::from_millis(30);
+
+over_both![
+    a_call_waits_for_a_commit,
+    a_call_waits_for_an_abort,
+    a_call_waits_for_a_drop,
+    a_rollback_wakes,
+    a_call_that_is_free_doesnt_wait,
+    a_call_waits_for_one_after_another,
+    a_limit_ends_a_wait,
+    a_limit_of_nothing_is_no_wait,
+    the_younger_of_two_is_the_victim,
+    who_closes_the_circle_is_the_victim,
+    the_youngest_of_three_is_the_victim,
+    the_gate_lets_the_older_go_first,
+    the_gate_is_waited_at,
+    who_leaves_the_gate_lets_others_go,
+    who_is_waited_for_passes_the_gate,
+    a_circle_by_the_gate_has_no_victim,
+    a_stream_of_takes_lets_a_give_through,
+    a_victim_tries_again_behind_its_blocker,
+    tries_end,
+    a_retry_keeps_its_age,
+    a_swallowed_deadlock_is_no_commit,
+    stats_count,
+];
+
+/// A transaction that counts an object up, by 1.
+fn holder(store: &SharedStore, object: u32) -> SharedTransaction<'_> {
+    let mut holder = store.begin().unwrap();
+    assert_eq!(holder.call(object, "inc:1"), Ok(Reply::Operation(0)));
+    holder
+}
+
+/// That a call waits for a transaction, and is executed behind what ends the wait.
+fn waits_until(make: Make, end: impl FnOnce(&mut Option<SharedTransaction<'_>>)) {
+    let store = filled(make, 1);
+    let (start, mut blocker) = (store.event_count().unwrap(), Some(holder(&store, 0)));
+    thread::scope(|scope| {
+        let waiter = scope.spawn(|| {
+            let mut waiter = store.begin().unwrap();
+            let reply = waiter.call_within(0, "dec:1", LONG);
+            waiter.commit().unwrap();
+            reply
+        });
+        until_asleep(&store, 1);
+        thread::sleep(SHORT);
+        assert!(!waiter.is_finished());
+        end(&mut blocker);
+        assert_eq!(waiter.join().unwrap(), Ok(Reply::Operation(1)));
+    });
+    drop(blocker);
+    let told = lines(&store, start);
+    // one event of the call that was busy, and none of those that were only asked
+    assert_eq!(told.iter().filter(|line| line.starts_with("busy ")).count(), 1, "{told:?}");
+    assert_eq!(store.stats().waits, 1);
+}
+
+fn a_call_waits_for_a_commit(make: Make) {
+    waits_until(make, |blocker| blocker.take().unwrap().commit().unwrap());
+}
+
+fn a_call_waits_for_an_abort(make: Make) {
+    waits_until(make, |blocker| blocker.take().unwrap().abort().unwrap());
+}
+
+fn a_call_waits_for_a_drop(make: Make) {
+    waits_until(make, |blocker| drop(blocker.take()));
+}
+
+fn a_rollback_wakes(make: Make) {
+    // it stays open, and holds nothing
+    waits_until(make, |blocker| blocker.as_mut().unwrap().rollback(1).unwrap());
+}
+
+fn a_call_that_is_free_doesnt_wait(make: Make) {
+    let store = filled(make, 1);
+    let _holder = holder(&store, 0);
+    let mut t = store.begin().unwrap();
+    assert_eq!(t.call_within(0, "inc:1", LONG), Ok(Reply::Operation(0)));
+    assert_eq!(t.call_op_within(0, 0, Duration::ZERO), Ok(Reply::Operation(0)));
+    assert_eq!(t.call_within(0, "inc:500", LONG), Ok(Reply::None)); // 503 and 500 are too many
+    assert_eq!(store.stats().waits, 0);
+}
+
+fn a_call_waits_for_one_after_another(make: Make) {
+    let store = filled(make, 1);
+    let (first, second) = (holder(&store, 0), holder(&store, 0));
+    thread::scope(|scope| {
+        let waiter = scope.spawn(|| store.begin().unwrap().call_within(0, "dec:1", LONG));
+        until_asleep(&store, 1);
+        first.commit().unwrap();
+        until_asleep(&store, 2); // behind the second now
+        second.commit().unwrap();
+        assert_eq!(waiter.join().unwrap(), Ok(Reply::Operation(1)));
+    });
+    // what is asked again leaves no event
+    assert_eq!(lines(&store, 0).iter().filter(|line| line.starts_with("busy ")).count(), 1);
+}
+
+fn a_limit_ends_a_wait(make: Make) {
+    let store = filled(make, 1);
+    let blocker = holder(&store, 0);
+    let mut t = store.begin().unwrap();
+    let start = Instant::now();
+    assert_eq!(t.call_within(0, "dec:1", SHORT), Err(Error::TimedOut));
+    assert!((SHORT..SHORT + AT_ONCE).contains(&start.elapsed()), "{:?}", start.elapsed());
+    // nothing was executed, and it is open
+    assert_eq!((store.kept(0), store.open_count(), store.stats().timeouts), (Ok(501), Ok(2), 1));
+    blocker.commit().unwrap();
+    assert_eq!(t.call_within(0, "dec:1", SHORT), Ok(Reply::Operation(1)));
+    t.commit().unwrap();
+}
+
+fn a_limit_of_nothing_is_no_wait(make: Make) {
+    let store = filled(make, 1);
+    let _blocker = holder(&store, 0);
+    assert_eq!(store.begin().unwrap().call_within(0, "dec:1", Duration::ZERO), Err(Error::TimedOut));
+    assert_eq!((store.stats().waits, store.stats().timeouts), (0, 1));
+}
+
+/// The call of a waiter in a thread: whether it was executed, and how long it took. It commits where it can.
+fn waiting(mut t: SharedTransaction<'_>, object: u32) -> (Result<Reply, Error>, Duration) {
+    let start = Instant::now();
+    let reply = t.call_within(object, "dec:1", LONG);
+    let took = start.elapsed();
+    if reply.is_ok() {
+        t.commit().unwrap();
+    } else {
+        // a victim has ended already
+        assert_eq!((t.call(object, "dec:1"), t.commit()), (Err(Error::NotOpen), Err(Error::NotOpen)));
+    }
+    (reply, took)
+}
+
+fn the_younger_of_two_is_the_victim(make: Make) {
+    let store = filled(make, 2);
+    let (older, younger) = (holder(&store, 0), holder(&store, 1));
+    let blocker = older.number();
+    thread::scope(|scope| {
+        let victim = scope.spawn(|| waiting(younger, 0));
+        until_asleep(&store, 1);
+        let start = Instant::now();
+        assert_eq!(waiting(older, 1).0, Ok(Reply::Operation(1)));
+        assert!(start.elapsed() < AT_ONCE, "{:?}", start.elapsed());
+        assert_eq!(victim.join().unwrap().0, Err(Error::Deadlock { waited_for: blocker }));
+    });
+    // the victim's up was taken out: 500 and one up, 500 and one down
+    assert_eq!((store.kept(0), store.kept(1), store.open_count(), store.stats().deadlocks), (Ok(501), Ok(499), Ok(0), 1));
+}
+
+fn who_closes_the_circle_is_the_victim(make: Make) {
+    let store = filled(make, 2);
+    let (older, younger) = (holder(&store, 0), holder(&store, 1));
+    let blocker = older.number();
+    thread::scope(|scope| {
+        let survivor = scope.spawn(|| waiting(older, 1));
+        until_asleep(&store, 1);
+        let (reply, took) = waiting(younger, 0);
+        assert_eq!(reply, Err(Error::Deadlock { waited_for: blocker }));
+        assert!(took < AT_ONCE, "{took:?}");
+        assert_eq!(survivor.join().unwrap().0, Ok(Reply::Operation(1)));
+    });
+    assert_eq!((store.kept(0), store.kept(1), store.stats().deadlocks), (Ok(501), Ok(499), 1));
+}
+
+fn the_youngest_of_three_is_the_victim(make: Make) {
+    let store = filled(make, 3);
+    let (first, second, third) = (holder(&store, 0), holder(&store, 1), holder(&store, 2));
+    let blocker = first.number();
+    thread::scope(|scope| {
+        let victim = scope.spawn(|| waiting(third, 0)); // for the first
+        until_asleep(&store, 1);
+        let middle = scope.spawn(|| waiting(second, 2)); // for the third
+        until_asleep(&store, 2);
+        let start = Instant::now();
+        assert_eq!(waiting(first, 1).0, Ok(Reply::Operation(1))); // for the second, which goes on as the third is gone
+        assert!(start.elapsed() < AT_ONCE, "{:?}", start.elapsed());
+        assert_eq!(victim.join().unwrap().0, Err(Error::Deadlock { waited_for: blocker }));
+        assert_eq!(middle.join().unwrap().0, Ok(Reply::Operation(1)));
+    });
+    // up by the first; up by the second and down by the first; down by the second
+    assert_eq!((store.kept(0), store.kept(1), store.kept(2)), (Ok(501), Ok(500), Ok(499)));
+    assert_eq!((store.stats().deadlocks, store.open_count()), (1, Ok(0)));
+}
+
+fn the_gate_lets_the_older_go_first(make: Make) {
+    let store = filled(make, 2);
+    let first = holder(&store, 0);
+    let older = store.begin().unwrap();
+    let name = older.number();
+    let mut younger = store.begin().unwrap();
+    thread::scope(|scope| {
+        let waiter = scope.spawn(|| waiting(older, 0));
+        until_asleep(&store, 1);
+        let start = store.event_count().unwrap();
+        // beside the first, but in front of who waits for it
+        assert_eq!(younger.call(0, "inc:1"), Ok(Reply::Busy { blocker: name }));
+        assert_eq!(younger.would(0, "inc:1"), Ok(Reply::Busy { blocker: name }));
+        assert_eq!(younger.call_within(0, "inc:1", Duration::ZERO), Err(Error::TimedOut));
+        assert_eq!(store.event_count().unwrap(), start); // the gate answers without an event
+        assert_eq!(younger.call(0, "dec:1"), Ok(Reply::Busy { blocker: first.number() })); // which doesn't block a down
+        assert_eq!(younger.call(1, "inc:1"), Ok(Reply::Operation(0))); // at another object
+        first.commit().unwrap();
+        assert_eq!(waiter.join().unwrap().0, Ok(Reply::Operation(1)));
+    });
+    assert_eq!(younger.call(0, "inc:1"), Ok(Reply::Operation(0)));
+    younger.commit().unwrap();
+    assert_eq!(store.kept(0), Ok(501));
+}
+
+fn the_gate_is_waited_at(make: Make) {
+    let store = filled(make, 1);
+    let (first, older, mut younger) = (holder(&store, 0), store.begin().unwrap(), store.begin().unwrap());
+    thread::scope(|scope| {
+        let waiter = scope.spawn(|| waiting(older, 0));
+        until_asleep(&store, 1);
+        let start = store.event_count().unwrap();
+        let behind = scope.spawn(move || {
+            let reply = younger.call_within(0, "inc:1", LONG);
+            younger.commit().unwrap();
+            reply
+        });
+        until_asleep(&store, 2);
+        first.commit().unwrap();
+        assert_eq!(waiter.join().unwrap().0, Ok(Reply::Operation(1)));
+        assert_eq!(behind.join().unwrap(), Ok(Reply::Operation(0)));
+        let told = lines(&store, start);
+        let at = |end: &str| told.iter().position(|line| line.starts_with("op ") && line.ends_with(end)).unwrap();
+        assert!(at(" 0 1") < at(" 0 0"), "the down comes before the up: {told:?}");
+    });
+    assert_eq!(store.kept(0), Ok(501));
+}
+
+/// Who waited at the gate goes on when the older one has given up, which stays open.
+fn who_leaves_the_gate_lets_others_go(make: Make) {
+    let store = filled(make, 1);
+    let (first, mut older, mut younger) = (holder(&store, 0), store.begin().unwrap(), store.begin().unwrap());
+    thread::scope(|scope| {
+        let waiter = scope.spawn(|| older.call_within(0, "dec:1", AT_ONCE / 4));
+        until_asleep(&store, 1);
+        let start = Instant::now();
+        // beside the first, which is still open
+        assert_eq!(younger.call_within(0, "inc:1", LONG), Ok(Reply::Operation(0)));
+        assert!(start.elapsed() < AT_ONCE, "{:?}", start.elapsed());
+        assert_eq!(waiter.join().unwrap(), Err(Error::TimedOut));
+    });
+    assert_eq!((store.open_count(), store.stats().waits), (Ok(3), 2));
+    drop((first, older, younger));
+}
+
+fn who_is_waited_for_passes_the_gate(make: Make) {
+    let store = filled(make, 1);
+    let older = store.begin().unwrap();
+    let mut younger = holder(&store, 0);
+    thread::scope(|scope| {
+        let waiter = scope.spawn(|| waiting(older, 0));
+        until_asleep(&store, 1);
+        assert_eq!(younger.would(0, "inc:1"), Ok(Reply::Operation(0)));
+        assert_eq!(younger.call(0, "inc:1"), Ok(Reply::Operation(0)));
+        assert_eq!(younger.call_within(0, "inc:1", LONG), Ok(Reply::Operation(0)));
+        younger.commit().unwrap();
+        assert_eq!(waiter.join().unwrap().0, Ok(Reply::Operation(1)));
+    });
+    assert_eq!((store.kept(0), store.stats().deadlocks), (Ok(502), 0));
+}
+
+/// The oldest waits at object 0 for the first holder. The youngest holds object 1, and waits at the gate of object 0. Then
+/// the first holder waits for the youngest: a circle, which the youngest leaves by passing the gate.
+fn a_circle_by_the_gate_has_no_victim(make: Make) {
+    let store = filled(make, 2);
+    let oldest = store.begin().unwrap();
+    let (first, mut youngest) = (holder(&store, 0), holder(&store, 1));
+    thread::scope(|scope| {
+        let waiter = scope.spawn(|| waiting(oldest, 0));
+        until_asleep(&store, 1);
+        let passing = scope.spawn(move || {
+            let reply = youngest.call_within(0, "inc:1", LONG);
+            youngest.commit().unwrap();
+            reply
+        });
+        until_asleep(&store, 2);
+        let start = Instant::now();
+        assert_eq!(waiting(first, 1).0, Ok(Reply::Operation(1)));
+        assert!(start.elapsed() < AT_ONCE, "{:?}", start.elapsed());
+        assert_eq!(passing.join().unwrap(), Ok(Reply::Operation(0)));
+        assert_eq!(waiter.join().unwrap().0, Ok(Reply::Operation(1)));
+    });
+    // two ups and a down; an up and a down
+    assert_eq!((store.kept(0), store.kept(1), store.stats().deadlocks), (Ok(501), Ok(500), 0));
+}
+
+/// How long a take holds its piece where no other one comes.
+const GRACE: Duration = Duration::from_millis(250);
+
+/// Takes a piece, and holds it until another take holds one too, so that at each moment there is one; or a while. It aborts
+/// then, so that there are always some pieces.
+fn take(store: &SharedStore, holding: &AtomicU64) {
+    let mut take = store.begin().unwrap();
+    assert_eq!(take.call_within(0, "dec:1", LONG), Ok(Reply::Operation(1)));
+    holding.fetch_add(1, Ordering::SeqCst);
+    let start = Instant::now();
+    let may_end = || holding.fetch_update(Ordering::SeqCst, Ordering::SeqCst, |count| (count > 1).then(|| count - 1)).is_ok();
+    while !may_end() {
+        if start.elapsed() > GRACE {
+            holding.fetch_sub(1, Ordering::SeqCst);
+            break;
+        }
+        thread::sleep(Duration::from_millis(1));
+    }
+    take.abort().unwrap();
+}
+
+/// What becomes of a give, at most so long, while 15 threads take.
+fn give_among_takes(store: &SharedStore, limit: Duration) -> Result<Reply, Error> {
+    let (is_over, holding) = (AtomicBool::new(false), AtomicU64::new(0));
+    thread::scope(|scope| {
+        for _ in 0..15 {
+            scope.spawn(|| {
+                while !is_over.load(Ordering::SeqCst) {
+                    take(store, &holding);
+                }
+            });
+        }
+        common::until(|| holding.load(Ordering::SeqCst) > 0);
+        let given = store.begin().unwrap().call_within(0, "inc:1", limit);
+        is_over.store(true, Ordering::SeqCst);
+        given
+    })
+}
+
+fn a_stream_of_takes_lets_a_give_through(make: Make) {
+    let limit = Duration::from_secs(1);
+    assert_eq!(give_among_takes(&filled(make, 1), limit), Ok(Reply::Operation(0)));
+    assert_eq!(give_among_takes(&filled(make, 1).without_gate(), limit), Err(Error::TimedOut));
+}
+
+/// Two transactions that each count one object up and then the other down, in a circle at their first try.
+fn a_victim_tries_again_behind_its_blocker(make: Make) {
+    let store = filled(make, 2);
+    let start = store.event_count().unwrap();
+    let meet = Barrier::new(2);
+    let cross = |object: u32| {
+        let mut tries = 0;
+        let told = store.retry(&Retry { tries: 3, ..Retry::default() }, |t| {
+            tries += 1;
+            t.call_within(object, "inc:1", LONG)?.executed()?;
+            if tries == 1 {
+                meet.wait();
+            }
+            t.call_within(1 - object, "dec:1", LONG)?.executed()
+        });
+        told.map(|_| tries)
+    };
+    let tries = thread::scope(|scope| {
+        let (one, other) = (scope.spawn(|| cross(0)), scope.spawn(|| cross(1)));
+        (one.join().unwrap(), other.join().unwrap())
+    });
+    assert!(tries == (Ok(1), Ok(2)) || tries == (Ok(2), Ok(1)), "{tries:?}");
+    assert_eq!((store.kept(0), store.kept(1), store.stats().deadlocks), (Ok(500), Ok(500), 1));
+    let told = lines(&store, start);
+    let place = |what: &str| told.iter().position(|line| line.starts_with(what)).unwrap();
+    let last_begin = told.iter().rposition(|line| line.starts_with("begin ")).unwrap();
+    assert!(place("abort ") < place("commit ") && place("commit ") < last_begin, "{told:?}");
+}
+
+fn tries_end(make: Make) {
+    let store = filled(make, 1);
+    let blocker = holder(&store, 0);
+    let retry = Retry { tries: 3, ..Retry::default() };
+    let mut tries = 0;
+    let told = store.retry(&retry, |t| {
+        tries += 1;
+        t.call(0, "dec:1")?.executed()
+    });
+    assert_eq!((told, tries), (Err(Error::Busy { blocker: blocker.number() }), 3));
+    let told = store.retry(&retry, |t| {
+        tries += 1;
+        t.call_within(0, "dec:1", Duration::from_millis(1))?.executed()
+    });
+    assert_eq!((told, tries), (Err(Error::TimedOut), 6));
+    assert_eq!((store.stats().aborts, store.open_count()), (6, Ok(1)));
+    blocker.commit().unwrap();
+}
+
+/// A retry whose first try begins before another transaction, and its second one behind it: in a circle of the two the
+/// other one is the youngest.
+fn a_retry_keeps_its_age(make: Make) {
+    let store = filled(make, 2);
+    let (mut other, mut blocker, mut tries) = (None, 0, 0);
+    thread::scope(|scope| {
+        let store: &SharedStore = &store;
+        let mut victim = None;
+        let told = store.retry(&Retry::default(), |t| {
+            tries += 1;
+            if tries == 1 {
+                other = Some(holder(store, 1));
+                return Err(Error::TimedOut);
+            }
+            t.call(0, "inc:1")?.executed()?;
+            blocker = t.number();
+            let younger = other.take().unwrap();
+            victim = Some(scope.spawn(move || waiting(younger, 0)));
+            until_asleep(store, 1);
+            t.call_within(1, "dec:1", LONG)?.executed()
+        });
+        assert_eq!((told, tries), (Ok(1), 2));
+        assert_eq!(victim.unwrap().join().unwrap().0, Err(Error::Deadlock { waited_for: blocker }));
+    });
+    assert_eq!((store.kept(0), store.kept(1)), (Ok(501), Ok(499)));
+}
+
+/// A function that says nothing of it that its transaction was a victim.
+fn a_swallowed_deadlock_is_no_commit(make: Make) {
+    let store = filled(make, 2);
+    let older = holder(&store, 0);
+    let mut tries = 0;
+    thread::scope(|scope| {
+        let store: &SharedStore = &store;
+        let mut older = Some(older);
+        let told = store.retry(&Retry::default(), |t| {
+            tries += 1;
+            t.call(1, "inc:1")?.executed()?;
+            if let Some(older) = older.take() {
+                scope.spawn(move || waiting(older, 1));
+                until_asleep(store, 1);
+                assert!(matches!(t.call_within(0, "dec:1", LONG), Err(Error::Deadlock { .. })));
+            }
+            Ok::<(), Error>(())
+        });
+        assert_eq!((told, tries), (Ok(()), 2));
+    });
+    assert_eq!((store.kept(0), store.kept(1)), (Ok(501), Ok(500)));
+}
+
+fn stats_count(make: Make) {
+    let store = filled(make, 2);
+    let before = store.stats();
+    assert_eq!((before.commits, before.aborts, &before.busy[..], before.waits, before.waited), (2, 0, &[0, 0][..], 0, Duration::ZERO));
+    let blocker = holder(&store, 1);
+    let mut t = store.begin().unwrap();
+    assert_eq!(t.call(1, "dec:1"), Ok(Reply::Busy { blocker: blocker.number() }));
+    assert_eq!(t.call_within(1, "dec:1", SHORT), Err(Error::TimedOut));
+    blocker.commit().unwrap();
+    t.abort().unwrap();
+    let stats = store.stats();
+    assert_eq!((stats.commits, stats.aborts, &stats.busy[..], stats.waits), (3, 1, &[0, 2][..], 1));
+    assert_eq!((stats.timeouts, stats.deadlocks), (1, 0));
+    assert!((SHORT..SHORT + AT_ONCE).contains(&stats.waited), "{:?}", stats.waited);
+}
