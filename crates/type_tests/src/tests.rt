@@ -2,6 +2,7 @@
 
 mod checked;
 mod lines;
+mod numbers;
 mod relations;
 mod requests;
 mod sinks;

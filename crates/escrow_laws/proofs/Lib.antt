@@ -1,0 +1,15 @@
+pub mod Runs
+pub mod Lowest
+pub mod Sums
+pub mod Staying
+pub mod Outcomes
+pub mod Numbers
+pub mod Tables
+pub mod Faulty
+pub mod Searching
+pub mod Exact
+pub mod Fits
+pub mod Telling
+pub mod Extremes
+pub mod Happened
+pub mod Examples

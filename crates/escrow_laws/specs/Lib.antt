@@ -1,0 +1,11 @@
+pub mod Amounts
+pub mod Fronts
+pub mod Bounds
+pub mod Faults
+pub mod Search
+pub mod Firm
+pub mod Safe
+pub mod Escrow
+pub mod Marks
+pub mod Laws
+pub mod Examples
