@@ -11,7 +11,7 @@ class Stats(NamedTuple):
     busy: Tuple[int, ...]
     """By object: how often a call was answered `Busy`, and how often one went to sleep."""
     waits: int
-    """How many calls slept."""
+    """How many sleeps there were."""
     waited: float
     """So many seconds they slept in all."""
     deadlocks: int

@@ -110,6 +110,7 @@ class Waiting:
         """Puts the edge in."""
         self._graph.put_edge(sleeper, ahead.blocker, ahead.by_gate)
         self._counts.busy[sleeper.object] += 1
+        self._counts.waits += 1
         # who loses the connection marks it first and rings then, so one of the two sees the other
         self._backend.check(t)
 
@@ -134,7 +135,6 @@ class Waiting:
         """The call waits no more."""
         with self._backend.lock:
             self._graph.leave(sleeper)
-            self._counts.waits += 1
             self._counts.waited += slept
 
     # ---- waiting for an end
