@@ -146,17 +146,21 @@ fn turns(limit: Duration) -> Result<(), Error> {
     Ok(())
 }
 
+/// Over a child, where each commit syncs twice, and where it is supposed that the disk tears no write apart.
 fn child(limit: Duration, path: &str) -> Result<(), Error> {
     let wheel = wheel()?;
-    let store = OpenOptions::new().objects(&[&wheel]).create(true).open(path)?;
-    let tick = store.call_number(0, "tick")?;
-    let shared = per_second(THREADS, limit, |_, _| {
-        let mut t = store.begin().unwrap();
-        t.call_op(0, tick).unwrap().executed().unwrap();
-        t.commit().unwrap();
-    });
-    println!("child_store {shared:.0}");
-    store.close()
+    for (name, is_fast) in [("child_store", false), ("child_fast_store", true)] {
+        let store = OpenOptions::new().objects(&[&wheel]).create(true).fast(is_fast).open(path)?;
+        let tick = store.call_number(0, "tick")?;
+        let shared = per_second(THREADS, limit, |_, _| {
+            let mut t = store.begin().unwrap();
+            t.call_op(0, tick).unwrap().executed().unwrap();
+            t.commit().unwrap();
+        });
+        println!("{name} {shared:.0}");
+        store.close()?;
+    }
+    Ok(())
 }
 
 fn main() -> Result<(), Box<dyn AnyError>> {
