@@ -243,8 +243,8 @@ class Outcomes(Files):
                 told.append(t.id)
         except colock.OutcomeUnknown as error:
             unknown.append(error.id)
-        except colock.ConnectionLost:
-            pass
+        except (colock.ConnectionLost, colock.Closed):
+            pass  # the program is gone, and by then the store may be closed too
 
     @unittest.skipIf(support.QUICK, "it takes seconds")
     def test_killed_at_any_moment(self):
@@ -324,6 +324,7 @@ class Losses(Files):
 CLIENT = """
 import os, signal, sys, time
 import colock
+signal.signal(signal.SIGINT, signal.default_int_handler)  # who runs the tests may ignore it
 store = colock.Store.open({path!r}, program={program!r})
 t = store.begin()
 t.call(0, "inc:1")
