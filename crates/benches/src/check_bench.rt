@@ -12,7 +12,7 @@ use std::time::Instant;
 use table_checker::{Kind, check, check_parallel};
 use type_text::{TypeFile, read_type};
 
-const USAGE: &str = "usage: benches check undo|intentions FILE ROUNDS";
+const USAGE: &str = "usage: benches check undo|intentions|escrow FILE ROUNDS";
 
 /// Measures what the words ask for, and prints it.
 pub fn measure<R: Files + Clock + Print + AllocGlobal + Threads + Sync>(

@@ -5,6 +5,7 @@
 use crate::parts::checked_at;
 use crate::store_bench::{Fresh, store_at};
 use anyhow::{Error, Result, bail};
+use escrow_manager::EscrowManager;
 use intentions_manager::IntentionsManager;
 use object_trait::{Event, EventKind, Recovery};
 use std::alloc::{AllocError, Global};
@@ -15,7 +16,7 @@ use store::{Store, Stray, follow, replay};
 use table_checker::{CheckedType, Kind};
 use undo_manager::UndoManager;
 
-const USAGE: &str = "usage: benches followed undo|intentions NUMBERS FILE..";
+const USAGE: &str = "usage: benches followed undo|intentions|escrow NUMBERS FILE..";
 
 const CUT_SHORT: &str = "the numbers end in the midst of a history";
 
@@ -100,6 +101,7 @@ fn measure_types<R: Print + AllocGlobal>(
     let told = match kind {
         Kind::Undo => follow_all::<UndoManager>(rt.alloc(), types, numbers),
         Kind::Intentions => follow_all::<IntentionsManager>(rt.alloc(), types, numbers),
+        Kind::Escrow => follow_all::<EscrowManager>(rt.alloc(), types, numbers),
     };
     let Told { histories, made } = told?;
     println!(rt; "histories {histories}\nchanged {histories} made {made}")?;
@@ -345,5 +347,5 @@ fn states_of<M: Recovery>(alloc: Global, store: &Store<M>) -> Result<Vec<u32>, A
 
 /// The state that an object keeps, or 0.
 fn kept<M: Recovery>(store: &Store<M>, x: u32) -> u32 {
-    u32::from(store.kept(x).unwrap_or(0))
+    store.kept(x).unwrap_or(0)
 }

@@ -1,10 +1,12 @@
-//! A store that goes on without end: `lasting FILE MILLIONS` makes so many million events at one object of
-//! a type in place, whose calls 0 and 1 take turns, with 16 transactions open, and forgets each 65,536 of
-//! them. It prints the nanoseconds of the first and of the last million.
+//! A store that goes on without end: `lasting KIND FILE MILLIONS` makes so many million events at one object
+//! of a type, whose calls 0 and 1 take turns, with 16 transactions open, and forgets each 65,536 of them. It
+//! prints the nanoseconds of the first and of the last million.
 
 use crate::parts::{checked_at, number, show, since};
-use crate::store_bench::store_of;
+use crate::store_bench::{Fresh, store_of};
 use anyhow::{Error, Result};
+use escrow_manager::EscrowManager;
+use intentions_manager::IntentionsManager;
 use object_trait::Recovery;
 use serial_order::Refusal;
 use std::rt::{Clock, Files};
@@ -14,7 +16,7 @@ use store::Store;
 use table_checker::{CheckedType, Kind};
 use undo_manager::UndoManager;
 
-const USAGE: &str = "usage: benches lasting FILE MILLIONS";
+const USAGE: &str = "usage: benches lasting undo|intentions|escrow FILE MILLIONS";
 
 /// How many transactions are open.
 const OPEN: usize = 16;
@@ -29,28 +31,35 @@ const WORKER: u8 = 0;
 
 /// Measures what the words ask for, and prints it.
 pub fn measure<R: Files + Clock + Print + AllocGlobal>(rt: &R, words: &[String]) -> Result<()> {
-    let Some((path, millions)) = asked(words) else {
+    let Some((kind, path, millions)) = asked(words) else {
         return Err(Error::msg(USAGE));
     };
-    let checked = checked_at(rt, Kind::Undo, path)?;
-    measure_type(rt, &checked, millions)
+    let checked = checked_at(rt, kind, path)?;
+    match kind {
+        Kind::Undo => measure_type::<R, UndoManager>(rt, &checked, millions),
+        Kind::Intentions => measure_type::<R, IntentionsManager>(rt, &checked, millions),
+        Kind::Escrow => measure_type::<R, EscrowManager>(rt, &checked, millions),
+    }
 }
 
-/// The path and the millions that the words ask for.
-fn asked(words: &[String]) -> Option<(&str, u32)> {
+/// The kind, the path and the millions that the words ask for.
+fn asked(words: &[String]) -> Option<(Kind, &str, u32)> {
     match words {
-        [path, millions] => Some((path.as_str(), number(millions)?)),
+        [kind, path, millions] => {
+            let kind = Kind::of_word(kind.as_bytes())?;
+            Some((kind, path.as_str(), number(millions)?))
+        }
         _ => None,
     }
 }
 
 /// Makes the events at an object of a type, and prints how many they are.
-fn measure_type<R: Clock + Print + AllocGlobal>(
+fn measure_type<R: Clock + Print + AllocGlobal, M: Fresh>(
     rt: &R,
     checked: &Arc<CheckedType>,
     millions: u32,
 ) -> Result<()> {
-    let mut store = store_of::<UndoManager>(rt.alloc(), checked, 1, u32::MAX)?;
+    let mut store = store_of::<M>(rt.alloc(), checked, 1, u32::MAX)?;
     let measured = measure_store(rt, &mut store, millions);
     let events = u128::from(store.event_count());
     let _ = store.close();

@@ -18,7 +18,8 @@ use std::thread::Threads;
 use store_bench::What;
 
 /// What the first word may be.
-const USAGE: &str = "the first word is check, store, follow, followed, lasting, lines or workers";
+const USAGE: &str =
+    "the first word is check, store, objects, follow, followed, lasting, lines or workers";
 
 fn main(rt: HostRuntime) -> ExitCode {
     match measure(&rt) {
@@ -47,6 +48,7 @@ fn measure_words<R: Files + Clock + Print + AllocGlobal + Threads + Wait + Sync>
         [what, words @ ..] => match what.as_str() {
             "check" => check_bench::measure(rt, words),
             "store" => store_bench::measure(rt, What::Run, words),
+            "objects" => store_bench::measure(rt, What::Objects, words),
             "follow" => store_bench::measure(rt, What::Follow, words),
             "followed" => followed_bench::measure(rt, words),
             "lasting" => lasting_bench::measure(rt, words),

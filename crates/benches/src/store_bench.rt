@@ -1,6 +1,7 @@
 //! Times of a store: `store KIND FILE OBJECTS OPEN CALLS MODE COMMANDS ROUNDS` prints the least
 //! nanoseconds of a run of so many commands, and what came of them. `follow`, with the same words, prints the
-//! least nanoseconds of a run, and of a new store that follows its events.
+//! least nanoseconds of a run, and of a new store that follows its events. `objects` is `store` at objects of any
+//! kind of recovery, as the store of a program and of the library has them.
 
 mod fresh;
 mod outcome;
@@ -9,11 +10,13 @@ mod workload;
 
 use crate::parts::{checked_at, number, show};
 use anyhow::{Error, Result};
+use escrow_manager::EscrowManager;
 pub use fresh::Fresh;
 use intentions_manager::IntentionsManager;
 use object_trait::Event;
+use objects::Object;
 use outcome::Outcome;
-use rounds::least_of;
+use rounds::{Measured, least_of};
 pub use rounds::{store_at, store_of};
 use std::mem::size_of;
 use std::rt::{Clock, Files};
@@ -23,13 +26,15 @@ use undo_manager::UndoManager;
 use workload::{Mode, Workload};
 
 const USAGE: &str =
-    "usage: benches store|follow undo|intentions FILE OBJECTS OPEN CALLS plain|old|rollback COMMANDS ROUNDS";
+    "usage: benches store|objects|follow undo|intentions|escrow FILE OBJECTS OPEN CALLS plain|old|rollback COMMANDS ROUNDS";
 
 /// What is measured of a workload.
 #[derive(Clone, Copy)]
 pub enum What {
     /// A run.
     Run,
+    /// A run at objects of any kind.
+    Objects,
     /// A run, and a store that follows its events.
     Follow,
 }
@@ -80,14 +85,25 @@ fn measure_type<R: Clock + Print + AllocGlobal>(
     checked: &Arc<CheckedType>,
     workload: Workload,
 ) -> Result<()> {
-    let measured = match checked.kind() {
-        Kind::Undo => least_of::<R, UndoManager>(rt, what, checked, workload),
-        Kind::Intentions => least_of::<R, IntentionsManager>(rt, what, checked, workload),
-    };
-    let measured = measured?;
+    let measured = measured(rt, what, checked, workload)?;
     match what {
-        What::Run => print_run(rt, measured.run, measured.outcome),
+        What::Run | What::Objects => print_run(rt, measured.run, measured.outcome),
         What::Follow => show(rt, &[("run", measured.run), ("follow", measured.follow)]),
+    }
+}
+
+/// Measures a workload at objects of a type's kind, or at objects of any kind.
+fn measured<R: Clock + AllocGlobal>(
+    rt: &R,
+    what: What,
+    checked: &Arc<CheckedType>,
+    workload: Workload,
+) -> Result<Measured> {
+    match (what, checked.kind()) {
+        (What::Objects, _) => least_of::<R, Object>(rt, what, checked, workload),
+        (_, Kind::Undo) => least_of::<R, UndoManager>(rt, what, checked, workload),
+        (_, Kind::Intentions) => least_of::<R, IntentionsManager>(rt, what, checked, workload),
+        (_, Kind::Escrow) => least_of::<R, EscrowManager>(rt, what, checked, workload),
     }
 }
 

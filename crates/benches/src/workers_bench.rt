@@ -20,7 +20,7 @@ use type_table::Name;
 use work::{Pace, Work};
 
 const USAGE: &str =
-    "usage: benches workers undo|intentions FILE WORKERS JOBS TRIES MICROSECONDS CALL..";
+    "usage: benches workers undo|intentions|escrow FILE WORKERS JOBS TRIES MICROSECONDS CALL..";
 
 /// Measures what the words ask for, and prints it.
 pub fn measure<H: Files + Clock + Print + AllocGlobal + Threads + Wait + Sync>(

@@ -3,7 +3,7 @@ use Rattle.std.specs.Prelude.{◌≡◌, ℕ, ◌<◌, ◌≤◌, List, ◌++◌
 use Rattle.type_table.specs.ConflictTable.{conflicts}
 use Rattle.type_table.specs.Table.{Table, next}
 use Rattle.type_table.specs.declared.op.Op.{Op}
-use Rattle.type_text.specs.TypeFile.{conflicts_of}
+use Rattle.object_trait.specs.Object.{conflicts_by}
 use Rattle.table_checker.specs.Checked.{Checked}
 use Rattle.colock_c.specs.Codes.{number}
 use Rattle.colock_c.specs.Holding.{type_at}
@@ -45,8 +45,8 @@ pub data IsStep (T : Table) (s k n to : ℕ) : Type 0 where
 pub data IsConflict (c : Checked) (p q n told : ℕ) : Type 0 where
   no_requested : n ≡ number NoOperation → length c.file.table.ops ≤ p → IsConflict c p q n told
   no_held : n ≡ number NoOperation → p < length c.file.table.ops → length c.file.table.ops ≤ q → IsConflict c p q n told
-  conflicting : n ≡ number Done → p < length c.file.table.ops → q < length c.file.table.ops → conflicts (conflicts_of c.kind c.file) p q ≡ true → told ≡ 1 → IsConflict c p q n told
-  apart : n ≡ number Done → p < length c.file.table.ops → q < length c.file.table.ops → conflicts (conflicts_of c.kind c.file) p q ≡ false → told ≡ 0 → IsConflict c p q n told
+  conflicting : n ≡ number Done → p < length c.file.table.ops → q < length c.file.table.ops → conflicts (conflicts_by c.kind c.file) p q ≡ true → told ≡ 1 → IsConflict c p q n told
+  apart : n ≡ number Done → p < length c.file.table.ops → q < length c.file.table.ops → conflicts (conflicts_by c.kind c.file) p q ≡ false → told ≡ 0 → IsConflict c p q n told
 
 -- ---- behind a handle
 

@@ -1,13 +1,13 @@
 -- Answers, faults and types in numbers.
 use Rattle.std.specs.Prelude.{ℕ, length, Option, Some, None, ◌==◌, if◌then◌else◌}
 use Rattle.type_table.specs.declared.kind.Kind.{Kind}
-use Rattle.type_table.specs.declared.kind.Kind.TheVariants.{Undo, Intentions}
+use Rattle.type_table.specs.declared.kind.Kind.TheVariants.{Undo, Intentions, Escrow}
 use Rattle.line_text.specs.declared.fault.TextFault.{TextFault}
 use Rattle.line_text.specs.declared.fault.FaultKind.{FaultKind}
 use Rattle.line_text.specs.declared.fault.FaultKind.TheVariants as fault
 use Rattle.table_checker.specs.Checked.{Checked}
 use Rattle.table_checker.specs.declared.refusal.CheckRefusal.{CheckRefusal}
-use Rattle.table_checker.specs.declared.refusal.CheckRefusal.TheVariants.{InitialOutside, NotClosed, NotSimulation, NotCommuting}
+use Rattle.table_checker.specs.declared.refusal.CheckRefusal.TheVariants.{InitialOutside, NotClosed, NotSimulation, NotCommuting, NotNumeric}
 use Rattle.object_calls.specs.declared.answer.Answer.{Answer}
 use Rattle.object_calls.specs.declared.answer.Answer.TheVariants as answer
 use Rattle.colock_c.specs.declared.words.ColockAnswer.{ColockAnswer}
@@ -44,15 +44,17 @@ refusal_words InitialOutside = record { line = 0; kind = 1; first = 0; second = 
 refusal_words (NotClosed s k) = record { line = 0; kind = 2; first = s; second = k; third = 0 }
 refusal_words (NotSimulation s t k) = record { line = 0; kind = 3; first = s; second = t; third = k }
 refusal_words (NotCommuting p q s) = record { line = 0; kind = 4; first = p; second = q; third = s }
+refusal_words (NotNumeric k s) = record { line = 0; kind = 5; first = k; second = s; third = 0 }
 
 -- the kind of recovery with this number
 abbrev pub kind_at : ℕ → Option Kind
-kind_at n = if n == 0 then Some Undo else (if n == 1 then Some Intentions else None)
+kind_at n = if n == 0 then Some Undo else (if n == 1 then Some Intentions else (if n == 2 then Some Escrow else None))
 
 -- the number of a kind
 abbrev pub kind_number : Kind → ℕ
 kind_number Undo = 0
 kind_number Intentions = 1
+kind_number Escrow = 2
 
 -- what is told of a type at once
 abbrev pub shape_of : Checked → ColockShape

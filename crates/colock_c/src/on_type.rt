@@ -1,7 +1,9 @@
 //! What is read of a type.
 
-ghost use Rattle.std.specs.Prelude.{◌≡◌, ◌≢◌, option_map, slice_get};
+ghost use Rattle.std.specs.Prelude.{◌≡◌, ◌≢◌, ◌<◌, length, option_map, slice_get};
+ghost use Rattle.type_table.specs.ConflictTable.{conflicts};
 ghost use Rattle.type_table.specs.declared.op.Op.{Op as OpValue};
+ghost use Rattle.object_trait.specs.Object.{conflicts_by};
 ghost use Rattle.colock_c.specs.Codes.{number};
 ghost use Rattle.colock_c.specs.Named.{call_of, IsConflict, IsFoundPut, IsPut, IsStep, reply_of};
 
@@ -102,18 +104,29 @@ pub(crate) fn conflict(checked: &CheckedType, requested: u64, other: u64, told: 
     ensures conflict { IsConflict checked.now requested other (number result) told.new }
     ensures rest { number result ≢ 0 → told.new ≡ told.old }
 {
-    let conflicts = checked.conflicts();
-    let ops = u64::from(conflicts.ops());
+    let ops = u64::from(checked.table().op_count());
     if requested >= ops {
         return Code::NoOperation;
     }
     if other >= ops {
         return Code::NoOperation;
     }
-    if conflicts.conflicts(requested as u8, other as u8) {
+    if is_in_table(checked, requested as u8, other as u8) {
         *told = 1;
         return Code::Done;
     }
     *told = 0;
     Code::Done
+}
+
+/// Whether two operations are a pair of the conflict table of the type's kind. Escrow has none.
+fn is_in_table(checked: &CheckedType, requested: u8, other: u8) -> bool
+    requires requested { requested < length checked.now.file.table.ops }
+    requires other { other < length checked.now.file.table.ops }
+    ensures { result ≡ conflicts (conflicts_by checked.now.kind checked.now.file) requested other }
+{
+    match checked.kind().table_kind() {
+        Some(kind) => checked.conflicts(kind).conflicts(requested, other),
+        None => false,
+    }
 }

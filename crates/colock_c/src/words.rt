@@ -88,16 +88,18 @@ pub(crate) fn refusal_words(why: CheckRefusal) -> ColockFault
         CheckRefusal::NotClosed { s, k } => refusal_of(2, s, u16::from(k), 0),
         CheckRefusal::NotSimulation { s, t, k } => refusal_of(3, s, t, u16::from(k)),
         CheckRefusal::NotCommuting { p, q, s } => refusal_of(4, u16::from(p), u16::from(q), s),
+        CheckRefusal::NotNumeric { k, s } => refusal_of(5, u16::from(k), s, 0),
     }
 }
 
-/// 0 is update in place, 1 deferred update.
+/// 0 is update in place, 1 deferred update, 2 escrow.
 pub(crate) fn kind_at(kind: u32) -> Option<Kind>
     ensures { result ≡ kind_at kind }
 {
     match kind {
         0 => Some(Kind::Undo),
         1 => Some(Kind::Intentions),
+        2 => Some(Kind::Escrow),
         _ => None,
     }
 }
@@ -109,6 +111,7 @@ fn kind_number(kind: Kind) -> u64
     match kind {
         Kind::Undo => 0,
         Kind::Intentions => 1,
+        Kind::Escrow => 2,
     }
 }
 

@@ -17,5 +17,6 @@ pub fn no_line(alloc: Global, refusal: CheckRefusal) -> Result<String, AllocErro
         CheckRefusal::NotCommuting { p, q, s } => {
             format!(in alloc; "no NotCommuting {p} {q} {s}\n")
         }
+        CheckRefusal::NotNumeric { k, s } => format!(in alloc; "no NotNumeric {k} {s}\n"),
     }
 }

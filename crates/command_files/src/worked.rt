@@ -49,6 +49,7 @@ pub fn lines_of_a_no()
     ensures closed { no_line (CheckRefusal.NotClosed 12 3) ≡ codes "no NotClosed 12 3\n" }
     ensures simulation { no_line (CheckRefusal.NotSimulation 1023 0 63) ≡ codes "no NotSimulation 1023 0 63\n" }
     ensures commuting { no_line (CheckRefusal.NotCommuting 1 0 2) ≡ codes "no NotCommuting 1 0 2\n" }
+    ensures numeric { no_line (CheckRefusal.NotNumeric 63 1023) ≡ codes "no NotNumeric 63 1023\n" }
 {}
 
 /// The text of the counter describes its file, and has no fault.

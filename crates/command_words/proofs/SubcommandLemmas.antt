@@ -14,7 +14,7 @@ use Rattle.clap.proofs.OnLiterals.{clap_on_literals}
 use Rattle.clap.proofs.WalkLemmas.{list_any-map}
 use Rattle.type_table.specs.Kind.{kind_word}
 use Rattle.type_table.specs.declared.kind.Kind.{Kind}
-use Rattle.type_table.specs.declared.kind.Kind.TheVariants.{Undo, Intentions}
+use Rattle.type_table.specs.declared.kind.Kind.TheVariants.{Undo, Intentions, Escrow}
 use Rattle.command_words.specs.Program.{check_app, entry_of, item_rows, kind_words, make_app, row, store_rows}
 use Rattle.command_words.specs.Lines.{IsPlain}
 use Rattle.command_words.specs.Words.{Order, IsPlainOrder, HasPlainWords, IsWhole, Text, without_dashes, order_words}
@@ -258,7 +258,7 @@ pub record Answers (name : Text) (s : Shape) (h : Held) (operands : List Text) :
 
 -- the fault of a value of KIND, by the words of the kinds
 kind_fault : (listed : Bor (List (Bor Text))) (word : Text) → texts listed.now ≡ kind_words
-    → value_kinds false (parser.Names listed) word ≡ (if bytes_eq (codes "undo") word || (bytes_eq (codes "intentions") word || false) then [] else (InvalidValue ∷ []))
+    → value_kinds false (parser.Names listed) word ≡ (if bytes_eq (codes "undo") word || (bytes_eq (codes "intentions") word || (bytes_eq (codes "escrow") word || false)) then [] else (InvalidValue ∷ []))
 kind_fault listed word are =
     ap (λ (b : Bool). if b then [] else (InvalidValue ∷ []))
     (list_any-map (λ (w : Text). bytes_eq w word) (λ (s : Bor Text). s.now) listed.now ∙ ap (list_any (λ (w : Text). bytes_eq w word)) are)
@@ -272,12 +272,15 @@ named_kind listed word are accepted =
     (λ undo. (Undo, sym (same_text (codes "undo") word (sym undo))))
     (λ not_undo. by_test (bytes_eq (codes "intentions") word)
     (λ intentions. (Intentions, sym (same_text (codes "intentions") word (sym intentions))))
-    (λ other. absurd (never InvalidValue [] (simp (not_undo, other) at none))))
+    (λ not_intentions. by_test (bytes_eq (codes "escrow") word)
+    (λ escrow. (Escrow, sym (same_text (codes "escrow") word (sym escrow))))
+    (λ other. absurd (never InvalidValue [] (simp (not_undo, not_intentions, other) at none)))))
 
 -- the word of each kind is taken
 offered : (listed : Bor (List (Bor Text))) (kind : Kind) → texts listed.now ≡ kind_words → value_kinds false (parser.Names listed) (kind_word kind) ≡ []
 offered listed Undo are = kind_fault listed (codes "undo") are
 offered listed Intentions are = kind_fault listed (codes "intentions") are
+offered listed Escrow are = kind_fault listed (codes "escrow") are
 
 -- operands of `check` that come to no fault are a kind and a path
 check_answers : (listed : Bor (List (Bor Text))) → texts listed.now ≡ kind_words → (operands : List Text) → CheckTook listed operands
@@ -395,6 +398,7 @@ operands_of (asked.history path) = path ∷ []
 plain_kind : (kind : Kind) → IsPlain (kind_word kind)
 plain_kind Undo = refl
 plain_kind Intentions = refl
+plain_kind Escrow = refl
 
 -- a fact of the first word, and of the others
 pub all_with : (P : Text → Type 0) (word : Text) (rest : List Text) → P word → All P rest → All P (word ∷ rest)

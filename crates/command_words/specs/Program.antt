@@ -22,11 +22,11 @@ use Rattle.command_words.specs.Lines.{Audit, IsNumber, IsWholeAudit, IsWholeWork
 use Rattle.command_words.specs.Words.{Asked, Order, Text}
 use Rattle.command_words.specs.Words as asked
 use Rattle.type_table.specs.Kind.{kind_word}
-use Rattle.type_table.specs.declared.kind.Kind.TheVariants.{Undo, Intentions}
+use Rattle.type_table.specs.declared.kind.Kind.TheVariants.{Undo, Intentions, Escrow}
 
 -- the words of the kinds
 abbrev pub kind_words : List Text
-kind_words = kind_word Undo ∷ kind_word Intentions ∷ []
+kind_words = kind_word Undo ∷ kind_word Intentions ∷ kind_word Escrow ∷ []
 
 -- the parser takes the words of the kinds, and no other
 abbrev pub ReadsKinds : ValueParser → Type 0

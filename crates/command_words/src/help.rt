@@ -15,7 +15,7 @@ file, and audits histories.
 Usage: colock COMMAND
 
 Commands:
-  check KIND FILE            Check the conflict table of a type file.
+  check KIND FILE            Check a type file for a kind of recovery.
   make FAMILY SIZE ITEM...   Write the type file of a family of types.
   tables FILE                Write a type file with its tables made anew.
   run SCRIPT TYPE...         Run a script at a store, and audit its history.
@@ -49,7 +49,8 @@ or -h among the words, the text goes to standard error and the status is 2.
 ";
 
 pub(crate) const CHECK: &str = "\
-Check whether the conflict table of a type file holds enough pairs.
+Check whether the conflict table of a type file holds enough pairs, or whether
+its states are numbers that may be in escrow.
 
 Usage: colock check KIND FILE
 
@@ -58,12 +59,16 @@ KIND is how objects of the type recover from aborts:
                of the middle.
   intentions   Deferred update. A commit appends a transaction's operations to
                what was committed before.
+  escrow       Deferred update of a number. Conflicts look at how far it is
+               from its bounds; the conflict tables aren't looked at.
 
 FILE is the path of a type file.
 
 One line is written. States and operations have the numbers of the file.
   yes strong
       Enough pairs conflict. All others may change places in both directions.
+      For escrow: each operation moves all states in which it is legal as far,
+      and is legal in each state between two of them.
   yes one-way
       The same for undo, where some others may change places in one direction.
   no InitialOutside
@@ -77,6 +82,10 @@ One line is written. States and operations have the numbers of the file.
   no NotCommuting P Q S
       P, requested while Q is held, has to conflict with it: at state S they
       can't change places.
+  no NotNumeric K S
+      For escrow, and its only no: K is illegal in S and legal in a lower and
+      in a higher state; or it is legal in S, and moves it otherwise than the
+      least state in which it is legal.
 
 Status: 0 yes, 1 no, 2 a fault of the command line or of the file's text, 3 a
 file that can't be read, want of memory, or an output that failed.

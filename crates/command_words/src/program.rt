@@ -9,7 +9,7 @@ use clap::{Arg, ArgAction, Command, value_parser};
 use std::alloc::{AllocError, Global};
 
 /// The words of the kinds of recovery.
-static KINDS: [&str; 2] = ["undo", "intentions"];
+static KINDS: [&str; 3] = ["undo", "intentions", "escrow"];
 
 /// The program with its commands, but for `serve`.
 pub(crate) fn program<'a>(alloc: Global) -> Result<Command<'a>, AllocError>

@@ -1,12 +1,15 @@
 -- A store that has begun anew is ahead of its journal: its types are those of the file at the states that were kept.
-use Rattle.std.proofs.Common.{◌≡◌, ◌∙◌, ℕ, ◌<◌, zero, suc, List, [], ◌∷◌, length, get_or, true, Some, refl, sym, ap, subst, arith}
+use Rattle.std.proofs.Common.{◌≡◌, ◌∙◌, ℕ, ◌<◌, zero, suc, List, [], ◌∷◌, length, get_or, Some, refl, sym, ap, subst, arith}
 use Rattle.std.specs.Prelude.{slice_get}
 use Rattle.std.proofs.lemmas.List.{length-map}
 use Rattle.std.proofs.lemmas.Option.{same_Some, slice_get-get_or, slice_get_within}
 use Rattle.sqlite_trees.specs.declared.store.Store.{Ghosts}
-use Rattle.type_table.specs.StateSet.{has}
-use Rattle.table_checker.specs.At.{checked_at}
-use Rattle.table_checker.specs.Checked.{Checked}
+use Rattle.type_table.specs.declared.kind.Kind.{Kind}
+use Rattle.type_table.specs.declared.kind.Kind.TheVariants.{Undo, Intentions, Escrow}
+use Rattle.type_text.specs.TypeFile.{file_at}
+use Rattle.type_text.specs.declared.type_file.TypeFile.{TypeFile}
+use Rattle.table_checker.specs.At.{checked_at, IsInside}
+use Rattle.table_checker.specs.Checked.{Checked, set_by}
 use Rattle.serial_order.specs.Epochs.{types_at}
 use Rattle.store.specs.Renews.{Renews}
 use Rattle.store_laws.specs.Stored.{Stored}
@@ -32,8 +35,14 @@ many-kept [] kept long = refl
 many-kept (c ∷ types) [] long = absurd (omega (arith, long))
 many-kept (c ∷ types) (s ∷ kept) long = ap suc (many-kept types kept (omega (arith, long)))
 
--- a type of a file at another state of its set
-begun-anew : (texts : List (List ℕ)) (o : ObjectLine) (was first : FirstState) (c now : Checked) (s : ℕ) → IsTypeOf texts o was c → has c.file.reach s ≡ true → now ≡ checked_at c s → first.state ≡ s
+-- where it begins makes no difference to where it may begin
+same-inside : (kind : Kind) (file : TypeFile) (i s : ℕ) → set_by kind (file_at file i) s ≡ set_by kind file s
+same-inside Undo file i s = refl
+same-inside Intentions file i s = refl
+same-inside Escrow file i s = refl
+
+-- a type of a file at another state at which it may begin
+begun-anew : (texts : List (List ℕ)) (o : ObjectLine) (was first : FirstState) (c now : Checked) (s : ℕ) → IsTypeOf texts o was c → IsInside c s → now ≡ checked_at c s → first.state ≡ s
     → IsTypeOf texts o first now
 begun-anew texts o was first c now s of inside is state =
     let base : Checked = record { kind = o.kind; file = of.file } in
@@ -43,8 +52,8 @@ begun-anew texts o was first c now s of inside is state =
       file = of.file;
       reads = of.reads;
       checked = of.checked;
-      inside = subst (λ n. has of.file.reach n ≡ true) (sym state) (subst (λ (c : Checked). has c.file.reach s ≡ true) of.is inside);
-      is = is ∙ ap (λ c. checked_at c s) of.is ∙ ap (checked_at base) (sym state);
+      inside = subst (λ n. IsInside base n) (sym state) (sym (same-inside o.kind of.file was.state s) ∙ subst (λ (c : Checked). IsInside c s) of.is inside);
+      is = is ∙ ap (λ (c : Checked). checked_at c s) of.is ∙ ap (checked_at base) (sym state);
     }
 
 -- the state that stands for a type is that at which it begins
@@ -55,9 +64,9 @@ first-of (d ∷ types) zero c first there state =
     ∙ ap (λ (c : Checked). c.file.table.initial) (same_Some d c there)
 first-of (d ∷ types) (suc x) c first there state = first-of types x c first there state
 
--- the types of a file at states of their sets
+-- the types of a file at states at which they may begin
 has-renewed : (f : Contents) (types : List Checked) (kept : List ℕ) → HasTypes f types → length kept ≡ length types
-    → ((x : ℕ) (c : Checked) (s : ℕ) → slice_get types x ≡ Some c → slice_get kept x ≡ Some s → has c.file.reach s ≡ true)
+    → ((x : ℕ) (c : Checked) (s : ℕ) → slice_get types x ≡ Some c → slice_get kept x ≡ Some s → IsInside c s)
     → HasTypes (from_states f (firsts (types_at types kept))) (types_at types kept)
 has-renewed f types kept its long inside =
     let now = types_at types kept in

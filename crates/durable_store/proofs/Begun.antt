@@ -1,13 +1,12 @@
 -- Types at the states where a history begins, one after another.
-use Rattle.std.proofs.Common.{◌≡◌, ◌∙◌, ◌⊎◌, ℕ, ◌<◌, zero, suc, List, [], ◌∷◌, ◌++◌, length, map, take, get_or, true, Some, refl, sym, ap, subst, inl, inr, arith}
+use Rattle.std.proofs.Common.{◌≡◌, ◌∙◌, ◌⊎◌, ℕ, ◌<◌, zero, suc, List, [], ◌∷◌, ◌++◌, length, map, take, get_or, Some, refl, sym, ap, subst, inl, inr, arith}
 use Rattle.std.specs.Prelude.{slice_get}
 use Rattle.std.specs.Option.{option_map}
 use Rattle.std.specs.declared.sync.Arc.{Arc}
 use Rattle.std.proofs.lemmas.List.{length-map, length-take, map_push}
 use Rattle.std.proofs.lemmas.Option.{same_Some, slice_get-get_or, slice_get-map, slice_get_read, slice_get_within}
-use Rattle.type_table.specs.StateSet.{has}
 use Rattle.type_text.specs.declared.type_file.TypeFile.{TypeFile}
-use Rattle.table_checker.specs.At.{checked_at}
+use Rattle.table_checker.specs.At.{checked_at, IsInside}
 use Rattle.table_checker.specs.Checked.{Checked, IsChecked}
 use Rattle.object_types.specs.Types.{AreTypesOf, value_of}
 use Rattle.journal.specs.Contents.{Contents}
@@ -115,7 +114,7 @@ are-types c files types begun read of states long at = record {
         file = its.file;
         reads = read.each o.file text its.file text-there its.there;
         checked = subst IsChecked its.checked.0 its.checked.1;
-        inside = subst (λ (k : Checked). has k.file.reach first.state ≡ true) its.checked.0 is.0;
+        inside = subst (λ (k : Checked). IsInside k first.state) its.checked.0 is.0;
         is = is.1 ∙ ap (λ k. checked_at k first.state) its.checked.0;
       };
 }

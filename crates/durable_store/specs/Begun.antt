@@ -1,10 +1,9 @@
 -- The types of a file's objects, at the states where its history begins.
-use Rattle.std.specs.Prelude.{◌≡◌, ℕ, List, length, slice_get, Some, Ok, true}
-use Rattle.type_table.specs.StateSet.{has}
+use Rattle.std.specs.Prelude.{◌≡◌, ℕ, List, length, slice_get, Some, Ok}
 use Rattle.type_text.specs.declared.type_file.TypeFile.{TypeFile}
 use Rattle.type_text.specs.TypeFile.{Reads}
 use Rattle.table_checker.specs.Checked.{Checked}
-use Rattle.table_checker.specs.At.{checked_at}
+use Rattle.table_checker.specs.At.{checked_at, IsInside}
 use Rattle.store_text.specs.declared.line.ObjectLine.{ObjectLine}
 use Rattle.journal.specs.declared.state_row.FirstState.{FirstState}
 
@@ -18,9 +17,9 @@ abbrev pub AreAlike : List ObjectLine → List Checked → Type 0
 AreAlike lines types =
     (x y : ℕ) (o : ObjectLine) (c d : Checked) → slice_get lines x ≡ Some o → slice_get lines y ≡ Some o → slice_get types x ≡ Some c → slice_get types y ≡ Some d → c ≡ d
 
--- a type at a state of its set
+-- a type at a state at which it may begin
 abbrev pub IsAt : Checked → FirstState → Checked → Type 0
-IsAt c first at = (has c.file.reach first.state ≡ true) × (at ≡ checked_at c first.state)
+IsAt c first at = IsInside c first.state × (at ≡ checked_at c first.state)
 
 -- the type at this place, at its state
 abbrev pub IsAtPlace : List Checked → List FirstState → ℕ → Checked → Type 0

@@ -1,10 +1,9 @@
 -- The types of a file's objects.
-use Rattle.std.specs.Prelude.{◌≡◌, ℕ, List, length, slice_get, Some, Ok, true}
-use Rattle.type_table.specs.StateSet.{has}
+use Rattle.std.specs.Prelude.{◌≡◌, ℕ, List, length, slice_get, Some, Ok}
 use Rattle.type_text.specs.declared.type_file.TypeFile.{TypeFile}
 use Rattle.type_text.specs.TypeFile.{Reads}
 use Rattle.table_checker.specs.Checked.{Checked, IsChecked}
-use Rattle.table_checker.specs.At.{checked_at}
+use Rattle.table_checker.specs.At.{checked_at, IsInside}
 use Rattle.store_text.specs.declared.line.ObjectLine.{ObjectLine}
 use Rattle.journal.specs.declared.state_row.FirstState.{FirstState}
 use Rattle.journal.specs.Contents.{Contents}
@@ -16,7 +15,7 @@ pub record IsTypeOf (texts : List (List ℕ)) (o : ObjectLine) (first : FirstSta
   pub file : TypeFile
   pub reads : Reads (Ok file) text
   pub checked : IsChecked (record { kind = o.kind; file = file })
-  pub inside : has file.reach first.state ≡ true
+  pub inside : IsInside (record { kind = o.kind; file = file }) first.state
   pub is : c ≡ checked_at (record { kind = o.kind; file = file }) first.state
 
 -- one for each object

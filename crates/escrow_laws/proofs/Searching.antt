@@ -1,14 +1,18 @@
 -- What the search for a fault of one operation finds.
-use Rattle.std.proofs.Common.{◌≡◌, ℕ, ◌+◌, ◌-◌, ◌<◌, ◌≤◌, ◌==◌, true, false, List, [], ◌∷◌, ◌++◌, length, slice_get, Option, Some, None, refl, sym, ap, subst, ◌∙◌, inl, inr, arith, below_more}
+use Rattle.std.proofs.Common.{◌≡◌, ℕ, ◌+◌, ◌-◌, ◌<◌, ◌≤◌, ◌==◌, true, false, List, [], ◌∷◌, ◌++◌, map, length, slice_get, Option, Some, None, is_some, refl, sym, ap, subst, ◌∙◌, inl, inr, arith, below_more}
 use Rattle.std.proofs.lemmas.Bool.{false≢true, both_ways, eqb-true, eq-eqb, cases_lt}
 use Rattle.std.proofs.lemmas.List.{length_push}
+use Rattle.std.specs.List.{range_with_len}
+use Rattle.std.specs.Option.{unwrap_or}
+use Rattle.std.proofs.lemmas.List.FromFn.{map-range_with_len_more}
 use Rattle.std.proofs.lemmas.Option.{none-some, same_Some, slice_get_past}
 use Rattle.type_table.specs.Table.{Table, IsTable, next}
 use Rattle.type_table.specs.Laws.{StepsWithin}
 use Rattle.type_table.proofs.Elements.{element_at, cases-more}
+use Rattle.type_table.proofs.Least.{first_below-none, first_below-found, last_below-found}
 use Rattle.type_table.proofs.Legal.{some_state}
 use Rattle.escrow_laws.specs.declared.bounded.Bounded.{Bounded}
-use Rattle.escrow_laws.specs.Bounds.{moved, moved_by, AreBounds}
+use Rattle.escrow_laws.specs.Bounds.{moved, moved_by, AreBounds, least_legal, greatest_legal, bounded_between, bounded_at, bounds_of}
 use Rattle.escrow_laws.specs.Faults.{IsNumericFault, IsFaultless, IsFirstNumericFault}
 use Rattle.escrow_laws.specs.Search.{IsIllegalFrom, IsFirstLegal, IsStretch, is_alike, IsFirstOfOperation, IsFaultlessAt, bounded_until, IsBounded}
 use Rattle.escrow_laws.proofs.Numbers.{inside_is, moved-under, moved-over}
@@ -232,27 +236,41 @@ stop-end within T table k s t n leads before whole =
 
 -- ---- its bounds
 
+-- legal from 1 to 0
+abbrev pub never : Bounded
+never = record { low = 1; high = 0; gives = 0; takes = 0 }
+
 -- where it is nowhere at fault, it is illegal from the stop on
 ended-by : (T : Table) (k s t stop : ℕ) → IsFirstLegal T k 0 s t → IsStretch T k s t stop → IsFaultlessAt T k → IsIllegalFrom T k stop
 ended-by T k s t stop first stretch faultless r far =
     illegal-by (next T r k) (λ e leads. faultless stop (stop-fault T k s t stop r e first stretch far leads))
 
+-- what is illegal has no step
+not-legal : (T : Table) (k s : ℕ) → next T s k ≡ None → is_some (next T s k) ≡ false
+not-legal T k s none = ap is_some none
+
+legal-here : (T : Table) (k s t : ℕ) → next T s k ≡ Some t → is_some (next T s k) ≡ true
+legal-here T k s t leads = ap is_some leads
+
 -- one that is legal nowhere has bounds
-pub nowhere-bounded : (T : Table) (k : ℕ) (b : Bounded) → IsIllegalFrom T k 0 → b.low ≡ 1 → b.high ≡ 0 → b.gives ≡ 0 → b.takes ≡ 0 → IsBounded T k b
-nowhere-bounded T k b illegal low high gives takes = record {
+pub nowhere-bounded : (T : Table) (k : ℕ) → IsIllegalFrom T k 0 → IsBounded T k never
+nowhere-bounded T k illegal = record {
+  is = sym (ap (λ low. bounded_between T k low (greatest_legal T k)) (first_below-none (λ s. is_some (next T s k)) T.states (λ s inside. not-legal T k s (illegal s (omega arith)))));
   steps = λ s. illegal s (omega arith) ∙ sym (nowhere s);
-  within = record { enough = omega (arith, takes); legal = omega (arith, high); room = omega (arith, high, gives) };
+  within = record { enough = omega arith; legal = omega arith; room = omega arith };
 }
   where
-    nowhere : (s : ℕ) → moved b s ≡ None
-    nowhere s = elim (cases_lt s b.low) [
-      | inl under ↦ moved-under b s under
-      | inr from ↦ moved-over b s (omega (arith, from, low, high))
+    nowhere : (s : ℕ) → moved never s ≡ None
+    nowhere s = elim (cases_lt s 1) [
+      | inl under ↦ moved-under never s under
+      | inr from ↦ moved-over never s (omega (arith, from))
     ]
 
 -- and so has one that is legal from s up to the stop
 pub stretch-bounded : StepsWithin → (T : Table) → IsTable T → (k s t stop : ℕ) → IsFirstLegal T k 0 s t → IsStretch T k s t stop → IsFaultlessAt T k → IsBounded T k (bounded_until s t stop)
 stretch-bounded within T table k s t stop first stretch faultless = record {
+  is = sym (ap (λ low. bounded_between T k low (greatest_legal T k)) least ∙ ap (bounded_between T k (Some s)) greatest
+      ∙ ap (λ step. (let end = unwrap_or step s in record { low = s; high = stop - 1; gives = end - s; takes = s - end })) leads);
   steps = λ r. elim (cases_lt r s) [
     | inl under ↦ first.least r (omega arith) under ∙ sym (moved-under (bounded_until s t stop) r under)
     | inr from ↦ elim (cases_lt r stop) [
@@ -287,16 +305,33 @@ stretch-bounded within T table k s t stop first stretch faultless = record {
     last_inside : last.0 < T.states
     last_inside = (within T (stop - 1) k last.0 table last.1).2
 
+    leads : next T s k ≡ Some t
+    leads = first.leads
+
+    -- the least state in which it is legal, and the greatest
+    least : least_legal T k ≡ Some s
+    least =
+        first_below-found (λ r. is_some (next T r k)) s T.states
+        (first_below-none (λ r. is_some (next T r k)) s (λ r under. not-legal T k r (first.least r (omega arith) under)))
+        (legal-here T k s t leads) (omega (arith, past, inside_states))
+
+    greatest : greatest_legal T k ≡ Some (stop - 1)
+    greatest =
+        last_below-found (λ r. is_some (next T r k)) (stop - 1) T.states (legal-here T k (stop - 1) last.0 last.1) (omega (arith, past, inside_states))
+        (λ r over inside. not-legal T k r (ended-by T k s t stop first stretch faultless r (omega (arith, over))))
+
 -- ---- all operations
 
 -- the bounds so far
 pub record AreFirstBounds (T : Table) (ops : List Bounded) (n : ℕ) : Type 0 where
+  pub are : ops ≡ map (bounded_at T) (range_with_len 0 n)
   pub count : length ops ≡ n
   pub each : (k : ℕ) (b : Bounded) → slice_get ops k ≡ Some b → IsBounded T k b
 
 -- none
 pub no-bounds : (T : Table) (ops : List Bounded) → ops ≡ [] → AreFirstBounds T ops 0
 no-bounds T ops none = record {
+  are = none;
   count = rw none refl;
   each = λ k b there. absurd (none-some b (rw none at there));
 }
@@ -304,6 +339,8 @@ no-bounds T ops none = record {
 -- one more
 pub more-bounds : (T : Table) (old new : List Bounded) (n : ℕ) (b : Bounded) → new ≡ old ++ b ∷ [] → AreFirstBounds T old n → IsBounded T n b → AreFirstBounds T new (n + 1)
 more-bounds T old new n b more first here = record {
+  are = more ∙ ap (λ (front : List Bounded). front ++ b ∷ []) first.are ∙ ap (λ (c : Bounded). map (bounded_at T) (range_with_len 0 n) ++ c ∷ []) here.is
+      ∙ sym (map-range_with_len_more (bounded_at T) 0 n n (omega arith));
   count = rw more (let joined = length_push old b in let count = first.count in omega (arith, joined, count));
   each = λ k c there. elim (cases-more old b k c (rw more at there)) [
     | inl before ↦ first.each k c before
@@ -312,6 +349,9 @@ more-bounds T old new n b more first here = record {
 }
 
 -- all
+pub all-are : (T : Table) (ops : List Bounded) (n : ℕ) → n ≡ length T.ops → AreFirstBounds T ops n → ops ≡ bounds_of T
+all-are T ops n whole first = first.are ∙ ap (λ (count : ℕ). map (bounded_at T) (range_with_len 0 count)) whole
+
 pub all-bounds : StepsWithin → (T : Table) → IsTable T → (ops : List Bounded) (n : ℕ) → length T.ops ≤ n → AreFirstBounds T ops n → AreBounds T (T.states - 1) ops
 all-bounds within T table ops n whole first = record {
   steps = λ s k. elim (cases_lt k (length ops)) [

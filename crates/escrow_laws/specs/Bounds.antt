@@ -1,6 +1,8 @@
--- Operations with bounds, and types of numbers whose operations these are.
-use Rattle.std.specs.Prelude.{◌≡◌, ℕ, ◌+◌, ◌-◌, ◌*◌, ◌/◌, ◌%◌, ◌≤◌, nat_le, map, length, ◌&&◌, List, Option, Some, None, slice_get, if◌then◌else◌}
+-- Operations with bounds, types of numbers whose operations these are, and the bounds of the operations of a table.
+use Rattle.std.specs.Prelude.{◌≡◌, ℕ, ◌+◌, ◌-◌, ◌*◌, ◌/◌, ◌%◌, ◌≤◌, nat_le, map, length, ◌&&◌, List, Option, Some, None, slice_get, if◌then◌else◌, is_some}
 use Rattle.std.specs.List.{range_with_len}
+use Rattle.std.specs.Option.{unwrap_or}
+use Rattle.type_table.specs.Least.{first_below, last_below}
 use Rattle.type_table.specs.Table.{Table, next}
 use Rattle.escrow_laws.specs.Amounts.{Amounts}
 use Rattle.escrow_laws.specs.declared.bounded.Bounded.{Bounded}
@@ -46,3 +48,25 @@ pub record AreBounds (T : Table) (top : ℕ) (ops : List Bounded) : Type 0 where
 -- the steps of such a type, as a table has them. For a large top they are written nowhere
 unfoldable pub steps_of : ℕ → List Bounded → List (Option ℕ)
 steps_of top ops = map (λ i. moved_by (slice_get ops (i % length ops)) (i / length ops)) (range_with_len 0 (length ops * (top + 1)))
+
+-- ---- the bounds of a table's operations
+
+-- the least state in which operation k is legal, and the greatest
+abbrev pub least_legal : Table → ℕ → Option ℕ
+least_legal T k = first_below T.states (λ s. is_some (next T s k))
+
+abbrev pub greatest_legal : Table → ℕ → Option ℕ
+greatest_legal T k = last_below T.states (λ s. is_some (next T s k))
+
+-- legal from the one to the other, and moving each state as far as it moves the least; what is legal nowhere is legal from 1 to 0
+abbrev pub bounded_between : Table → ℕ → Option ℕ → Option ℕ → Bounded
+bounded_between T k (Some low) (Some high) =
+    let end = unwrap_or (next T low k) low in
+    record { low = low; high = high; gives = end - low; takes = low - end }
+bounded_between T k low high = record { low = 1; high = 0; gives = 0; takes = 0 }
+
+abbrev pub bounded_at : Table → ℕ → Bounded
+bounded_at T k = bounded_between T k (least_legal T k) (greatest_legal T k)
+
+abbrev pub bounds_of : Table → List Bounded
+bounds_of T = map (bounded_at T) (range_with_len 0 (length T.ops))

@@ -1,8 +1,6 @@
 -- Where a type isn't numeric. All states count, whether a list of operations leads to them or not.
 use Rattle.std.specs.Prelude.{◌≡◌, ℕ, ◌+◌, ◌<◌, length, Some, None, IsSome, ◌⊎◌}
 use Rattle.type_table.specs.Table.{Table, next}
-use Rattle.escrow_laws.specs.declared.numeric_error.NumericError.{NumericError}
-use Rattle.escrow_laws.specs.declared.numeric_error.NumericError.TheVariants.{NotNumeric, NoMemory}
 
 -- operation k is illegal in s, and legal in a lower and in a higher state
 pub record HasGap (T : Table) (k s : ℕ) : Type 0 where
@@ -39,8 +37,3 @@ pub record IsFirstNumericFault (T : Table) (k s : ℕ) : Type 0 where
   pub fails : IsNumericFault T k s
   pub least_operation : (j r : ℕ) → j < k → IsNumericFault T j r → ⊥
   pub least_state : (r : ℕ) → r < s → IsNumericFault T k r → ⊥
-
--- why no bounds were found. Memory is wanted of a type without a fault alone
-abbrev pub IsReason : Table → NumericError → Type 0
-IsReason T (NotNumeric f) = IsFirstNumericFault T f.operation f.state
-IsReason T NoMemory = IsFaultless T

@@ -2,7 +2,7 @@
 use Rattle.std.specs.Prelude.{◌≡◌, ℕ, ◌+◌, ◌-◌, ◌<◌, ◌≤◌, ◌==◌, Bool, true, false, Option, Some, None}
 use Rattle.type_table.specs.Table.{Table, next}
 use Rattle.escrow_laws.specs.declared.bounded.Bounded.{Bounded}
-use Rattle.escrow_laws.specs.Bounds.{moved, IsWithin}
+use Rattle.escrow_laws.specs.Bounds.{moved, IsWithin, bounded_at}
 use Rattle.escrow_laws.specs.Faults.{IsNumericFault}
 
 -- k is illegal from `start` on
@@ -42,5 +42,6 @@ bounded_until s t stop = record { low = s; high = stop - 1; gives = t - s; takes
 
 -- operation k of the type is this one
 pub record IsBounded (T : Table) (k : ℕ) (b : Bounded) : Type 0 where
+  pub is : b ≡ bounded_at T k
   pub steps : (s : ℕ) → next T s k ≡ moved b s
   pub within : IsWithin (T.states - 1) b

@@ -2,13 +2,13 @@
 
 ghost use Rattle.std.specs.Prelude.{◌≡◌, ◌<◌, ◌-◌, length, IfOk, IfErr, MatchOption};
 ghost use Rattle.type_table.specs.Table.{next};
-ghost use Rattle.escrow_laws.specs.Bounds.{AreBounds};
-ghost use Rattle.escrow_laws.specs.Faults.{IsFaultless, IsFirstNumericFault, IsReason};
+ghost use Rattle.escrow_laws.specs.Bounds.{AreBounds, bounds_of};
+ghost use Rattle.escrow_laws.specs.Faults.{IsFaultless, IsFirstNumericFault};
 ghost use Rattle.escrow_laws.specs.Search.{IsIllegalFrom, IsFirstLegal, IsStretch, IsFirstOfOperation, IsFaultlessAt, IsBounded, is_alike, bounded_until};
 
 use crate::bounded::Bounded;
-use crate::numeric_error::{NumericError, NumericFault};
-use std::alloc::{AllocError, Global};
+use crate::numeric_fault::NumericFault;
+use crate::op_bounds::OpBounds;
 use type_table::{TypeTable, steps_within};
 
 /// A step of an operation: a state in which it is legal, and the next state.
@@ -18,25 +18,22 @@ struct Step {
     to: u16,
 }
 
-/// The operations of a numeric type, by their numbers, with their bounds and with what they give and
-/// take. A type is numeric where each of its operations is: it moves all states in which it is legal
-/// as far, and is legal in each state between two in which it is.
+/// The operations of a numeric type, with their bounds and with what they give and take. A type is
+/// numeric where each of its operations is: it moves all states in which it is legal as far, and is legal
+/// in each state between two in which it is. It takes no memory.
 ///
 /// # Errors
 ///
-/// `NotNumeric` exactly where the type isn't numeric, with the least operation for which some state
-/// is at fault, and its least such state. Else `NoMemory`, where memory was refused.
-pub fn numeric(alloc: Global, table: &TypeTable) -> Result<Vec<Bounded>, NumericError>
-    ensures bounds { IfOk result (λ ops. AreBounds table.now (table.now.states - 1) ops.items) }
-    ensures count { IfOk result (λ ops. length ops.items ≡ length table.now.ops) }
-    ensures reason { IfErr result (λ e. IsReason table.now e) }
+/// The type isn't numeric: the least operation for which some state is at fault, and its least such
+/// state.
+pub fn numeric(table: &TypeTable) -> Result<OpBounds, NumericFault>
+    ensures exact { IfOk result (λ ops. ops ≡ bounds_of table.now) }
+    ensures bounds { IfOk result (λ ops. AreBounds table.now (table.now.states - 1) ops) }
+    ensures fault { IfErr result (λ f. IsFirstNumericFault table.now f.operation f.state) }
 {
     match first_fault(table) {
-        Some(fault) => Err(NumericError::NotNumeric(fault)),
-        None => match bounds_of(alloc, table) {
-            Ok(bounds) => Ok(bounds),
-            Err(_) => Err(NumericError::NoMemory),
-        },
+        Some(fault) => Err(fault),
+        None => Ok(bounds_of(table)),
     }
 }
 
@@ -57,17 +54,17 @@ pub fn first_fault(table: &TypeTable) -> Option<NumericFault>
 }
 
 /// The operations of a type without a fault.
-fn bounds_of(alloc: Global, table: &TypeTable) -> Result<Vec<Bounded>, AllocError>
+fn bounds_of(table: &TypeTable) -> OpBounds
     requires { IsFaultless table.now }
-    ensures bounds { IfOk result (λ ops. AreBounds table.now (table.now.states - 1) ops.items) }
-    ensures count { IfOk result (λ ops. length ops.items ≡ length table.now.ops) }
+    ensures exact { result ≡ bounds_of table.now }
+    ensures bounds { AreBounds table.now (table.now.states - 1) result }
 {
     steps_within();
-    let mut ops = Vec::with_capacity(alloc, table.op_count() as usize)?;
+    let mut ops = OpBounds::none();
     for k in 0..table.op_count() {
-        ops.push(bounds_at(table, k))?;
+        ops.push(bounds_at(table, k));
     }
-    Ok(ops)
+    ops
 }
 
 /// The first state in which an operation is at fault. From the first state in which it is legal it is

@@ -6,7 +6,8 @@ mod bounded;
 mod bounds;
 mod laws;
 mod mark;
-mod numeric_error;
+mod numeric_fault;
+mod op_bounds;
 
 pub use bounded::Bounded;
 pub use bounds::{first_fault, numeric};
@@ -18,6 +19,7 @@ pub use laws::{
     sums_fit,
 };
 pub use mark::{Mark, OpenMark};
-pub use numeric_error::{NumericError, NumericFault};
+pub use numeric_fault::NumericFault;
+pub use op_bounds::OpBounds;
 
 pub mod worked;

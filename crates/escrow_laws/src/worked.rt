@@ -6,7 +6,7 @@ ghost use Rattle.type_table.specs.Run.{run};
 ghost use Rattle.type_table.specs.Examples.{counter};
 ghost use Rattle.escrow_laws.specs.Amounts.{Amounts, IsNumeric, fall, rise};
 ghost use Rattle.escrow_laws.specs.Fronts.{IsLowest, IsHighest};
-ghost use Rattle.escrow_laws.specs.Bounds.{moved, amounts_of, AreBounds};
+ghost use Rattle.escrow_laws.specs.Bounds.{moved, amounts_of, AreBounds, bounds_of};
 ghost use Rattle.escrow_laws.specs.Faults.{IsFirstNumericFault};
 ghost use Rattle.escrow_laws.specs.Firm.{others_fall, IsFirm, with_op, keeps};
 ghost use Rattle.escrow_laws.specs.Safe.{done_by, IsSafe};
@@ -24,6 +24,13 @@ pub fn operations_have_bounds()
     ensures least { moved (taking 2 5 2) 2 ≡ Some 0 }
     ensures most { moved (giving 0 4 1) 4 ≡ Some 5 }
     ensures above { moved (giving 0 4 1) 5 ≡ None }
+{}
+
+/// A table's operations are legal from the least to the greatest state in which they are.
+pub fn bounds_are_those_of_the_table()
+    ensures of_five { bounds_of five ≡ five_ops }
+    ensures of_account { bounds_of account ≡ account_ops }
+    ensures of_rarely { bounds_of rarely ≡ rarely_ops }
 {}
 
 /// The counter from 0 to 5, a stock of 0 to 1,000, the counter of `type_table`, an account, a semiqueue

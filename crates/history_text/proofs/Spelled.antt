@@ -5,7 +5,7 @@ use Rattle.std.specs.Fmt.{decimal}
 use Rattle.std.specs.List.{AllByRecursion}
 use Rattle.std.proofs.lemmas.Bool.{leb-true, and_parts}
 use Rattle.type_table.specs.declared.kind.Kind.{Kind}
-use Rattle.type_table.specs.declared.kind.Kind.TheVariants.{Undo, Intentions}
+use Rattle.type_table.specs.declared.kind.Kind.TheVariants.{Undo, Intentions, Escrow}
 use Rattle.line_text.specs.Shapes.{exactly, number_at, kind_at, is_key}
 use Rattle.line_text.specs.Spelling.{spaced, IsWord, Spells, NumberIsReadAgain}
 use Rattle.line_text.proofs.Items.{keyword, length-spaced}
@@ -60,6 +60,13 @@ module _ (numbers : (n : ℕ) → n < 10 ^ 7 → NumberIsReadAgain n) where
     each = (keyword (codes "object") refl refl, (keyword (codes "intentions") refl refl, are_words (file ∷ []) (small, tt)));
     no_comment = λ e. omega (arith, e);
     short = omega (arith, length-spaced (codes "object") (codes "intentions") (decimal file ∷ []), short_line (codes "intentions") (file ∷ []) (small, tt));
+    said = rw (numbers file small).read refl;
+  }
+  object_spells Escrow file small = record {
+    some = omega arith;
+    each = (keyword (codes "object") refl refl, (keyword (codes "escrow") refl refl, are_words (file ∷ []) (small, tt)));
+    no_comment = λ e. omega (arith, e);
+    short = omega (arith, length-spaced (codes "object") (codes "escrow") (decimal file ∷ []), short_line (codes "escrow") (file ∷ []) (small, tt));
     said = rw (numbers file small).read refl;
   }
 

@@ -21,7 +21,7 @@ use Rattle.intentions_manager.specs.declared.views.View.{View}
 use Rattle.intentions_manager.proofs.Cutting.{cut-kept, behind_all, length-keep_first}
 use Rattle.intentions_manager.proofs.Seeing.{seen-dropped_other, each-map, ordered-dropped}
 use Rattle.intentions_manager.proofs.Walking.{walk_view, walk-run, carried-map}
-use Rattle.intentions_manager.proofs.Keeping.{equi-same, view-bare, seen-count}
+use Rattle.intentions_manager.proofs.Keeping.{deferred-covered, equi-same, view-bare, seen-count}
 use Rattle.intentions_manager.proofs.Leaving.{others-stay, own-left, ops-left}
 
 -- the laws that a commit uses
@@ -83,7 +83,7 @@ view-carried laws {m} {views} t u log part h differ same all =
     let walk : run T (Some s) mine ≡ Some end = subst (λ V. run T (Some s) (ops_of V) ≡ Some end) all (walk-run T t s part legal) in
     record {
       fits = laws.within T s end mine h.table shown.fits walk;
-      inside = laws.inside T o.set s end mine h.covered.closed shown.inside walk;
+      inside = laws.inside T o.set s end mine (deferred-covered m h.deferred h.covered).closed shown.inside walk;
       equi = equi-same T (run T (Some s) mine) (run_log o base (open_of u m.log)) (Some end) (run_log o base (open_of u log)) walk (ap (run_log o base) (sym same)) both.1;
       counted = shown.counted ∙ ap length (sym same);
     }

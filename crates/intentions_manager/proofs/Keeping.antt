@@ -9,7 +9,9 @@ use Rattle.type_table.specs.Table.{Table, next}
 use Rattle.type_table.specs.Run.{run, IsLegal, AreEqui}
 use Rattle.type_table.specs.Laws.{RunsAlong, EquiExtends, StepsWithin}
 use Rattle.type_table.specs.declared.kind.Kind.TheVariants.{Intentions}
-use Rattle.object_trait.specs.Object.{Object}
+use Rattle.type_table.specs.Commute.{Covers}
+use Rattle.type_table.specs.declared.table_kind.TableKind.TheVariants as kind
+use Rattle.object_trait.specs.Object.{Object, IsCovered, CoversBy}
 use Rattle.object_trait.specs.Meaning.{Meaning, object, ops_of, is_open_of, open_of, run_log, view_by, view_of}
 use Rattle.object_trait.specs.Sound.{IsSound, IsSoundBy, IsSoundIntentions}
 use Rattle.object_trait.specs.Steps.{IsLegalFor, MayApply, applied}
@@ -30,10 +32,13 @@ abbrev pub meant : Inside → Meaning
 meant a = record { checked = a.checked.value; base = a.base; log = a.log.items }
 
 pub deferred-sound : (m : Meaning) → m.checked.kind ≡ Intentions → IsSound m → IsSoundIntentions (object m) m.base m.log
-deferred-sound m deferred sound = subst (λ kind. IsSoundBy kind (object m) m.base m.log) deferred sound
+deferred-sound m deferred sound = subst (λ way. IsSoundBy way (object m) m.base m.log) deferred sound
+
+pub deferred-covered : (m : Meaning) → m.checked.kind ≡ Intentions → IsCovered (object m) → Covers kind.Intentions (object m).table (object m).set (object m).conflicts
+deferred-covered m deferred covered = subst (λ way. CoversBy way (object m)) deferred covered
 
 pub deferred-view : (m : Meaning) (t : ℕ) → m.checked.kind ≡ Intentions → view_of m t ≡ run_log (object m) m.base (open_of t m.log)
-deferred-view m t deferred = ap (λ kind. view_by kind (object m) m.base m.log t) deferred
+deferred-view m t deferred = ap (λ way. view_by way (object m) m.base m.log t) deferred
 
 -- all entries are open
 pub all-open : {m : Meaning} {views : List View} → IsKept m views → AreOpen m.log
@@ -113,7 +118,7 @@ view-applied along extends within {m} {views} t k h may =
     sym (ap (run_log o m.base) opens ∙ ap (run T (Some m.base)) (map-append (λ (e : LogEntry). e.op) (open_of t m.log) (entry t k ∷ [])) ∙ along T (Some m.base) (ops_of (open_of t m.log)) (k ∷ [])) in
     record {
       fits = (within T v.state k (stepped T v.state k) h.table there).2;
-      inside = h.covered.closed v.state k (stepped T v.state k) shown.inside there;
+      inside = (deferred-covered m h.deferred h.covered).closed v.state k (stepped T v.state k) shown.inside there;
       equi = equi-same T (next T v.state k) (run T before (k ∷ [])) (Some (stepped T v.state k)) (run_log o m.base (open_of t (m.log ++ entry t k ∷ []))) there behind both.1;
       counted = ap (λ n. n + 1) shown.counted ∙ sym (ap length opens ∙ length_push (open_of t m.log) (entry t k));
     }

@@ -1,3 +1,5 @@
+pub mod Bits
+pub mod Blocking
 pub mod Committing
 pub mod Counting
 pub mod Cutting

@@ -18,7 +18,7 @@ use Rattle.intentions_manager.specs.declared.views.View.{View}
 use Rattle.intentions_manager.proofs.Cutting.{behind_all, length-keep_first}
 use Rattle.intentions_manager.proofs.Seeing.{seen-put, seen-put_other, seen-dropped, seen-dropped_other, each-put, ordered-put, ordered-dropped}
 use Rattle.intentions_manager.proofs.Walking.{walk-run}
-use Rattle.intentions_manager.proofs.Keeping.{deferred-sound, view-same, view-bare}
+use Rattle.intentions_manager.proofs.Keeping.{deferred-covered, deferred-sound, view-same, view-bare}
 use Rattle.intentions_manager.proofs.Leaving.{others-stay, own-left, own-count, ops-left}
 
 -- the laws that a strike uses
@@ -102,7 +102,7 @@ view-rewound laws {m} {views} t n from log h left many counted =
     let walk : run T (Some m.base) opens ≡ Some end = subst (λ V. run T (Some m.base) (ops_of V) ≡ Some end) all (walk-run T t m.base (drop from log) legal) in
     record {
       fits = laws.within T m.base end opens h.table h.base_fits walk;
-      inside = laws.inside T o.set m.base end opens h.covered.closed old_sound.inside walk;
+      inside = laws.inside T o.set m.base end opens (deferred-covered m h.deferred h.covered).closed old_sound.inside walk;
       equi = subst (λ x. AreEqui T x (run T (Some m.base) opens)) walk (λ ks l. l, λ ks l. l);
       counted = sym count;
     }

@@ -1,5 +1,6 @@
 -- What a manager of deferred update keeps.
 use Rattle.std.specs.Prelude.{◌≡◌, ◌≤◌, ◌<◌, ℕ, List, length, true, false, Some, All}
+use Rattle.std.specs.Int.{bit_at}
 use Rattle.std.specs.List.{AllByRecursion}
 use Rattle.type_table.specs.Table.{IsTable}
 use Rattle.type_table.specs.Run.{AreEqui}
@@ -11,6 +12,10 @@ use Rattle.object_trait.specs.declared.log_entry.LogEntry.{LogEntry}
 use Rattle.intentions_manager.specs.Views.{AreOrdered, seen_by}
 use Rattle.intentions_manager.specs.Walk.{FitsTable}
 use Rattle.intentions_manager.specs.declared.views.View.{View}
+
+-- each entry's operation has a bit in the word, which is set
+abbrev pub HasBits : ℕ → List LogEntry → Type 0
+HasBits word log = All (λ (e : LogEntry). e.op < 64 → bit_at word e.op ≡ 1) log
 
 -- none is done
 abbrev pub AreOpen : List LogEntry → Type 0

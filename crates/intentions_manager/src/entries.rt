@@ -1,14 +1,17 @@
 //! The entries of a transaction in the log of intentions, from the back. All entries there are open.
 
-ghost use Rattle.std.specs.Prelude.{◌≡◌, ◌<◌, ◌≤◌, ◌-◌, ◌++◌, false, not, filter, length, take, drop, All, if◌then◌else◌};
+ghost use Rattle.std.specs.Prelude.{◌≡◌, ◌<◌, ◌≤◌, ◌-◌, ◌++◌, false, not, filter, length, take, drop, All, if◌then◌else◌, ◌==◌, ◌&&◌};
+ghost use Rattle.std.specs.List.{find};
+ghost use Rattle.std.specs.Option.{option_map};
+ghost use Rattle.type_table.specs.ConflictTable.{conflicts};
 ghost use Rattle.object_trait.specs.Strike.{keep_first};
 ghost use Rattle.object_trait.specs.Meaning.{is_open_of, open_of};
-ghost use Rattle.intentions_manager.specs.Kept.{AreOpen};
+ghost use Rattle.intentions_manager.specs.Kept.{AreOpen, HasBits};
 ghost use Rattle.intentions_manager.specs.Walk.{carried, FitsTable};
 
 use crate::views::{View, step_views};
-use object_trait::{LogEntry, keeps_none, keeps_parts};
-use type_table::TypeTable;
+use object_trait::{LogEntry, keeps_none, keeps_parts, with_bit};
+use type_table::{ConflictTable, TypeTable};
 
 /// Whether an open entry is t's.
 pub fn is_of(entry: LogEntry, t: u32) -> bool
@@ -94,4 +97,50 @@ pub fn take_out(log: &mut Vec<LogEntry>, t: u32, count: u32)
     keeps_parts::<LogEntry>();
     let from = place_of_last(log, t, count);
     cut_from(log, from, t);
+}
+
+/// A word with the bit of each entry's operation.
+pub fn word_of(log: &Vec<LogEntry>) -> u64
+    ensures { HasBits result log.now.items }
+{
+    let mut word = 0;
+    for entry in log {
+        word = with_bit(word, entry.op);
+    }
+    word
+}
+
+/// Whose entry is the first with which operation k conflicts, and which isn't t's. The word has the bit
+/// of each entry's operation, so that a look at the log can be spared.
+pub fn first_conflict(
+    log: &Vec<LogEntry>,
+    word: u64,
+    table: &ConflictTable,
+    t: u32,
+    k: u8,
+) -> Option<u32>
+    requires requested { k < length table.now }
+    requires few { length table.now ≤ 64 }
+    requires held { All (λ e. e.op < length table.now) log.now.items }
+    requires bits { HasBits word log.now.items }
+    ensures { result ≡ option_map (λ e. e.by) (find (λ e. not (e.by == t) && conflicts table.now k e.op) log.now.items) }
+{
+    if table.row(k) & word == 0 {
+        return None;
+    }
+    conflict_in(log, table, t, k)
+}
+
+/// The same by a look at the log.
+fn conflict_in(log: &Vec<LogEntry>, table: &ConflictTable, t: u32, k: u8) -> Option<u32>
+    requires requested { k < length table.now }
+    requires held { All (λ e. e.op < length table.now) log.now.items }
+    ensures { result ≡ option_map (λ e. e.by) (find (λ e. not (e.by == t) && conflicts table.now k e.op) log.now.items) }
+{
+    for entry in log {
+        if entry.by != t && table.conflicts(k, entry.op) {
+            return Some(entry.by);
+        }
+    }
+    None
 }

@@ -2,18 +2,20 @@ ghost use Rattle.std.specs.Prelude.{◌≡◌, ◌↔◌, IsOk, IfOk, IfErr};
 ghost use Rattle.type_table.specs.declared.kind.Kind.TheVariants.{Intentions};
 ghost use Rattle.object_trait.specs.Steps.{IsFresh};
 
-use crate::entries::{carry_from, place_of_last, take_out};
+use crate::entries::{carry_from, first_conflict, place_of_last, take_out, word_of};
 use crate::views::{View, drop_view, place_of, put_view, seen_at, seen_by, stepped, walked};
 use object_trait::{
     LogEntry, Recovery, Renew, WrongKind, checked_is_covered, fresh_is_sound, keeps_first,
     keeps_none, keeps_others, keeps_parts, opens_are_counted, opens_commute, sound_after_apply,
-    sound_after_commit, sound_after_strike,
+    sound_after_commit, sound_after_strike, with_bit,
 };
 use std::alloc::{AllocError, Global};
 use std::marker::Model;
 use std::sync::Arc;
 use table_checker::CheckedType;
-use type_table::{Kind, ends_inside, ends_within, equi_extends, runs_along, steps_within};
+use type_table::{
+    Kind, Op, TableKind, ends_inside, ends_within, equi_extends, runs_along, steps_within,
+};
 
 /// An object with deferred update. Its state is that of the committed transactions, and each open
 /// transaction sees this state after its own operations alone.
@@ -27,18 +29,20 @@ pub struct IntentionsManager {
     checked: Arc<CheckedType>,
     base: u16,
     log: Vec<LogEntry>,
+    // Has the bit of the operation of each entry, so that a look at the log for a conflict can be spared.
+    word: u64,
     views: Vec<View>,
 }
 
 impl Model for IntentionsManager {
     ghost use Rattle.object_trait.specs.Meaning.{Meaning};
-    ghost use Rattle.intentions_manager.specs.Kept.{IsKept};
+    ghost use Rattle.intentions_manager.specs.Kept.{HasBits, IsKept};
 
     ghost Value = { Meaning };
 
     ghost view = { λ a. record { checked = a.checked.value; base = a.base; log = a.log.items } };
 
-    ghost invariant = { λ a. IsKept (record { checked = a.checked.value; base = a.base; log = a.log.items }) a.views.items };
+    ghost invariant = { λ a. IsKept (record { checked = a.checked.value; base = a.base; log = a.log.items }) a.views.items × HasBits a.word a.log.items };
 }
 
 impl IntentionsManager {
@@ -57,7 +61,7 @@ impl IntentionsManager {
     {
         match checked.kind() {
             Kind::Intentions => Ok(IntentionsManager::fresh(alloc, checked)),
-            Kind::Undo => Err((checked, WrongKind)),
+            Kind::Undo | Kind::Escrow => Err((checked, WrongKind)),
         }
     }
 
@@ -74,6 +78,7 @@ impl IntentionsManager {
             checked,
             base,
             log: Vec::new(alloc),
+            word: 0,
             views: Vec::new(alloc),
         }
     }
@@ -82,17 +87,29 @@ impl IntentionsManager {
 impl Recovery for IntentionsManager {
     ghost meaning = { λ m. m };
 
-    fn checked(&self) -> &CheckedType {
-        &self.checked
-    }
-
-    fn state(&self) -> u16 {
-        self.base
+    fn state(&self) -> u32 {
+        u32::from(self.base)
     }
 
     fn legal(&self, t: u32, k: u8) -> bool {
         let view = seen_by(&self.views, t, self.base);
         self.checked.table().next(view.state, k).is_some()
+    }
+
+    fn ops(&self) -> &[Op] {
+        // (read for its clause that the type was accepted)
+        let _file = self.checked.file();
+        self.checked.table().ops()
+    }
+
+    fn blocker(&self, t: u32, k: u8) -> Option<u32> {
+        first_conflict(
+            &self.log,
+            self.word,
+            self.checked.conflicts(TableKind::Intentions),
+            t,
+            k,
+        )
     }
 
     #[inline(always)]
@@ -117,6 +134,7 @@ impl Recovery for IntentionsManager {
             op: k,
             done: false,
         });
+        self.word = with_bit(self.word, k);
         Ok(())
     }
 
@@ -144,6 +162,7 @@ impl Recovery for IntentionsManager {
             &mut self.views,
             self.checked.table(),
         );
+        self.word = word_of(&self.log);
     }
 
     fn abort(&mut self, t: u32) {
@@ -153,6 +172,7 @@ impl Recovery for IntentionsManager {
         let at = place_of(&self.views, t);
         let view = seen_at(&self.views, at, t, self.base);
         take_out(&mut self.log, t, view.count);
+        self.word = word_of(&self.log);
         drop_view(&mut self.views, at, t);
     }
 
@@ -166,6 +186,7 @@ impl Recovery for IntentionsManager {
         let view = seen_at(&self.views, at, t, self.base);
         let count = view.count - m;
         take_out(&mut self.log, t, m);
+        self.word = word_of(&self.log);
         if count == 0 {
             drop_view(&mut self.views, at, t);
             return;
@@ -194,6 +215,10 @@ impl Recovery for IntentionsManager {
 }
 
 impl Renew for IntentionsManager {
+    fn checked(&self) -> &CheckedType {
+        &self.checked
+    }
+
     fn renewed(&self, alloc: Global, checked: Arc<CheckedType>) -> IntentionsManager {
         // (read for what is known of this object, that its type is for deferred update)
         let _base = self.base;

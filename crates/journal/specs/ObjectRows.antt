@@ -5,7 +5,7 @@ use Rattle.sqlite_value.specs.Order.{Row, column, bytes}
 use Rattle.sqlite_trees.specs.Objects.{number_in}
 use Rattle.type_table.specs.Kind.{kind_of, kind_word}
 use Rattle.type_table.specs.declared.kind.Kind.{Kind}
-use Rattle.type_table.specs.declared.kind.Kind.TheVariants.{Undo, Intentions}
+use Rattle.type_table.specs.declared.kind.Kind.TheVariants.{Undo, Intentions, Escrow}
 use Rattle.std.proofs.Common.{ap}
 use Rattle.store_text.specs.declared.line.ObjectLine.{ObjectLine}
 
@@ -30,6 +30,7 @@ pub record ToldObject (row : Row) (o : ObjectLine) : Type 0 where
 same_kind : (kind : Kind) → unwrap_or (kind_of (kind_word kind)) Undo ≡ kind
 same_kind Undo = refl
 same_kind Intentions = refl
+same_kind Escrow = refl
 
 pub object_keyed : (n : ℕ) (o : ObjectLine) → (rest : Row) × (object_row n o ≡ Int (pos n) ∷ rest)
 object_keyed n o = (Null ∷ Text (kind_word o.kind) ∷ Int (pos o.file) ∷ [], refl)

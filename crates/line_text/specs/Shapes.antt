@@ -5,8 +5,9 @@ use Rattle.line_text.specs.Text.{number_of}
 use Rattle.line_text.specs.declared.fault.FaultKind.{FaultKind}
 use Rattle.line_text.specs.declared.fault.FaultKind.TheVariants.{UnknownWord, BadNumber}
 use Rattle.type_table.specs.Name.{is_name}
-use Rattle.type_table.specs.Kind.{kind_of}
+use Rattle.type_table.specs.Kind.{kind_of, table_kind_of}
 use Rattle.type_table.specs.declared.kind.Kind.{Kind}
+use Rattle.type_table.specs.declared.table_kind.TableKind.{TableKind}
 
 infixl 10 ◌>>=◌
 -- a step behind one that may fail, as `?` makes it
@@ -38,6 +39,10 @@ name_at words place = if is_name (word words place) then Ok (word words place) e
 -- the recovery kind at a place
 unfoldable pub kind_at : List (List ℕ) → ℕ → Result Kind FaultKind
 kind_at words place = or_kind UnknownWord (kind_of (word words place))
+
+-- and one with a conflict table
+unfoldable pub table_kind_at : List (List ℕ) → ℕ → Result TableKind FaultKind
+table_kind_at words place = or_kind UnknownWord (table_kind_of (word words place))
 
 -- whether the first word is this keyword
 unfoldable pub is_key : List (List ℕ) → List ℕ → Bool

@@ -26,6 +26,6 @@ pub use number::number_of;
 pub use plain::{bytes_before, number_before};
 pub use read::read_items;
 pub use section::Section;
-pub use shapes::{exactly, is_key, kind_at, name_at, number_at};
+pub use shapes::{exactly, is_key, kind_at, name_at, number_at, table_kind_at};
 
 pub mod worked;

@@ -1,9 +1,9 @@
 ghost use Rattle.std.specs.Prelude.{◌≡◌, map};
-ghost use Rattle.line_text.specs.Shapes.{word, exactly, number_at, name_at, kind_at, is_key};
+ghost use Rattle.line_text.specs.Shapes.{word, exactly, number_at, name_at, kind_at, table_kind_at, is_key};
 
 use crate::fault::FaultKind;
 use crate::number::number_of;
-use type_table::{Kind, Name};
+use type_table::{Kind, Name, TableKind};
 
 /// Whether the first word of a line is this keyword.
 #[tactic(auto, unfolding(crate::specs::Shapes::is_key))]
@@ -47,12 +47,21 @@ pub fn name_at(words: &[&[u8]], place: usize) -> Result<Name, FaultKind>
     }
 }
 
-/// The recovery kind at a place of a line: `undo` or `intentions`; else `UnknownWord`.
+/// The recovery kind at a place of a line: `undo`, `intentions` or `escrow`; else `UnknownWord`.
 #[tactic(auto, unfolding(crate::specs::Shapes::kind_at))]
 pub fn kind_at(words: &[&[u8]], place: usize) -> Result<Kind, FaultKind>
     ensures { result ≡ kind_at (map (λ w. w.now) words.now) place }
 {
     Kind::of_word(word(words, place)).ok_or(FaultKind::UnknownWord)
+}
+
+/// The recovery kind with a conflict table at a place of a line: `undo` or `intentions`; else
+/// `UnknownWord`.
+#[tactic(auto, unfolding(crate::specs::Shapes::table_kind_at))]
+pub fn table_kind_at(words: &[&[u8]], place: usize) -> Result<TableKind, FaultKind>
+    ensures { result ≡ table_kind_at (map (λ w. w.now) words.now) place }
+{
+    TableKind::of_word(word(words, place)).ok_or(FaultKind::UnknownWord)
 }
 
 /// The word at a place, which is empty where the line has fewer.

@@ -8,9 +8,8 @@ use Rattle.std.proofs.lemmas.List.{length-map, length-replicate, get_or-replicat
 use Rattle.std.proofs.lemmas.List.Folds.{list_any_more}
 use Rattle.std.proofs.lemmas.Option.{slice_get_read}
 use Rattle.object_trait.specs.Meaning.{Meaning}
-use Rattle.op_locks.specs.Locks.{Locks, without}
 use Rattle.object_calls.specs.Ends.{is_at, ChangesAt}
-use Rattle.object_calls.proofs.Changes.{changes_none, changes_again, changes_now, changes_now_by}
+use Rattle.object_calls.proofs.Changes.{changes_none, changes_again, changes_now_by}
 
 -- a mark says of each place whether it is among those before i
 pub record AreMarked (all : List ℕ) (i : ℕ) (visited : List Bool) : Type 0 where
@@ -59,56 +58,41 @@ module _ (all : List ℕ) (i : ℕ) (i_in : i < length all) (visited : List Bool
         long = omega (arith, length-set visited y true, h.long);
       }
 
--- of all places those before i were visited: there each object's meaning was changed, and what t held was released
-pub record IsEnded {R : Type 0} (meaning : R → Meaning) (change : Meaning → Meaning → Type 0) (t : ℕ) (all : List ℕ) (i : ℕ) (old new : List R) (old_locks new_locks : List Locks) (visited : List Bool) : Type 0 where
+-- of all places those before i were visited: there each object's meaning was changed
+pub record IsEnded {R : Type 0} (meaning : R → Meaning) (change : Meaning → Meaning → Type 0) (all : List ℕ) (i : ℕ) (old new : List R) (visited : List Bool) : Type 0 where
   pub objects : ChangesAt (take i all) (λ x m n. change m n) (map meaning old) (map meaning new)
-  pub locks : ChangesAt (take i all) (λ x a b. b.held ≡ without t a.held) old_locks new_locks
   pub marked : AreMarked all i visited
 
 -- before the first visit
-pub ended_none : {R : Type 0} (meaning : R → Meaning) (change : Meaning → Meaning → Type 0) (t : ℕ) (all : List ℕ) (old : List R) (old_locks : List Locks) →
-    IsEnded meaning change t all 0 old old old_locks old_locks (replicate 256 false)
-ended_none meaning change t all old old_locks =
-    record {
-      objects = changes_none (λ x m n. change m n) (map meaning old);
-      locks = changes_none (λ x a b. b.held ≡ without t a.held) old_locks;
-      marked = marked_none all;
-    }
+pub ended_none : {R : Type 0} (meaning : R → Meaning) (change : Meaning → Meaning → Type 0) (all : List ℕ) (old : List R) → IsEnded meaning change all 0 old old (replicate 256 false)
+ended_none meaning change all old = record { objects = changes_none (λ x m n. change m n) (map meaning old); marked = marked_none all }
 
 -- the place at i comes next
-module _ {R : Type 0} (meaning : R → Meaning) (change : Meaning → Meaning → Type 0) (t : ℕ) (all : List ℕ) (i : ℕ) (i_in : i < length all)
-    (old new : List R) (old_locks new_locks : List Locks) (visited : List Bool) (h : IsEnded meaning change t all i old new old_locks new_locks visited)
-    (low : get_or all i 0 < 256) where
+module _ {R : Type 0} (meaning : R → Meaning) (change : Meaning → Meaning → Type 0) (all : List ℕ) (i : ℕ) (i_in : i < length all)
+    (old new : List R) (visited : List Bool) (h : IsEnded meaning change all i old new visited) (low : get_or all i 0 < 256) where
   -- it was visited
-  pub ended_again : get_or visited (get_or all i 0) false ≡ true → IsEnded meaning change t all (i + 1) old new old_locks new_locks visited
+  pub ended_again : get_or visited (get_or all i 0) false ≡ true → IsEnded meaning change all (i + 1) old new visited
   ended_again marked =
       let before : is_at (take i all) (get_or all i 0) = sym (h.marked.each (get_or all i 0) low) ∙ marked in
       record {
         objects = changes_again all i i_in (λ x m n. change m n) (map meaning old) (map meaning new) h.objects before;
-        locks = changes_again all i i_in (λ x a b. b.held ≡ without t a.held) old_locks new_locks h.locks before;
         marked = marked_again all i i_in visited h.marked before;
       }
 
   -- it wasn't
-  module _ (as_many : length old_locks ≡ length old) (inside : All (λ x. x < length old) all) (free : get_or visited (get_or all i 0) false ≡ false) where
+  module _ (inside : All (λ x. x < length old) all) (free : get_or visited (get_or all i 0) false ≡ false) where
     y_in_new : get_or all i 0 < length new
     y_in_new = omega (arith, inside i 0 i_in, h.objects.as_many, length-map old meaning, length-map new meaning)
-
-    y_in_locks : get_or all i 0 < length new_locks
-    y_in_locks = omega (arith, inside i 0 i_in, as_many, h.locks.as_many)
 
     first : is_at (take i all) (get_or all i 0) → ⊥
     first at = false≢true (sym free ∙ h.marked.each (get_or all i 0) low ∙ at)
 
     pub ended_now : (before after : R) → before ≡ get_or new (get_or all i 0) before → change (meaning before) (meaning after) →
-        (l k : Locks) → l ≡ get_or new_locks (get_or all i 0) l → k.held ≡ without t l.held →
-        IsEnded meaning change t all (i + 1) old (set new (get_or all i 0) after) old_locks (set new_locks (get_or all i 0) k) (set visited (get_or all i 0) true)
-    ended_now before after is_before done l k is_l released =
+        IsEnded meaning change all (i + 1) old (set new (get_or all i 0) after) (set visited (get_or all i 0) true)
+    ended_now before after is_before done =
         let y : ℕ = get_or all i 0 in
-        let l_at : slice_get new_locks y ≡ Some l = slice_get_read new_locks (length new_locks) y l refl y_in_locks is_l in
         let was : slice_get new y ≡ Some before = slice_get_read new (length new) y before refl y_in_new is_before in
         record {
           objects = changes_now_by all i i_in meaning (λ x m n. change m n) old new h.objects first before after was done (omega (arith, y_in_new, length-map new meaning));
-          locks = changes_now all i i_in (λ x a b. b.held ≡ without t a.held) old_locks new_locks h.locks first l k l_at released y_in_locks;
           marked = marked_now all i i_in visited h.marked low;
         }

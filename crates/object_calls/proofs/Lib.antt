@@ -2,7 +2,6 @@ pub mod FirstPlaces
 pub mod Collecting
 pub mod Tabled
 pub mod Examples
-pub mod Firsts
 pub mod Answering
 pub mod Places
 pub mod Changes

@@ -6,47 +6,40 @@ use Rattle.std.proofs.lemmas.List.{length-map}
 use Rattle.std.proofs.lemmas.Option.{slice_get-map, slice_get_read, slice_get_within}
 use Rattle.object_trait.specs.Meaning.{Meaning, open_of}
 use Rattle.object_trait.specs.Steps.{IsStrike}
-use Rattle.op_locks.specs.Locks.{Locks, count_of, without_last}
 use Rattle.object_calls.specs.Ends.{is_at, count_at, ChangesAt, HasLast}
-use Rattle.object_calls.proofs.Changes.{changes_none, changes_again, changes_now, changes_now_by}
+use Rattle.object_calls.proofs.Changes.{changes_none, changes_again, changes_now_by}
 use Rattle.object_calls.proofs.Counts.{AreLeft, left_whole, first_count, later_count, left_again, left_now}
 
--- of all places those before i were visited: there t's last operations are struck, what was held for them is released, and their counts are used up
-pub record IsStruck {R : Type 0} (meaning : R → Meaning) (t : ℕ) (all : List ℕ) (i : ℕ) (old new : List R) (old_locks new_locks : List Locks) (counts : List ℕ) : Type 0 where
+-- of all places those before i were visited: there t's last operations are struck, and their counts are used up
+pub record IsStruck {R : Type 0} (meaning : R → Meaning) (t : ℕ) (all : List ℕ) (i : ℕ) (old new : List R) (counts : List ℕ) : Type 0 where
   pub objects : ChangesAt (take i all) (λ x m n. IsStrike m t (count_at x all) n) (map meaning old) (map meaning new)
-  pub locks : ChangesAt (take i all) (λ x a b. b.held ≡ without_last t (count_at x all) a.held) old_locks new_locks
   pub left : AreLeft all i counts
   pub long : 256 ≤ length counts
 
 -- before the first visit
-pub struck_none : {R : Type 0} (meaning : R → Meaning) (t : ℕ) (all : List ℕ) (old : List R) (old_locks : List Locks) (counts : List ℕ) →
-    ((x : ℕ) → x < 256 → slice_get counts x ≡ Some (count_at x all)) → IsStruck meaning t all 0 old old old_locks old_locks counts
-struck_none meaning t all old old_locks counts whole =
+pub struck_none : {R : Type 0} (meaning : R → Meaning) (t : ℕ) (all : List ℕ) (old : List R) (counts : List ℕ) →
+    ((x : ℕ) → x < 256 → slice_get counts x ≡ Some (count_at x all)) → IsStruck meaning t all 0 old old counts
+struck_none meaning t all old counts whole =
     record {
       objects = changes_none (λ x m n. IsStrike m t (count_at x all) n) (map meaning old);
-      locks = changes_none (λ x a b. b.held ≡ without_last t (count_at x all) a.held) old_locks;
       left = left_whole all counts whole;
       long = let last : 255 < length counts = slice_get_within counts 255 (count_at 255 all) (whole 255 (omega arith)) in omega (arith, last);
     }
 
 -- the place at i comes next
 module _ {R : Type 0} (meaning : R → Meaning) (t : ℕ) (all : List ℕ) (i : ℕ) (i_in : i < length all)
-    (old new : List R) (old_locks new_locks : List Locks) (counts : List ℕ) (h : IsStruck meaning t all i old new old_locks new_locks counts)
-    (as_many : length old_locks ≡ length old) (inside : All (λ x. x < length old) all) (low : get_or all i 0 < 256) where
-  -- each list has it
+    (old new : List R) (counts : List ℕ) (h : IsStruck meaning t all i old new counts)
+    (inside : All (λ x. x < length old) all) (low : get_or all i 0 < 256) where
+  -- the list has it
   y_in_new : get_or all i 0 < length new
   y_in_new = omega (arith, inside i 0 i_in, h.objects.as_many, length-map old meaning, length-map new meaning)
 
-  y_in_locks : get_or all i 0 < length new_locks
-  y_in_locks = omega (arith, inside i 0 i_in, as_many, h.locks.as_many)
-
   -- nothing is left of its count
-  pub struck_again : get_or counts (get_or all i 0) 0 ≡ 0 → IsStruck meaning t all (i + 1) old new old_locks new_locks counts
+  pub struck_again : get_or counts (get_or all i 0) 0 ≡ 0 → IsStruck meaning t all (i + 1) old new counts
   struck_again none =
       let before : is_at (take i all) (get_or all i 0) = later_count all i i_in counts h.left low none in
       record {
         objects = changes_again all i i_in (λ x m n. IsStrike m t (count_at x all) n) (map meaning old) (map meaning new) h.objects before;
-        locks = changes_again all i i_in (λ x a b. b.held ≡ without_last t (count_at x all) a.held) old_locks new_locks h.locks before;
         left = left_again all i i_in counts h.left low before;
         long = h.long;
       }
@@ -63,34 +56,20 @@ module _ {R : Type 0} (meaning : R → Meaning) (t : ℕ) (all : List ℕ) (i : 
       before_at : slice_get new (get_or all i 0) ≡ Some before
       before_at = slice_get_read new (length new) (get_or all i 0) before refl y_in_new is_before
 
-      pub enough_entries : HasLast t all (map meaning old) old_locks → get_or counts (get_or all i 0) 0 ≤ length (open_of t (meaning before).log)
+      pub enough_entries : HasLast t all (map meaning old) → get_or counts (get_or all i 0) 0 ≤ length (open_of t (meaning before).log)
       enough_entries last =
           let y : ℕ = get_or all i 0 in
           let was : slice_get (map meaning old) y ≡ Some (meaning before) = sym (h.objects.others y first) ∙ slice_get-map meaning new y ∙ ap (option_map meaning) before_at in
-          omega (arith, whole, last.entries y (meaning before) was)
-
-    module _ (l : Locks) (is_l : l ≡ get_or new_locks (get_or all i 0) l) where
-      l_at : slice_get new_locks (get_or all i 0) ≡ Some l
-      l_at = slice_get_read new_locks (length new_locks) (get_or all i 0) l refl y_in_locks is_l
-
-      pub enough_held : HasLast t all (map meaning old) old_locks → get_or counts (get_or all i 0) 0 ≤ count_of t l.held
-      enough_held last =
-          let y : ℕ = get_or all i 0 in
-          let was : slice_get old_locks y ≡ Some l = sym (h.locks.others y first) ∙ l_at in
-          omega (arith, whole, last.held y l was)
+          omega (arith, whole, last y (meaning before) was)
 
     pub struck_now : (before after : R) → before ≡ get_or new (get_or all i 0) before → IsStrike (meaning before) t (get_or counts (get_or all i 0) 0) (meaning after) →
-        (l k : Locks) → l ≡ get_or new_locks (get_or all i 0) l → k.held ≡ without_last t (get_or counts (get_or all i 0) 0) l.held →
-        IsStruck meaning t all (i + 1) old (set new (get_or all i 0) after) old_locks (set new_locks (get_or all i 0) k) (set counts (get_or all i 0) 0)
-    struck_now before after is_before struck l k is_l released =
+        IsStruck meaning t all (i + 1) old (set new (get_or all i 0) after) (set counts (get_or all i 0) 0)
+    struck_now before after is_before struck =
         let y : ℕ = get_or all i 0 in
         record {
           objects =
               changes_now_by all i i_in meaning (λ x m n. IsStrike m t (count_at x all) n) old new h.objects first before after (before_at before is_before)
               (subst (λ count. IsStrike (meaning before) t count (meaning after)) whole struck) (omega (arith, y_in_new, length-map new meaning));
-          locks =
-              changes_now all i i_in (λ x a b. b.held ≡ without_last t (count_at x all) a.held) old_locks new_locks h.locks first l k (l_at l is_l)
-              (subst (λ count. k.held ≡ without_last t count l.held) whole released) y_in_locks;
           left = left_now all i i_in counts h.left low (omega (arith, low, h.long));
           long = omega (arith, length-set counts y 0, h.long);
         }

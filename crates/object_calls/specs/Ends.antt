@@ -1,9 +1,8 @@
--- What the end of a transaction, and a rollback, do to the objects and lock lists at some places, and to no others.
+-- What the end of a transaction, and a rollback, do to the objects at some places, and to no others.
 use Rattle.std.specs.Prelude.{◌≡◌, ◌≤◌, ℕ, true, ◌==◌, List, length, filter, Some, slice_get}
 use Rattle.std.specs.List.{list_any}
 use Rattle.object_trait.specs.Meaning.{Meaning, open_of}
 use Rattle.object_trait.specs.Steps.{IsCommit, IsAbort}
-use Rattle.op_locks.specs.Locks.{Locks, count_of}
 use Rattle.object_calls.specs.declared.end.End.{End}
 use Rattle.object_calls.specs.declared.end.End.TheVariants.{Commit, Abort}
 
@@ -26,6 +25,5 @@ IsEnd Commit = IsCommit
 IsEnd Abort = IsAbort
 
 -- at each of these places t has so many operations to be struck
-pub record HasLast (t : ℕ) (places : List ℕ) (ms : List Meaning) (locks : List Locks) : Type 0 where
-  pub entries : (x : ℕ) (m : Meaning) → slice_get ms x ≡ Some m → count_at x places ≤ length (open_of t m.log)
-  pub held : (x : ℕ) (l : Locks) → slice_get locks x ≡ Some l → count_at x places ≤ count_of t l.held
+abbrev pub HasLast : ℕ → List ℕ → List Meaning → Type 0
+HasLast t places ms = (x : ℕ) (m : Meaning) → slice_get ms x ≡ Some m → count_at x places ≤ length (open_of t m.log)

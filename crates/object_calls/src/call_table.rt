@@ -1,13 +1,14 @@
 //! The calls of a type, and how one of them is found.
 
-ghost use Rattle.std.specs.Prelude.{◌≡◌, ◌<◌, ◌++◌, [], ◌∷◌, ℕ, List, length, IfOk, IfSome, OnOk};
+ghost use Rattle.std.specs.Prelude.{◌≡◌, ◌≤◌, ◌<◌, ◌++◌, [], ◌∷◌, ℕ, List, length, IfOk, IfSome, OnOk};
+ghost use Rattle.type_table.specs.Table.{Table};
 ghost use Rattle.object_calls.specs.Calls.{by_name, by_number, IsCallTable};
 ghost use Rattle.object_calls.specs.Collected.{place_of, AreCallsOf};
 
 use crate::call::{Call, NamedCall};
 use std::alloc::{AllocError, Global};
 use std::marker::Model;
-use type_table::{Name, TypeTable};
+use type_table::{Name, Op};
 
 /// The calls of a type, each once.
 #[derive(Drop)]
@@ -25,17 +26,18 @@ impl Model for CallTable {
 }
 
 impl CallTable {
-    /// The calls of a table.
+    /// The calls of a type with these operations.
     ///
     /// # Errors
     ///
     /// Memory was refused.
-    pub fn new(alloc: Global, table: &TypeTable) -> Result<CallTable, AllocError>
-        ensures { IfOk result (λ calls. IsCallTable table.now calls) }
+    pub fn new(alloc: Global, ops: &[Op]) -> Result<CallTable, AllocError>
+        requires { length ops.now ≤ 64 }
+        ensures { IfOk result (λ calls. (T : Table) → T.ops ≡ ops.now → IsCallTable T calls) }
     {
-        let ops = table.ops();
+        let count = ops.len() as u8;
         let mut calls = Vec::new(alloc);
-        for k in 0..table.op_count() {
+        for k in 0..count {
             add_operation(&mut calls, ops[usize::from(k)].call, k)?;
         }
         Ok(CallTable { calls })

@@ -1,11 +1,9 @@
 //! The end of a transaction at the objects where it has operations.
 
-ghost use Rattle.std.specs.Prelude.{◌≡◌, ◌<◌, All, length, map};
-ghost use Rattle.op_locks.specs.Locks.{without};
+ghost use Rattle.std.specs.Prelude.{◌<◌, All, length, map};
 ghost use Rattle.object_calls.specs.Ends.{ChangesAt, IsEnd};
 
 use object_trait::Recovery;
-use op_locks::OpLocks;
 
 /// How a transaction ends.
 #[derive(Clone, Copy, Debug, PartialEq, Eq)]
@@ -16,26 +14,17 @@ pub enum End {
     Abort,
 }
 
-/// Ends t at the objects at these places, at each once, and releases what it holds there.
+/// Ends t at the objects at these places, at each once.
 #[inline(always)]
-pub fn end_at<R: Recovery>(
-    objects: &mut Vec<R>,
-    locks: &mut Vec<OpLocks>,
-    places: &[u8],
-    t: u32,
-    how: End,
-)
-    requires as_many { length locks.old.items ≡ length objects.old.items }
-    requires inside { All (λ x. x < length objects.old.items) places.now }
-    ensures objects { ChangesAt places.now (λ x m n. IsEnd how m t n) (map R.meaning objects.old.items) (map R.meaning objects.new.items) }
-    ensures locks { ChangesAt places.now (λ x a b. b.held ≡ without t a.held) locks.old.items locks.new.items }
+pub fn end_at<R: Recovery>(objects: &mut Vec<R>, places: &[u8], t: u32, how: End)
+    requires { All (λ x. x < length objects.old.items) places.now }
+    ensures { ChangesAt places.now (λ x m n. IsEnd how m t n) (map R.meaning objects.old.items) (map R.meaning objects.new.items) }
 {
     let mut visited = [false; 256];
     for place in places {
         let x = *place as usize;
         if !visited[x] {
             end_one(&mut objects[x], t, how);
-            locks[x].release(t);
             visited[x] = true;
         }
     }

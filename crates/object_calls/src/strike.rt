@@ -2,21 +2,17 @@
 
 ghost use Rattle.std.specs.Prelude.{◌≡◌, ℕ, ◌<◌, ◌≤◌, All, length, map, slice_get, Some};
 ghost use Rattle.object_trait.specs.Steps.{IsStrike};
-ghost use Rattle.op_locks.specs.Locks.{without_last};
 ghost use Rattle.object_calls.specs.Ends.{ChangesAt, HasLast, count_at};
 
 use object_trait::Recovery;
-use op_locks::OpLocks;
 
-/// Strikes the last operations of t: one for each of these places, at the object there, and gives up
-/// what was held for them. Each object is visited once.
-pub fn strike_at<R: Recovery>(objects: &mut Vec<R>, locks: &mut Vec<OpLocks>, places: &[u8], t: u32)
-    requires as_many { length locks.old.items ≡ length objects.old.items }
+/// Strikes the last operations of t: one for each of these places, at the object there. Each object is
+/// visited once.
+pub fn strike_at<R: Recovery>(objects: &mut Vec<R>, places: &[u8], t: u32)
     requires inside { All (λ x. x < length objects.old.items) places.now }
     requires few { length places.now ≤ 4294967295 }
-    requires last { HasLast t places.now (map R.meaning objects.old.items) locks.old.items }
-    ensures objects { ChangesAt places.now (λ x m n. IsStrike m t (count_at x places.now) n) (map R.meaning objects.old.items) (map R.meaning objects.new.items) }
-    ensures locks { ChangesAt places.now (λ x a b. b.held ≡ without_last t (count_at x places.now) a.held) locks.old.items locks.new.items }
+    requires last { HasLast t places.now (map R.meaning objects.old.items) }
+    ensures { ChangesAt places.now (λ x m n. IsStrike m t (count_at x places.now) n) (map R.meaning objects.old.items) (map R.meaning objects.new.items) }
 {
     let mut counts = counts_of(places);
     for place in places {
@@ -24,7 +20,6 @@ pub fn strike_at<R: Recovery>(objects: &mut Vec<R>, locks: &mut Vec<OpLocks>, pl
         let count = counts[x];
         if count > 0 {
             objects[x].strike(t, count);
-            locks[x].release_last(t, count);
             counts[x] = 0;
         }
     }

@@ -3,7 +3,6 @@
 
 ghost use Rattle.std.specs.Prelude.{◌≡◌, [], ◌∷◌, Some, None, codes};
 ghost use Rattle.object_trait.specs.Examples.{held, counter_at};
-ghost use Rattle.op_locks.specs.Examples.{hold};
 ghost use Rattle.object_calls.specs.Answers.{answer_of};
 ghost use Rattle.object_calls.specs.Ends.{count_at};
 ghost use Rattle.object_calls.specs.Calls.{HasOperations, IsCall, by_name, by_number, IsCallTable};
@@ -13,14 +12,14 @@ use crate::answer::Answer;
 use type_table::Kind;
 
 pub fn a_held_operation_blocks_another()
-    ensures free { answer_of (counter_at Kind.Undo 0 (held 1 0 ∷ [])) (hold 1 0 ∷ []) 2 0 ≡ Answer.Reply 0 }
-    ensures blocked { answer_of (counter_at Kind.Undo 0 (held 1 0 ∷ [])) (hold 1 0 ∷ []) 2 1 ≡ Answer.Busy 1 }
-    ensures own { answer_of (counter_at Kind.Undo 0 (held 1 0 ∷ [])) (hold 1 0 ∷ []) 1 1 ≡ Answer.Reply 1 }
+    ensures free { answer_of (counter_at Kind.Undo 0 (held 1 0 ∷ [])) 2 0 ≡ Answer.Reply 0 }
+    ensures blocked { answer_of (counter_at Kind.Undo 0 (held 1 0 ∷ [])) 2 1 ≡ Answer.Busy 1 }
+    ensures own { answer_of (counter_at Kind.Undo 0 (held 1 0 ∷ [])) 1 1 ≡ Answer.Reply 1 }
 {}
 
 pub fn no_operation_is_legal()
-    ensures empty { answer_of (counter_at Kind.Undo 0 []) [] 2 1 ≡ Answer.None }
-    ensures full { answer_of (counter_at Kind.Undo 1 (held 1 0 ∷ [])) (hold 1 0 ∷ []) 2 0 ≡ Answer.None }
+    ensures empty { answer_of (counter_at Kind.Undo 0 []) 2 1 ≡ Answer.None }
+    ensures full { answer_of (counter_at Kind.Undo 1 (held 1 0 ∷ [])) 2 0 ≡ Answer.None }
 {}
 
 pub fn places_are_counted()

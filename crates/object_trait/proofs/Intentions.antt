@@ -7,7 +7,7 @@ use Rattle.std.proofs.lemmas.List.Elements.{filter-append}
 use Rattle.type_table.specs.Run.{IsLegal, AreEqui}
 use Rattle.type_table.specs.Commute.{CommuteForward, Covers}
 use Rattle.type_table.specs.Laws.{RunsAlong}
-use Rattle.type_table.specs.declared.kind.Kind.TheVariants.{Intentions}
+use Rattle.type_table.specs.declared.table_kind.TableKind.TheVariants.{Intentions}
 use Rattle.type_table.specs.Lists.{ListsForward}
 use Rattle.type_table.proofs.Elements.{each-push, each-filter, differ_turned}
 use Rattle.type_table.proofs.Legal.{legal-front, forward-turned}
@@ -26,7 +26,7 @@ use Rattle.object_trait.proofs.Undo.{locked-applied}
 -- ---- entries of two transactions
 
 -- leaving out mine changes nothing of what a filter keeps that none of mine passes
-filter-without : {E : Type 0} (mine theirs : E → Bool) → ((e : E) → mine e ≡ true → theirs e ≡ false) → (V : List E) → filter theirs (filter (λ e. not (mine e)) V) ≡ filter theirs V
+pub filter-without : {E : Type 0} (mine theirs : E → Bool) → ((e : E) → mine e ≡ true → theirs e ≡ false) → (V : List E) → filter theirs (filter (λ e. not (mine e)) V) ≡ filter theirs V
 filter-without mine theirs differ [] = refl
 filter-without mine theirs differ (e ∷ V) =
     elim (cases_Bool (mine e)) [
@@ -35,7 +35,7 @@ filter-without mine theirs differ (e ∷ V) =
     ]
 
 -- and leaves none of mine
-filter-itself : {E : Type 0} (mine : E → Bool) (V : List E) → filter mine (filter (λ e. not (mine e)) V) ≡ []
+pub filter-itself : {E : Type 0} (mine : E → Bool) (V : List E) → filter mine (filter (λ e. not (mine e)) V) ≡ []
 filter-itself mine [] = refl
 filter-itself mine (e ∷ V) =
     elim (cases_Bool (mine e)) [

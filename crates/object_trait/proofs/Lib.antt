@@ -1,4 +1,6 @@
+pub mod Accepted
 pub mod Counting
+pub mod Escrow
 pub mod Intentions
 pub mod Kept
 pub mod Lists

@@ -5,7 +5,7 @@ use Rattle.std.proofs.lemmas.Bool.{both_ways, not-true, eqb-true, cases_Bool, an
 use Rattle.type_table.specs.Run.{IsLegal}
 use Rattle.type_table.specs.Commute.{CommutesBackward, Covers}
 use Rattle.type_table.specs.Laws.{RunsAlong, EndsInside}
-use Rattle.type_table.specs.declared.kind.Kind.TheVariants.{Undo}
+use Rattle.type_table.specs.declared.table_kind.TableKind.TheVariants.{Undo}
 use Rattle.type_table.proofs.Elements.{each-weaker, differ_turned}
 use Rattle.type_table.proofs.Legal.{legal-front}
 use Rattle.object_trait.specs.Object.{Object}

@@ -1,10 +1,11 @@
 -- Calls of a transaction without open entries: they may leave a meaning as it is, and show the same whatever they leave.
 use Rattle.std.proofs.Common.{◌≡◌, ℕ, zero, Bool, true, false, not, eqb, ◌&&◌, List, [], ◌∷◌, ◌++◌, map, Some, refl, sym, ap, ◌∙◌}
 use Rattle.std.specs.List.{AllByRecursion}
+use Rattle.std.proofs.lemmas.Option.{same_Some}
 use Rattle.type_table.specs.Run.{run}
 use Rattle.type_table.specs.Laws.{RunsAlong}
 use Rattle.type_table.specs.declared.kind.Kind.{Kind}
-use Rattle.type_table.specs.declared.kind.Kind.TheVariants.{Undo, Intentions}
+use Rattle.type_table.specs.declared.kind.Kind.TheVariants.{Undo, Intentions, Escrow}
 use Rattle.table_checker.specs.Checked.{Checked}
 use Rattle.object_trait.specs.Object.{Object, object_of}
 use Rattle.object_trait.specs.Meaning.{Meaning, object, ops_of, is_open_of, open_of, run_log, state_by, view_by}
@@ -34,6 +35,7 @@ untouched_commit Intentions o base log t sound none = record {
   reached = rw none (λ ks legal. legal, λ ks legal. legal);
   still = λ none. refl;
 }
+untouched_commit Escrow o base log t sound none = record { rest = sym (keep_first-untouched (is_open_of t) zero log none) ∙ without_mine (is_open_of t) log; reached = rw none refl }
 
 -- ---- strike
 
@@ -41,6 +43,7 @@ untouched_commit Intentions o base log t sound none = record {
 untouched_strike : (kind : Kind) (o : Object) (base : ℕ) (log : List LogEntry) (t n : ℕ) → open_of t log ≡ [] → IsStrikeBy kind o base log t n base log
 untouched_strike Undo o base log t n none = record { moved = []; front = keep_first-untouched (is_open_of t) n log none; done = tt; reached = refl }
 untouched_strike Intentions o base log t n none = record { same_base = refl; rest = sym (keep_first-untouched (is_open_of t) n log none) }
+untouched_strike Escrow o base log t n none = record { same_base = refl; rest = sym (keep_first-untouched (is_open_of t) n log none) }
 
 -- the law of transactions without open entries
 pub untouched-stays : UntouchedStays
@@ -82,23 +85,28 @@ settled-shows along o base log new_base new_log s = record {
   opens = λ t. sym (none_open t s.moved new_log s.done) ∙ ap (open_of t) (sym s.front);
 }
 
--- deferred update: the same base and the same log
-same-shows : (o : Object) (base : ℕ) (log : List LogEntry) (new_base : ℕ) (new_log : List LogEntry) → new_base ≡ base → new_log ≡ log → ShowsBy Intentions o base log new_base new_log
-same-shows o base log new_base new_log same_base same_log = rw (same_base, same_log) (record { state = refl; views = λ t. refl; opens = λ t. refl })
+-- the same base and the same log
+same-shows : (kind : Kind) (o : Object) (base : ℕ) (log : List LogEntry) (new_base : ℕ) (new_log : List LogEntry) → new_base ≡ base → new_log ≡ log → ShowsBy kind o base log new_base new_log
+same-shows kind o base log new_base new_log same_base same_log = rw (same_base, same_log) (record { state = refl; views = λ t. refl; opens = λ t. refl })
 
 -- a commit
 commit-shows : RunsAlong → (kind : Kind) (o : Object) (base : ℕ) (log : List LogEntry) (t new_base : ℕ) (new_log : List LogEntry) → open_of t log ≡ [] → IsCommitBy kind o base log t new_base new_log →
     ShowsBy kind o base log new_base new_log
 commit-shows along Undo o base log t new_base new_log none commit = settled-shows along o base log new_base new_log (rw (unmarked t log none) at commit)
 commit-shows along Intentions o base log t new_base new_log none commit =
-    same-shows o base log new_base new_log (commit.still none) (commit.rest ∙ sym (without_mine (is_open_of t) log) ∙ keep_first-untouched (is_open_of t) zero log none)
+    same-shows Intentions o base log new_base new_log (commit.still none) (commit.rest ∙ sym (without_mine (is_open_of t) log) ∙ keep_first-untouched (is_open_of t) zero log none)
+commit-shows along Escrow o base log t new_base new_log none commit =
+    let same : Some base ≡ Some new_base = rw none at commit.reached in
+    same-shows Escrow o base log new_base new_log (sym (same_Some base new_base same)) (commit.rest ∙ sym (without_mine (is_open_of t) log) ∙ keep_first-untouched (is_open_of t) zero log none)
 
 -- a strike
 strike-shows : RunsAlong → (kind : Kind) (o : Object) (base : ℕ) (log : List LogEntry) (t n new_base : ℕ) (new_log : List LogEntry) → open_of t log ≡ [] →
     IsStrikeBy kind o base log t n new_base new_log → ShowsBy kind o base log new_base new_log
 strike-shows along Undo o base log t n new_base new_log none strike = settled-shows along o base log new_base new_log (rw (keep_first-untouched (is_open_of t) n log none) at strike)
 strike-shows along Intentions o base log t n new_base new_log none strike =
-    same-shows o base log new_base new_log strike.same_base (strike.rest ∙ keep_first-untouched (is_open_of t) n log none)
+    same-shows Intentions o base log new_base new_log strike.same_base (strike.rest ∙ keep_first-untouched (is_open_of t) n log none)
+strike-shows along Escrow o base log t n new_base new_log none strike =
+    same-shows Escrow o base log new_base new_log strike.same_base (strike.rest ∙ keep_first-untouched (is_open_of t) n log none)
 
 -- what is shown of a meaning whose type is as it was
 shown : (old new : Meaning) → new.checked ≡ old.checked → ShowsBy old.checked.kind (object old) old.base old.log new.base new.log → ShowsTheSame old new

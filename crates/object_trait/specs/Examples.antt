@@ -4,8 +4,10 @@ use Rattle.std.specs.Option.{option_to_list}
 use Rattle.type_table.specs.Examples.{ok_op}
 use Rattle.type_table.specs.declared.kind.Kind.{Kind}
 use Rattle.type_table.specs.declared.kind.Kind.TheVariants.{Undo, Intentions}
-use Rattle.table_checker.specs.Checked.{Checked}
 use Rattle.table_checker.specs.Examples.{counter_file}
+use Rattle.escrow_laws.specs.Bounds.{amounts_of}
+use Rattle.type_table.specs.declared.kind.Kind.TheVariants as way
+use Rattle.table_checker.specs.Checked.{Checked}
 use Rattle.object_trait.specs.Object.{Object}
 use Rattle.object_trait.specs.Meaning.{Meaning}
 use Rattle.object_trait.specs.declared.log_entry.LogEntry.{LogEntry}
@@ -20,7 +22,7 @@ past t k = record { by = t; op = k; done = true }
 
 -- the counter under a kind of recovery
 abbrev pub counter_at : Kind → ℕ → List LogEntry → Meaning
-counter_at kind base log = record { checked = record { kind = kind; file = counter_file }; base = base; log = log }
+counter_at kind base log = record { checked = (record { kind = kind; file = counter_file }); base = base; log = log }
 
 -- with update in place, from 0: two transactions have counted up
 abbrev pub two_ups : Meaning
@@ -41,8 +43,9 @@ of_one_entry checked entry = record { checked = checked; base = checked.file.tab
 -- an object of two states, in each of which the one operation idles: nothing tells the states apart
 abbrev pub two_alike : Object
 two_alike = record {
-  kind = Intentions;
+  kind = way.Intentions;
   table = record { name = codes "alike"; states = 2; initial = 0; ops = ok_op (codes "p") ∷ []; steps = Some 0 ∷ Some 1 ∷ [] };
   set = λ s. nat_lt s 2;
   conflicts = λ p q. false;
+  amounts = amounts_of [];
 }

@@ -2,7 +2,7 @@
 use Rattle.std.specs.Prelude.{ℕ, List, map, filter, Bool, not, ◌&&◌, ◌==◌, Option, Some}
 use Rattle.type_table.specs.Run.{run}
 use Rattle.type_table.specs.declared.kind.Kind.{Kind}
-use Rattle.type_table.specs.declared.kind.Kind.TheVariants.{Undo, Intentions}
+use Rattle.type_table.specs.declared.kind.Kind.TheVariants.{Undo, Intentions, Escrow}
 use Rattle.table_checker.specs.Checked.{Checked}
 use Rattle.object_trait.specs.Object.{Object, object_of}
 use Rattle.object_trait.specs.declared.log_entry.LogEntry.{LogEntry}
@@ -28,19 +28,25 @@ is_open_of t e = (e.by == t) && not e.done
 abbrev pub open_of : ℕ → List LogEntry → List LogEntry
 open_of t log = filter (is_open_of t) log
 
+-- what each transaction did
+abbrev pub own_of : List LogEntry → ℕ → List ℕ
+own_of log t = ops_of (open_of t log)
+
 -- the state after the operations of a log
 abbrev pub run_log : Object → ℕ → List LogEntry → Option ℕ
 run_log o base log = run o.table (Some base) (ops_of log)
 
--- the object's state: with update in place that after the whole log, with deferred update base
+-- the object's state: with update in place that after the whole log, with deferred update and in escrow base
 abbrev pub state_by : Kind → Object → ℕ → List LogEntry → Option ℕ
 state_by Undo o base log = run_log o base log
 state_by Intentions o base log = Some base
+state_by Escrow o base log = Some base
 
--- the state that t sees: with update in place that after the whole log, with deferred update that after its own open entries
+-- the state that t sees: with update in place that after the whole log, with deferred update and in escrow that after its own open entries
 abbrev pub view_by : Kind → Object → ℕ → List LogEntry → ℕ → Option ℕ
 view_by Undo o base log t = run_log o base log
 view_by Intentions o base log t = run_log o base (open_of t log)
+view_by Escrow o base log t = run_log o base (open_of t log)
 
 abbrev pub state_of : Meaning → Option ℕ
 state_of m = state_by m.checked.kind (object m) m.base m.log

@@ -2,11 +2,12 @@
 use Rattle.std.specs.Prelude.{◌≡◌, ℕ, List, true, false, ◌==◌, Some}
 use Rattle.std.specs.List.{AllByRecursion}
 use Rattle.type_table.specs.Run.{IsLegal}
+use Rattle.escrow_laws.specs.Firm.{IsFirm}
 use Rattle.type_table.specs.declared.kind.Kind.{Kind}
-use Rattle.type_table.specs.declared.kind.Kind.TheVariants.{Undo, Intentions}
+use Rattle.type_table.specs.declared.kind.Kind.TheVariants.{Undo, Intentions, Escrow}
 use Rattle.object_trait.specs.Object.{Object}
 use Rattle.object_trait.specs.Orders.{Pairs}
-use Rattle.object_trait.specs.Meaning.{Meaning, object, ops_of, open_of}
+use Rattle.object_trait.specs.Meaning.{Meaning, object, ops_of, open_of, own_of}
 use Rattle.object_trait.specs.declared.log_entry.LogEntry.{LogEntry}
 
 -- an open entry conflicts with nothing that another transaction did after it
@@ -31,9 +32,16 @@ pub record IsSoundIntentions (o : Object) (base : ℕ) (log : List LogEntry) : T
   pub legal : (t : ℕ) → IsLegal o.table (Some base) (ops_of (open_of t log))
   pub locked : Pairs (IsLocked o) log
 
+-- escrow: all entries are open, and those of each transaction are legal whatever the others do
+pub record IsSoundEscrow (o : Object) (base : ℕ) (log : List LogEntry) : Type 0 where
+  pub inside : o.set base ≡ true
+  pub all_open : AllByRecursion (λ e. e.done ≡ false) log
+  pub firm : IsFirm o.table o.amounts base (own_of log)
+
 abbrev pub IsSoundBy : Kind → Object → ℕ → List LogEntry → Type 0
 IsSoundBy Undo = IsSoundUndo
 IsSoundBy Intentions = IsSoundIntentions
+IsSoundBy Escrow = IsSoundEscrow
 
 abbrev pub IsSound : Meaning → Type 0
 IsSound m = IsSoundBy m.checked.kind (object m) m.base m.log

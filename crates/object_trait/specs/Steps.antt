@@ -1,12 +1,14 @@
 -- What the calls of an object do to its meaning.
-use Rattle.std.specs.Prelude.{◌≡◌, ℕ, ◌-◌, ◌<◌, ◌||◌, List, [], ◌∷◌, ◌++◌, map, filter, length, true, false, not, ◌==◌, Some, if◌then◌else◌}
-use Rattle.std.specs.List.{list_any, AllByRecursion}
+use Rattle.std.specs.Prelude.{◌≡◌, ℕ, suc, ◌+◌, ◌-◌, ◌<◌, ◌||◌, Bool, List, [], ◌∷◌, ◌++◌, map, filter, length, true, false, not, ◌&&◌, ◌==◌, Option, Some, if◌then◌else◌}
+use Rattle.std.specs.List.{list_any, find, AllByRecursion}
+use Rattle.std.specs.Option.{option_map}
 use Rattle.type_table.specs.Run.{IsLegal, AreEqui}
+use Rattle.escrow_laws.specs.Firm.{with_op, keeps}
 use Rattle.type_table.specs.declared.kind.Kind.{Kind}
-use Rattle.type_table.specs.declared.kind.Kind.TheVariants.{Undo, Intentions}
+use Rattle.type_table.specs.declared.kind.Kind.TheVariants.{Undo, Intentions, Escrow}
 use Rattle.object_trait.specs.Object.{Object}
 use Rattle.object_trait.specs.Strike.{keep_first}
-use Rattle.object_trait.specs.Meaning.{Meaning, object, is_open_of, open_of, run_log, state_of, view_of}
+use Rattle.object_trait.specs.Meaning.{Meaning, object, is_open_of, open_of, own_of, run_log, state_of, view_of}
 use Rattle.object_trait.specs.declared.log_entry.LogEntry.{LogEntry}
 
 -- ---- what is read
@@ -33,11 +35,29 @@ pub record IsFresh (m : Meaning) : Type 0 where
 abbrev pub IsOfAnotherOpen : ℕ → LogEntry → Type 0
 IsOfAnotherOpen t e = (e.done ≡ false) × ((e.by == t) ≡ false)
 
+-- a number above t and each transaction of the log
+abbrev pub above : ℕ → List LogEntry → ℕ
+above t [] = suc t
+above t (e ∷ log) = above t log + suc e.by
+
+-- the entry, of another open transaction, keeps t from k
+abbrev pub stops_by : Kind → Object → ℕ → List LogEntry → ℕ → ℕ → LogEntry → Bool
+stops_by Undo o base log t k e = o.conflicts k e.op
+stops_by Intentions o base log t k e = o.conflicts k e.op
+stops_by Escrow o base log t k e = keeps o.table o.amounts base (with_op (own_of log) t k) (above t log) t e.by
+
+abbrev pub stops : Meaning → ℕ → ℕ → LogEntry → Bool
+stops m = stops_by m.checked.kind (object m) m.base m.log
+
+-- who keeps t from k: the transaction of the earliest open entry that stops it, and is another's
+abbrev pub stopper : Meaning → ℕ → ℕ → Option ℕ
+stopper m t k = option_map (λ e. e.by) (find (λ e. not (e.by == t) && stops m t k e) (filter (λ e. not e.done) m.log))
+
 -- the caller's condition: k is legal for t and conflicts with no entry of another open transaction, and the log has room
 pub record MayApply (m : Meaning) (t k : ℕ) : Type 0 where
   pub operation : k < length m.checked.file.table.ops
   pub legal : IsLegalFor m t k
-  pub free : AllByRecursion (λ e. IsOfAnotherOpen t e → (object m).conflicts k e.op ≡ false) m.log
+  pub free : AllByRecursion (λ e. IsOfAnotherOpen t e → stops m t k e ≡ false) m.log
   pub room : length m.log < 4294967295
 
 -- the meaning with one more entry, which is open
@@ -68,9 +88,15 @@ pub record IsIntentionsCommit (o : Object) (base : ℕ) (log : List LogEntry) (t
   pub reached : AreEqui o.table (Some new_base) (run_log o base (open_of t log))
   pub still : open_of t log ≡ [] → new_base ≡ base
 
+-- escrow: t's entries leave the log, and base is the number after them
+pub record IsEscrowCommit (o : Object) (base : ℕ) (log : List LogEntry) (t new_base : ℕ) (new_log : List LogEntry) : Type 0 where
+  pub rest : new_log ≡ filter (λ e. not (is_open_of t e)) log
+  pub reached : run_log o base (open_of t log) ≡ Some new_base
+
 abbrev pub IsCommitBy : Kind → Object → ℕ → List LogEntry → ℕ → ℕ → List LogEntry → Type 0
 IsCommitBy Undo = IsUndoCommit
 IsCommitBy Intentions = IsIntentionsCommit
+IsCommitBy Escrow = IsEscrowCommit
 
 pub record IsCommit (old : Meaning) (t : ℕ) (new : Meaning) : Type 0 where
   pub checked : new.checked ≡ old.checked
@@ -88,6 +114,7 @@ pub record IsIntentionsStrike (o : Object) (base : ℕ) (log : List LogEntry) (t
 abbrev pub IsStrikeBy : Kind → Object → ℕ → List LogEntry → ℕ → ℕ → ℕ → List LogEntry → Type 0
 IsStrikeBy Undo = IsUndoStrike
 IsStrikeBy Intentions = IsIntentionsStrike
+IsStrikeBy Escrow = IsIntentionsStrike
 
 -- what is left where only the first n open entries of t stay
 pub record Keeps (old : Meaning) (t n : ℕ) (new : Meaning) : Type 0 where

@@ -4,7 +4,7 @@ ghost use Rattle.std.specs.Prelude.{◌≡◌};
 
 use crate::recovery::Recovery;
 use std::alloc::AllocError;
-use table_checker::CheckedType;
+use type_table::Op;
 
 /// An object of any kind of recovery, boxed by the caller. Its meaning is that of the object in the
 /// box.
@@ -33,16 +33,20 @@ impl AnyObject {
 impl Recovery for AnyObject {
     ghost meaning = { λ b. (Recovery-box b.object).meaning b.object.value };
 
-    fn checked(&self) -> &CheckedType {
-        self.object.checked()
+    fn ops(&self) -> &[Op] {
+        self.object.ops()
     }
 
-    fn state(&self) -> u16 {
+    fn state(&self) -> u32 {
         self.object.state()
     }
 
     fn legal(&self, t: u32, k: u8) -> bool {
         self.object.legal(t, k)
+    }
+
+    fn blocker(&self, t: u32, k: u8) -> Option<u32> {
+        self.object.blocker(t, k)
     }
 
     fn apply(&mut self, t: u32, k: u8) -> Result<(), AllocError> {

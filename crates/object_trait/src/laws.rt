@@ -4,6 +4,9 @@
 ghost use Rattle.object_trait.specs.Laws.{PartsSort, KeepsFirst, KeepsNone, KeepsParts, KeepsOthers, StruckPart, SortsLook, SortsEqui, CheckedIsCovered, StruckLogIsLegal, OpensCommute, FreshIsSound, SoundAfterApply, SoundAfterCommit, SoundAfterStrike, UntouchedStays, UntouchedShowsTheSame, OpensAreCounted};
 
 use crate::log_entry::LogEntry;
+use escrow_laws::{
+    firm_after_apply, firm_after_commit, firm_after_strike, fresh_is_firm, nothing_keeps,
+};
 use table_checker::{strong_yes_covers, yes_covers};
 use type_table::{ends_inside, equi_extends, lists_forward, looks_extends, runs_along};
 
@@ -84,19 +87,25 @@ pub fn opens_commute()
 /// A new object's meaning is sound.
 pub fn fresh_is_sound()
     ensures { FreshIsSound }
-{}
+{
+    fresh_is_firm();
+}
 
 /// A meaning stays sound by a further operation that the caller may execute.
 pub fn sound_after_apply()
     ensures { SoundAfterApply }
 {
     runs_along();
+    firm_after_apply();
+    firm_after_strike();
+    nothing_keeps();
 }
 
 /// A meaning stays sound by a commit.
 pub fn sound_after_commit()
     ensures { SoundAfterCommit }
 {
+    firm_after_commit();
     runs_along();
     ends_inside();
     lists_forward();
@@ -106,6 +115,7 @@ pub fn sound_after_commit()
 pub fn sound_after_strike()
     ensures { SoundAfterStrike }
 {
+    firm_after_strike();
     keeps_first::<LogEntry>();
     parts_sort::<LogEntry>();
     struck_part::<LogEntry>();

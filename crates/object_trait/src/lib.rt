@@ -2,6 +2,7 @@
 #![tactic(auto)]
 
 mod any_object;
+mod bits;
 mod event;
 mod laws;
 mod log_entry;
@@ -10,6 +11,7 @@ mod renew;
 mod wrong_kind;
 
 pub use any_object::AnyObject;
+pub use bits::with_bit;
 pub use event::{Event, EventKind};
 pub use laws::{
     checked_is_covered, fresh_is_sound, keeps_first, keeps_none, keeps_others, keeps_parts,

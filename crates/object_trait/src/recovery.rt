@@ -1,11 +1,12 @@
 //! What an object owes, whatever its kind of recovery and whatever it keeps.
 
 ghost use Rattle.std.specs.Prelude.{◌≡◌, ◌↔◌, ◌<◌, ◌≤◌, true, Some, length, OnOk, OnErr};
+ghost use Rattle.table_checker.specs.Checked.{IsChecked};
 ghost use Rattle.object_trait.specs.Meaning.{Meaning, state_of, open_of};
-ghost use Rattle.object_trait.specs.Steps.{IsLegalFor, open_transactions, IsFresh, MayApply, applied, IsCommit, IsStrike, IsAbort};
+ghost use Rattle.object_trait.specs.Steps.{IsLegalFor, open_transactions, IsFresh, stopper, MayApply, applied, IsCommit, IsStrike, IsAbort};
 
 use std::alloc::AllocError;
-use table_checker::CheckedType;
+use type_table::Op;
 
 /// An object that many transactions share, with its way of recovering from aborts.
 ///
@@ -15,24 +16,35 @@ pub trait Recovery: Send + Drop {
     /// What the object means now.
     ghost meaning: { Self → Meaning };
 
-    /// The type for whose kind of recovery the checker said yes.
-    fn checked(&self) -> &CheckedType
-        ensures { result.now ≡ (meaning self.now).checked };
+    /// The operations of its type, which was checked for its kind of recovery.
+    fn ops(&self) -> &[Op]
+        ensures exact { result.now ≡ (meaning self.now).checked.file.table.ops }
+        ensures few { length result.now ≤ 64 }
+        ensures checked { IsChecked (meaning self.now).checked };
 
-    /// The object's state: with update in place that after the whole log, with deferred update that
-    /// of the committed transactions alone. The latter is one of those that are equieffective to the
-    /// state after their operations in commit order, and needn't be that state: of a type whose states
-    /// 3 and 4 nothing tells apart, it may be 4 where that is 3.
-    fn state(&self) -> u16
-        ensures { state_of (meaning self.now) ≡ Some result };
+    /// The object's state: with update in place that after the whole log, with deferred update and in
+    /// escrow that of the committed transactions alone. In escrow the latter is the state after their
+    /// operations in commit order. With deferred update it is one that is equieffective to that, and
+    /// needn't be the same: of a type whose states 3 and 4 nothing tells apart, it may be 4 where that
+    /// is 3. It has at most seven digits.
+    fn state(&self) -> u32
+        ensures exact { state_of (meaning self.now) ≡ Some result }
+        ensures short { result < 10000000 };
 
     /// Whether operation k of the object's table is legal in the state that transaction t sees.
     fn legal(&self, t: u32, k: u8) -> bool
         requires { k < length (meaning self.now).checked.file.table.ops }
         ensures { (result ≡ true) ↔ IsLegalFor (meaning self.now) t k };
 
+    /// Who keeps transaction t from operation k, which is legal for it: the transaction of the earliest
+    /// open entry that stops it.
+    fn blocker(&self, t: u32, k: u8) -> Option<u32>
+        requires operation { k < length (meaning self.now).checked.file.table.ops }
+        requires legal { IsLegalFor (meaning self.now) t k }
+        ensures { result ≡ stopper (meaning self.now) t k };
+
     /// Executes operation k for transaction t: one more entry, which is open. The caller has seen
-    /// that k is legal for t and conflicts with no entry of another open transaction.
+    /// that k is legal for t and that no other transaction keeps t from it.
     ///
     /// # Errors
     ///
@@ -43,13 +55,13 @@ pub trait Recovery: Send + Drop {
         ensures unchanged { OnErr result (meaning self.new ≡ meaning self.old) };
 
     /// Commits transaction t. With update in place its entries become done; with deferred update
-    /// they leave the log, and the state becomes one that is equieffective to that after them, or stays
-    /// where there are none.
+    /// and in escrow they leave the log, and the state becomes one that is equieffective to that after
+    /// them, or stays where there are none; in escrow it becomes that state.
     fn commit(&mut self, t: u32)
         ensures { IsCommit (meaning self.old) t (meaning self.new) };
 
-    /// Aborts transaction t: its open entries leave the log. With deferred update the state stays, as
-    /// the same number.
+    /// Aborts transaction t: its open entries leave the log. With deferred update and in escrow the state
+    /// stays, as the same number.
     fn abort(&mut self, t: u32)
         ensures { IsAbort (meaning self.old) t (meaning self.new) };
 

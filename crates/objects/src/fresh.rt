@@ -12,7 +12,7 @@ use table_checker::CheckedType;
 /// New objects of these types, in their order.
 pub fn new_objects(alloc: Global, types: &[Arc<CheckedType>]) -> Result<Vec<Object>, AllocError>
     ensures fresh { IfOk result (λ objects. AreNew objects.items) }
-    ensures types { IfOk result (λ objects. checked_types objects.items ≡ map arc_value types.now) }
+    ensures types { IfOk result (λ objects. checked_types objects.items ≡ (map arc_value types.now)) }
 {
     let mut objects = Vec::with_capacity(alloc, types.len())?;
     for checked in types {

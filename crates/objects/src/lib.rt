@@ -1,4 +1,4 @@
-//! Objects of either kind of recovery under one type, without a box.
+//! Objects of any kind of recovery under one type, without a box.
 #![tactic(auto)]
 
 mod fresh;

@@ -1,20 +1,23 @@
 ghost use Rattle.std.specs.Prelude.{◌≡◌};
 
+use escrow_manager::EscrowManager;
 use intentions_manager::IntentionsManager;
 use object_trait::{Recovery, Renew};
 use std::alloc::{AllocError, Global};
 use std::sync::Arc;
 use table_checker::CheckedType;
-use type_table::Kind;
+use type_table::{Kind, Op};
 use undo_manager::UndoManager;
 
-/// An object of either kind of recovery. Its meaning is that of the manager inside.
+/// An object of any kind of recovery. Its meaning is that of the manager inside.
 #[derive(Drop)]
 pub enum Object {
     /// Update in place.
     Undo(UndoManager),
     /// Deferred update.
     Intentions(IntentionsManager),
+    /// Escrow.
+    Escrow(EscrowManager),
 }
 
 impl Object {
@@ -30,6 +33,7 @@ impl Object {
         match checked.kind() {
             Kind::Undo => Object::Undo(UndoManager::new(alloc, checked).unwrap()),
             Kind::Intentions => Object::Intentions(IntentionsManager::new(alloc, checked).unwrap()),
+            Kind::Escrow => Object::Escrow(EscrowManager::new(alloc, checked).unwrap()),
         }
     }
 }
@@ -39,17 +43,27 @@ impl Recovery for Object {
 
     ghost meaning = { meaning_of };
 
-    fn checked(&self) -> &CheckedType {
+    fn ops(&self) -> &[Op] {
         match self {
-            Object::Undo(manager) => manager.checked(),
-            Object::Intentions(manager) => manager.checked(),
+            Object::Undo(manager) => manager.ops(),
+            Object::Intentions(manager) => manager.ops(),
+            Object::Escrow(manager) => manager.ops(),
         }
     }
 
-    fn state(&self) -> u16 {
+    fn blocker(&self, t: u32, k: u8) -> Option<u32> {
+        match self {
+            Object::Undo(manager) => manager.blocker(t, k),
+            Object::Intentions(manager) => manager.blocker(t, k),
+            Object::Escrow(manager) => manager.blocker(t, k),
+        }
+    }
+
+    fn state(&self) -> u32 {
         match self {
             Object::Undo(manager) => manager.state(),
             Object::Intentions(manager) => manager.state(),
+            Object::Escrow(manager) => manager.state(),
         }
     }
 
@@ -57,6 +71,7 @@ impl Recovery for Object {
         match self {
             Object::Undo(manager) => manager.legal(t, k),
             Object::Intentions(manager) => manager.legal(t, k),
+            Object::Escrow(manager) => manager.legal(t, k),
         }
     }
 
@@ -64,6 +79,7 @@ impl Recovery for Object {
         match self {
             Object::Undo(manager) => manager.apply(t, k),
             Object::Intentions(manager) => manager.apply(t, k),
+            Object::Escrow(manager) => manager.apply(t, k),
         }
     }
 
@@ -71,6 +87,7 @@ impl Recovery for Object {
         match self {
             Object::Undo(manager) => manager.commit(t),
             Object::Intentions(manager) => manager.commit(t),
+            Object::Escrow(manager) => manager.commit(t),
         }
     }
 
@@ -78,6 +95,7 @@ impl Recovery for Object {
         match self {
             Object::Undo(manager) => manager.abort(t),
             Object::Intentions(manager) => manager.abort(t),
+            Object::Escrow(manager) => manager.abort(t),
         }
     }
 
@@ -85,6 +103,7 @@ impl Recovery for Object {
         match self {
             Object::Undo(manager) => manager.strike(t, m),
             Object::Intentions(manager) => manager.strike(t, m),
+            Object::Escrow(manager) => manager.strike(t, m),
         }
     }
 
@@ -92,6 +111,7 @@ impl Recovery for Object {
         match self {
             Object::Undo(manager) => manager.open_count(),
             Object::Intentions(manager) => manager.open_count(),
+            Object::Escrow(manager) => manager.open_count(),
         }
     }
 
@@ -99,11 +119,20 @@ impl Recovery for Object {
         match self {
             Object::Undo(manager) => manager.is_fresh(),
             Object::Intentions(manager) => manager.is_fresh(),
+            Object::Escrow(manager) => manager.is_fresh(),
         }
     }
 }
 
 impl Renew for Object {
+    fn checked(&self) -> &CheckedType {
+        match self {
+            Object::Undo(manager) => manager.checked(),
+            Object::Intentions(manager) => manager.checked(),
+            Object::Escrow(manager) => manager.checked(),
+        }
+    }
+
     fn renewed(&self, alloc: Global, checked: Arc<CheckedType>) -> Object {
         Object::new(alloc, checked)
     }

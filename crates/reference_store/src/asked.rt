@@ -25,7 +25,7 @@ pub enum Told {
     None,
     Done,
     Refused(Refusal),
-    Kept(Option<u16>),
+    Kept(Option<u32>),
     NumberOf(Option<u8>),
 }
 

@@ -3,6 +3,8 @@
 
 pub mod asked;
 pub mod checked_types;
+mod living;
+mod numbers;
 pub mod reference;
 pub mod runs;
 pub mod work;

@@ -1,21 +1,15 @@
 //! What a store answers, told slowly from lists of what happened.
 
 use crate::asked::{Ask, Told, answered};
+use crate::living::{Living, run_at, stepped};
+use crate::numbers::Number;
 use object_trait::{Event, EventKind};
 use serial_order::Refusal;
 use std::alloc::{AllocError, Global};
 use std::sync::Arc;
 use store::Answer;
 use table_checker::CheckedType;
-use type_table::{ConflictTable, Kind, Op, TypeTable};
-
-/// An operation that wasn't struck.
-#[derive(Clone, Copy)]
-struct Living {
-    t: u32,
-    x: u32,
-    k: u8,
-}
+use type_table::{ConflictTable, Kind, Op, TableKind, TypeTable};
 
 /// A transaction that began.
 #[derive(Clone, Copy)]
@@ -33,6 +27,8 @@ pub struct Reference {
     count: u32,
     /// Of transactions that didn't abort, in the order of execution.
     living: Vec<Living>,
+    /// Of open ones, in the order of execution.
+    open: Vec<Living>,
     /// Of those that committed, one transaction after another in commit order.
     serial: Vec<Living>,
     events: Vec<Event>,
@@ -66,32 +62,6 @@ fn is_of_call(ops: &[Op], c: u8, k: u8) -> bool {
     }
 }
 
-/// The state after one more operation, where it is legal.
-fn stepped(table: &TypeTable, state: Option<u16>, k: u8) -> Option<u16> {
-    let s = state?;
-    if s >= table.states() || k >= table.op_count() {
-        return None;
-    }
-    table.next(s, k)
-}
-
-/// The state after those of the operations that are at x, and of t where one is given.
-fn run_at(
-    table: &TypeTable,
-    start: Option<u16>,
-    list: &[Living],
-    x: u32,
-    t: Option<u32>,
-) -> Option<u16> {
-    let mut state = start;
-    for one in list {
-        if one.x == x && t.unwrap_or(one.t) == one.t {
-            state = stepped(table, state, one.k);
-        }
-    }
-    state
-}
-
 /// Whether the requested k conflicts with the held q.
 fn clash(conflicts: &ConflictTable, k: u8, q: u8) -> bool {
     k < conflicts.ops() && q < conflicts.ops() && conflicts.conflicts(k, q)
@@ -115,6 +85,7 @@ impl Reference {
             begun: Vec::new(alloc),
             count: 0,
             living: Vec::new(alloc),
+            open: Vec::new(alloc),
             serial: Vec::new(alloc),
             events: Vec::new(alloc),
         }
@@ -171,19 +142,20 @@ impl Reference {
         let start = Some(table.initial());
         match checked.kind() {
             Kind::Undo => run_at(table, start, &self.living, x, None),
-            Kind::Intentions => {
+            Kind::Intentions | Kind::Escrow => {
                 let committed = run_at(table, start, &self.serial, x, None);
                 run_at(table, committed, &self.living, x, Some(t))
             }
         }
     }
 
-    /// The state of x where it has update in place, else none.
-    pub fn kept(&self, x: u32) -> Option<u16> {
+    /// The state of x where it has update in place or is in escrow, else none.
+    pub fn kept(&self, x: u32) -> Option<u32> {
         let checked = self.types.get(x as usize)?;
         match checked.kind() {
-            Kind::Undo => self.view(checked, x, 0),
+            Kind::Undo => Some(u32::from(self.view(checked, x, 0)?)),
             Kind::Intentions => None,
+            Kind::Escrow => Some(u32::from(self.serial_state(x)?)),
         }
     }
 
@@ -192,7 +164,7 @@ impl Reference {
         let checked = self.types.get(x as usize)?;
         match checked.kind() {
             Kind::Undo => self.view(checked, x, 0),
-            Kind::Intentions => self.serial_state(x),
+            Kind::Intentions | Kind::Escrow => self.serial_state(x),
         }
     }
 
@@ -202,16 +174,34 @@ impl Reference {
         run_at(table, Some(table.initial()), &self.serial, x, None)
     }
 
-    /// Who holds the earliest operation that keeps t from k at x.
+    /// Who did the earliest operation that keeps t from k at x.
     fn blocker(&self, checked: &CheckedType, x: u32, t: u32, k: u8) -> Option<u32> {
-        let conflicts = checked.conflicts();
-        for one in &self.living {
-            let other = one.x == x && one.t != t && self.is_open(one.t);
-            if other && clash(conflicts, k, one.k) {
+        match checked.kind() {
+            Kind::Undo => self.holder(checked.conflicts(TableKind::Undo), x, t, k),
+            Kind::Intentions => self.holder(checked.conflicts(TableKind::Intentions), x, t, k),
+            Kind::Escrow => self.keeper(checked.table(), Living { t, x, k }),
+        }
+    }
+
+    /// Who holds the earliest operation with which k conflicts.
+    fn holder(&self, conflicts: &ConflictTable, x: u32, t: u32, k: u8) -> Option<u32> {
+        for one in &self.open {
+            if one.x == x && one.t != t && clash(conflicts, k, one.k) {
                 return Some(one.t);
             }
         }
         None
+    }
+
+    /// Who keeps the transaction of one operation more, at a number in escrow, from it.
+    fn keeper(&self, table: &TypeTable, further: Living) -> Option<u32> {
+        let number = Number {
+            table,
+            base: self.serial_state(further.x)?,
+            open: &self.open,
+            further,
+        };
+        number.keeper()
     }
 
     /// The answer of t's call c at x.
@@ -273,6 +263,7 @@ impl Reference {
         let kind = match answer {
             Answer::Reply(k) => {
                 self.living.push(Living { t, x, k })?;
+                self.open.push(Living { t, x, k })?;
                 EventKind::Op { t, x, k }
             }
             Answer::Busy(u) => EventKind::Busy { t, x, c, u },
@@ -300,6 +291,7 @@ impl Reference {
     }
 
     fn set_ended(&mut self, t: u32) {
+        self.open.retain(|one| one.t != t);
         if let Some(begun) = self.begun.get_mut(t as usize) {
             begun.open = false;
         }
@@ -341,6 +333,7 @@ impl Reference {
             return Ok(Told::Refused(Refusal::HistoryFull));
         }
         without_last(&mut self.living, t, n);
+        without_last(&mut self.open, t, n);
         self.note(w, EventKind::Rollback { t, n })?;
         Ok(Told::Done)
     }

@@ -35,7 +35,7 @@ pub(crate) fn write_refused<W: Out>(out: &mut W, refusal: Refusal) -> Result<(),
 /// # Errors
 ///
 /// The fault that stopped the output, which then took a beginning of the line.
-pub(crate) fn write_kept<W: Out>(out: &mut W, x: u32, state: u16) -> Result<(), OutFault>
+pub(crate) fn write_kept<W: Out>(out: &mut W, x: u32, state: u32) -> Result<(), OutFault>
     requires { W.fault out.old ≡ None }
     ensures { Puts (W.taken out.old) (W.taken out.new) (W.fault out.new) (spaced (kept_words x state) ++ 10 ∷ []) result }
 {

@@ -1,19 +1,19 @@
 -- An object that stands for a history allows what the machine's view allows.
-use Rattle.std.proofs.Common.{◌≡◌, ◌↔◌, ℕ, ◌<◌, Bool, true, false, not, ◌==◌, List, [], ◌∷◌, ◌++◌, map, Some, sym, ◌∙◌}
+use Rattle.std.proofs.Common.{◌≡◌, ◌↔◌, ℕ, ◌<◌, Bool, true, false, not, ◌==◌, List, [], ◌∷◌, ◌++◌, map, Some, refl, sym, subst, ◌∙◌}
 use Rattle.std.specs.List.{AllByRecursion}
 use Rattle.std.proofs.lemmas.Bool.{not-true}
 use Rattle.type_table.specs.Run.{IsLegal}
 use Rattle.type_table.specs.Laws.{RunsAlong}
-use Rattle.type_table.specs.declared.kind.Kind.{Kind}
-use Rattle.type_table.specs.declared.kind.Kind.TheVariants.{Undo, Intentions}
 use Rattle.type_table.proofs.Elements.{each-weaker, each-both, each-passes, each-filter}
+use Rattle.type_table.specs.declared.kind.Kind.{Kind}
+use Rattle.type_table.specs.declared.kind.Kind.TheVariants.{Undo, Intentions, Escrow}
 use Rattle.object_trait.specs.Object.{Object}
 use Rattle.object_trait.specs.Meaning.{object, view_by}
-use Rattle.object_trait.specs.Steps.{IsOfAnotherOpen}
+use Rattle.object_trait.specs.Steps.{IsOfAnotherOpen, stops_by}
 use Rattle.object_trait.specs.declared.log_entry.LogEntry.{LogEntry}
 use Rattle.serial_order.specs.Operations.{is_among, at_object, ops, of, serial}
 use Rattle.serial_order.specs.History.{Seen, seen}
-use Rattle.serial_order.specs.View.{view, is_legal_after, conflicts_with}
+use Rattle.serial_order.specs.View.{view, is_legal_after, conflicts_with, stops_at}
 use Rattle.serial_order.specs.Stand.{plain, StandsBy}
 use Rattle.serial_order.specs.Laws.{AllowsAlike, MachineMayApply}
 use Rattle.serial_order.specs.declared.entry.Entry.{Entry}
@@ -21,6 +21,7 @@ use Rattle.serial_order.specs.After.{AreInRun}
 use Rattle.serial_order.proofs.Runs.{transactions_in_run, pending_is_open, open_is_uncommitted}
 use Rattle.serial_order.proofs.Pairs.{each-rest, each-from_map}
 use Rattle.serial_order.proofs.StandUndo.{undo_stands-run}
+use Rattle.serial_order.proofs.StandEscrow.{as_deferred, escrow_stops-alike}
 use Rattle.serial_order.proofs.StandDeferred.{deferred_stands-run}
 
 -- ---- what is legal
@@ -34,6 +35,11 @@ allows_by along Undo o base log x s t k apart stands =
 allows_by along Intentions o base log x s t k apart stands =
     let sees : List Entry = serial s.committed (at_object x s.stands) ++ of t (at_object x s.stands) in
     let equi = deferred_stands-run o base log x s.committed (at_object x s.stands) stands along t apart in
+    rw (along o.table (Some o.table.initial) (ops sees) (k ∷ [])) (λ h. equi.0 (k ∷ []) h, λ h. equi.1 (k ∷ []) h)
+allows_by along Escrow o base log x s t k apart stands =
+    let sees : List Entry = serial s.committed (at_object x s.stands) ++ of t (at_object x s.stands) in
+    let like = as_deferred o base log x s.committed (at_object x s.stands) stands in
+    let equi = deferred_stands-run o base log x s.committed (at_object x s.stands) like along t apart in
     rw (along o.table (Some o.table.initial) (ops sees) (k ∷ [])) (λ h. equi.0 (k ∷ []) h, λ h. equi.1 (k ∷ []) h)
 
 -- what an object that stands for a history allows is what the view allows
@@ -54,26 +60,38 @@ undone_each P Intentions o base log x C V stands all =
     let known = each-passes (λ e. P e × (test e ≡ true)) test V (each-weaker (λ e p passes. (p, passes)) V all) in
     let here = each-from_map (λ e. P e × (test e ≡ true)) (plain x) log (rw (← stands.whole) at known) in
     each-weaker (λ e p undone. (p.0, not-true (is_among C e.by) p.1)) log here
+undone_each P Escrow o base log x C V stands all =
+    let test : Entry → Bool = λ e. not (is_among C e.by) in
+    let known = each-passes (λ e. P e × (test e ≡ true)) test V (each-weaker (λ e p passes. (p, passes)) V all) in
+    let here = each-from_map (λ e. P e × (test e ≡ true)) (plain x) log (rw (← stands.whole) at known) in
+    each-weaker (λ e p undone. (p.0, not-true (is_among C e.by) p.1)) log here
 
 -- an operation that stands, and doesn't keep t from k; in a run its transaction began and didn't abort
-record IsHarmless (o : Object) (s : Seen) (t k : ℕ) (e : Entry) : Type 0 where
-  harmless : conflicts_with o s t k e ≡ false
+record IsHarmless (o : Object) (s : Seen) (x t k : ℕ) (e : Entry) : Type 0 where
+  harmless : conflicts_with o s x t k e ≡ false
   began : e.by < s.begun
   kept : is_among s.aborted e.by ≡ false
 
 -- one of another transaction, which didn't commit either, doesn't conflict
-harmless-free : (o : Object) (s : Seen) (t k : ℕ) (e : Entry) → IsHarmless o s t k e → is_among s.committed e.by ≡ false → (e.by == t) ≡ false → o.conflicts k e.op ≡ false
-harmless-free o s t k e h pending_now other = rw (pending_is_open s e.by h.began h.kept pending_now, other) at h.harmless
+harmless-free : (o : Object) (s : Seen) (x t k : ℕ) (e : Entry) → IsHarmless o s x t k e → is_among s.committed e.by ≡ false → (e.by == t) ≡ false → stops_at o.kind o s.committed (at_object x s.stands) t k e ≡ false
+harmless-free o s x t k e h pending_now other = rw (pending_is_open s e.by h.began h.kept pending_now, other) at h.harmless
 
 -- the entries of other open transactions don't conflict with what the machine allows
-log_free : (recovery : Kind) (o : Object) (base : ℕ) (log : List LogEntry) (x : ℕ) (s : Seen) (t k : ℕ) → AreInRun s →
-    StandsBy recovery o base log x s.committed (at_object x s.stands) → AllByRecursion (λ e. conflicts_with o s t k e ≡ false) (at_object x s.stands) →
-    AllByRecursion (λ e. IsOfAnotherOpen t e → o.conflicts k e.op ≡ false) log
-log_free recovery o base log x s t k in_run stands free =
+-- by ways of recovery: an entry keeps t from k where its operation does
+pub stops_alike : (recovery : Kind) (o : Object) (base : ℕ) (log : List LogEntry) (x : ℕ) (C : List ℕ) (V : List Entry) (t k : ℕ) (e : LogEntry) → StandsBy recovery o base log x C V →
+    stops_at recovery o C V t k (plain x e) ≡ stops_by recovery o base log t k e
+stops_alike Undo o base log x C V t k e stands = refl
+stops_alike Intentions o base log x C V t k e stands = refl
+stops_alike Escrow o base log x C V t k e stands = escrow_stops-alike o base log x C V stands t k e
+
+log_free : (recovery : Kind) (o : Object) → o.kind ≡ recovery → (base : ℕ) (log : List LogEntry) (x : ℕ) (s : Seen) (t k : ℕ) → AreInRun s →
+    StandsBy recovery o base log x s.committed (at_object x s.stands) → AllByRecursion (λ e. conflicts_with o s x t k e ≡ false) (at_object x s.stands) →
+    AllByRecursion (λ e. IsOfAnotherOpen t e → stops_by recovery o base log t k e ≡ false) log
+log_free recovery o is base log x s t k in_run stands free =
     let known = each-filter (λ e. (e.by < s.begun) × (is_among s.aborted e.by ≡ false)) (λ e. e.at == x) s.stands in_run.stand in
     let all = each-both (λ e h p. record { harmless = h; began = p.0; kept = p.1 }) (at_object x s.stands) free known in
-    let undone = undone_each (IsHarmless o s t k) recovery o base log x s.committed (at_object x s.stands) stands all in
-    each-weaker (λ e h apart. harmless-free o s t k (plain x e) (h apart.0).0 (h apart.0).1 apart.1) log undone
+    let undone = undone_each (IsHarmless o s x t k) recovery o base log x s.committed (at_object x s.stands) stands all in
+    each-weaker (λ e h apart. sym (stops_alike recovery o base log x s.committed (at_object x s.stands) t k e stands) ∙ subst (λ (way : Kind). stops_at way o s.committed (at_object x s.stands) t k (plain x e) ≡ false) is (harmless-free o s x t k (plain x e) (h apart.0).0 (h apart.0).1 apart.1)) log undone
 
 -- an operation that the machine allows may be executed
 pub machine_may_apply : RunsAlong → MachineMayApply
@@ -82,6 +100,6 @@ machine_may_apply along = λ objects H w t x k m run may place stands room.
     record {
       operation = does.0;
       legal = (allows_alike along m x H t k may.0 stands).1 does.1;
-      free = log_free m.checked.kind (object m) m.base m.log x (seen H) t k (transactions_in_run objects H run) stands does.2;
+      free = log_free m.checked.kind (object m) refl m.base m.log x (seen H) t k (transactions_in_run objects H run) stands does.2;
       room = room;
     }

@@ -9,7 +9,8 @@ use Rattle.serial_order.specs.Operations.{at_object}
 use Rattle.serial_order.specs.History.{Seen, seen, is_open}
 use Rattle.serial_order.specs.View.{is_legal_for, conflicts_with, is_of_call}
 use Rattle.serial_order.specs.Machine.{IsFirstOfCall, IsBlocked, IsFirstLegal, MayDo, MayBeBusy, May}
-use Rattle.serial_order.specs.Answer.{found_or, first_below, earliest, blocker, is_reply, is_free_reply, busy_with, refused, answered, event_of_call}
+use Rattle.type_table.specs.Least.{found_or, first_below}
+use Rattle.serial_order.specs.Answer.{earliest, blocker, is_reply, is_free_reply, busy_with, refused, answered, event_of_call}
 use Rattle.serial_order.specs.Laws.{AnswerMayFollow}
 use Rattle.serial_order.specs.declared.entry.Entry.{Entry}
 
@@ -63,15 +64,15 @@ earliest-found test (e ∷ V) = found_with test e V (test e) (earliest test V) r
 module _ (o : Object) (s : Seen) (x t c : ℕ) where
   -- the operation conflicts with none at x
   abbrev IsUnblocked : ℕ → Type 0
-  IsUnblocked k = AllByRecursion (λ e. conflicts_with o s t k e ≡ false) (at_object x s.stands)
+  IsUnblocked k = AllByRecursion (λ e. conflicts_with o s x t k e ≡ false) (at_object x s.stands)
 
   -- what was found as the blocker of k
   abbrev BlockerIs : ℕ → Option Entry → Type 0
-  BlockerIs k found = MatchOption found (IsUnblocked k) (IsFound (conflicts_with o s t k) (at_object x s.stands))
+  BlockerIs k found = MatchOption found (IsUnblocked k) (IsFound (conflicts_with o s x t k) (at_object x s.stands))
 
   -- the blocker of an operation blocks it, and where there is none, it conflicts with none
   blocker_found : (k : ℕ) → BlockerIs k (blocker o s x t k)
-  blocker_found k = earliest-found (conflicts_with o s t k) (at_object x s.stands)
+  blocker_found k = earliest-found (conflicts_with o s x t k) (at_object x s.stands)
 
   -- no blocker
   unblocked : (k : ℕ) (found : Option Entry) → BlockerIs k found → is_some found ≡ false → IsUnblocked k
@@ -120,7 +121,7 @@ module _ (o : Object) (s : Seen) (x t c : ℕ) where
 
   -- with a blocker of the first legal operation, the call may be busy
   busy : IsFirstOfCall o c → NoneBelow (is_free_reply o s x t c) (length o.table.ops) → (k : ℕ) → IsFirstBelow (is_reply o s x t c) (length o.table.ops) k →
-      (held : Entry) → IsFound (conflicts_with o s t k) (at_object x s.stands) held → MayBeBusy (Some o) s x t c held.by
+      (held : Entry) → IsFound (conflicts_with o s x t k) (at_object x s.stands) held → MayBeBusy (Some o) s x t c held.by
   busy least none k found held conflicting = record {
     least = least;
     all_blocked = λ j of_call legal. blocked j (blocker o s x t j) (blocker_found j) (none_free none j (and_from (is_of_call o c j) (is_legal_for o s x t j) of_call legal));

@@ -13,26 +13,26 @@ use Rattle.object_trait.specs.declared.event.EventKind.TheVariants as kind
 use Rattle.object_trait.specs.declared.event.EventKind.TheVariants.{Begin, Op, Busy, Commit, Abort, Rollback}
 use Rattle.serial_order.specs.Operations.{is_among, at_object, is_by}
 use Rattle.serial_order.specs.History.{Seen, seen, is_open}
-use Rattle.serial_order.specs.View.{is_legal_for, conflicts_with}
+use Rattle.serial_order.specs.View.{is_legal_for, conflicts_with, stops_at}
 use Rattle.serial_order.specs.Machine.{May, MayDo, IsRun}
 use Rattle.serial_order.specs.declared.entry.Entry.{Entry}
 use Rattle.serial_order.proofs.Strikes.{keep_first-part}
-use Rattle.serial_order.proofs.Facts.{IsFree}
+use Rattle.serial_order.proofs.Facts.{IsAdmitted}
 use Rattle.serial_order.proofs.Events.{seen_after, seen-snoc}
 use Rattle.serial_order.specs.After.{AreInRun}
 use Rattle.serial_order.proofs.Runs.{in_run, transactions_in_run, pending_is_open, open_is_uncommitted}
 
 -- an open transaction's operation that doesn't conflict with k is free of it
-apart_held : (o : Object) (s : Seen) (t k : ℕ) (held : Entry) → is_open s held.by ≡ true → (t == held.by) ≡ false → conflicts_with o s t k held ≡ false → o.conflicts k held.op ≡ false
-apart_held o s t k held open_held other free = rw (open_held, eqb-sym held.by t, other) at free
+apart_held : (o : Object) (s : Seen) (x t k : ℕ) (held : Entry) → is_open s held.by ≡ true → (t == held.by) ≡ false → conflicts_with o s x t k held ≡ false → stops_at o.kind o s.committed (at_object x s.stands) t k held ≡ false
+apart_held o s x t k held open_held other free = rw (open_held, eqb-sym held.by t, other) at free
 
 -- an operation that the machine allows is free
-free_at : (o : Object) (s : Seen) (x t k : ℕ) → AreInRun s → is_open s t ≡ true → AllByRecursion (λ e. conflicts_with o s t k e ≡ false) (at_object x s.stands)
-    → IsFree o s.committed (at_object x s.stands) (record { by = t; at = x; op = k })
+free_at : (o : Object) (s : Seen) (x t k : ℕ) → AreInRun s → is_open s t ≡ true → AllByRecursion (λ e. conflicts_with o s x t k e ≡ false) (at_object x s.stands)
+    → IsAdmitted o s.committed (at_object x s.stands) (record { by = t; at = x; op = k })
 free_at o s x t k known open_now each = record {
   uncommitted = open_is_uncommitted s t open_now;
   free = each-both
-      (λ held began free pending other. apart_held o s t k held (pending_is_open s held.by (began.0) (began.1) pending) other free)
+      (λ held began free pending other. apart_held o s x t k held (pending_is_open s held.by (began.0) (began.1) pending) other free)
       (at_object x s.stands) (each-filter _ (λ e. e.at == x) s.stands known.stand) each;
 }
 
@@ -40,7 +40,7 @@ free_at o s x t k known open_now each = record {
 
 -- what is so of C and V at the object at x, and stays so by an operation that is free and legal, by a strike and by a commit
 pub record Stays (o : Object) (Next : List ℕ → List Entry → Entry → Type 0) (F : List ℕ → List Entry → Type 0) : Type 0 where
-  pub op : (C : List ℕ) (V : List Entry) (e : Entry) → IsFree o C V e → Next C V e → F C V → F C (V ++ e ∷ [])
+  pub op : (C : List ℕ) (V : List Entry) (e : Entry) → IsAdmitted o C V e → Next C V e → F C V → F C (V ++ e ∷ [])
   pub strike : (C : List ℕ) (V : List Entry) (t n : ℕ) → is_among C t ≡ false → F C V → F C (keep_first (is_by t) n V)
   pub commit : (C : List ℕ) (V : List Entry) (t : ℕ) → is_among C t ≡ false → F C V → F (C ++ t ∷ []) V
 

@@ -15,7 +15,7 @@ use Rattle.serial_order.specs.Machine.{IsRun, AreCovered}
 use Rattle.serial_order.specs.Serial.{standing_at}
 use Rattle.serial_order.specs.Laws.{SortsIntoCommitOrder, StruckViewIsLegal}
 use Rattle.serial_order.specs.declared.entry.Entry.{Entry}
-use Rattle.serial_order.proofs.Facts.{UndoFacts, IsLegalAt}
+use Rattle.serial_order.proofs.Facts.{UndoFacts, IsLegalAt, free_undo}
 use Rattle.serial_order.proofs.Runs.{open_is_uncommitted}
 use Rattle.serial_order.proofs.Undo.{undo_op, undo_strike, undo_commit}
 use Rattle.serial_order.proofs.AtObjects.{at_object_in_run}
@@ -26,7 +26,7 @@ module _ (along : RunsAlong) (parts : PartsSort Entry) (struck : StruckPart Entr
       → slice_get objects x ≡ Some o → o.kind ≡ Undo → UndoFacts o (commits H) (standing_at x H)
   undo_in_run objects H x o covered run there undo = at_object_in_run objects x o there (λ C V e. IsLegalAt o (ops V ++ e.op ∷ [])) (UndoFacts o)
       (record {
-        op = λ C V e free legal facts. undo_op o C V e (covered x o there) undo free legal facts;
+        op = λ C V e free legal facts. undo_op o C V e (covered x o there) undo (free_undo o C V e undo free) legal facts;
         strike = λ C V t n apart facts. undo_strike along parts struck look o C V t n (covered x o there) undo apart facts;
         commit = λ C V t apart facts. undo_commit parts o C V t (covered x o there) undo apart facts;
       })

@@ -1,12 +1,13 @@
--- The counter's file, for which the checker says yes for both kinds of recovery.
-use Rattle.std.proofs.Common.{◌≡◌, ℕ, zero, suc, ◌<◌, Bool, false, List, [], ◌∷◌, map, refl, ap, subst}
+-- The counter's file, for which the checker says yes for both kinds of recovery with a conflict table.
+use Rattle.std.proofs.Common.{◌≡◌, ℕ, zero, suc, ◌<◌, Bool, false, List, [], ◌∷◌, map, refl, ap, subst, arith}
 use Rattle.std.specs.Prelude.{unwrap_or}
 use Rattle.std.proofs.lemmas.Option.{none-some}
 use Rattle.type_table.specs.Table.{next}
-use Rattle.type_table.specs.declared.kind.Kind.{Kind}
-use Rattle.type_table.specs.declared.kind.Kind.TheVariants.{Undo, Intentions}
+use Rattle.type_table.specs.Kind.{of_table}
+use Rattle.type_table.specs.declared.table_kind.TableKind.{TableKind}
+use Rattle.type_table.specs.declared.table_kind.TableKind.TheVariants.{Undo, Intentions}
 use Rattle.table_checker.specs.Condition.{passes_forward, passes_backward, fails_at, PassesEverywhere}
-use Rattle.table_checker.specs.Checked.{Checked, IsChecked, condition_of}
+use Rattle.table_checker.specs.Checked.{IsChecked, IsCommuting, condition_of, Checked}
 use Rattle.type_text.specs.TypeFile.{conflicts_of}
 use Rattle.table_checker.specs.Examples.{counter_file}
 use Rattle.table_checker.specs.declared.condition.Condition.{Condition}
@@ -24,25 +25,29 @@ at_places condition table up_up up_down down_up down_down p q s inside =
     at_two with_held up down p inside.requested
 
 -- the pairs outside the conflict table of a kind pass its condition at each state
-counter-passes : (kind : Kind) → PassesEverywhere (condition_of kind) counter_file (conflicts_of kind counter_file)
+counter-passes : (kind : TableKind) → PassesEverywhere (condition_of kind) counter_file (conflicts_of kind counter_file)
 unfolding next passes_forward passes_backward
 counter-passes Undo p q s inside = at_places Backward counter_file.undo (at_three _ refl refl refl) (at_three _ refl refl refl) (at_three _ refl refl refl) (at_three _ refl refl refl) p q s inside
 counter-passes Intentions p q s inside = at_places Forward counter_file.intentions (at_three _ refl refl refl) (at_three _ refl refl refl) (at_three _ refl refl refl) (at_three _ refl refl refl) p q s inside
 
 -- the file, and a kind for which it was accepted
-abbrev pub counter_at : Kind → Checked
-counter_at kind = record { kind = kind; file = counter_file }
+abbrev pub counter_at : TableKind → Checked
+counter_at kind = record { kind = of_table kind; file = counter_file }
 
 -- so the checker says yes for each kind
-counter-checked : (kind : Kind) → IsChecked (counter_at kind)
-counter-checked kind = record {
+counter-passing : (kind : TableKind) → IsCommuting kind counter_file
+counter-passing kind = record {
   table = counter-table;
   certified = counter-certified;
   passes = counter-passes kind;
 }
 
+counter-checked : (kind : TableKind) → IsChecked (counter_at kind)
+counter-checked Undo = counter-passing Undo
+counter-checked Intentions = counter-passing Intentions
+
 -- and for each of a list of kinds
-pub counters-checked : (kinds : List Kind) → AreChecked (map counter_at kinds)
+pub counters-checked : (kinds : List TableKind) → AreChecked (map counter_at kinds)
 counters-checked [] x c there = absurd (none-some c there)
 counters-checked (kind ∷ kinds) zero c there = subst IsChecked (ap (λ found. unwrap_or found c) there) (counter-checked kind)
 counters-checked (kind ∷ kinds) (suc x) c there = counters-checked kinds x c there

@@ -2,9 +2,10 @@
 use Rattle.std.proofs.Common.{◌≡◌, ℕ, true, false, ◌==◌, List, [], ◌∷◌, ◌++◌, take, drop, Contains, Option, Some, sym, ap, ◌∙◌, inl, inr}
 use Rattle.std.proofs.lemmas.Bool.{cases_Bool, false≢true, eqb-true}
 use Rattle.std.proofs.lemmas.List.{append_assoc, take-append-drop}
-use Rattle.type_table.specs.Commute.{CommuteForward}
+use Rattle.type_table.specs.Commute.{CommuteForward, Covers}
 use Rattle.type_table.specs.Laws.{RunsAlong, EndsInside, LegalEnds}
-use Rattle.type_table.specs.declared.kind.Kind.TheVariants.{Intentions}
+use Rattle.type_table.specs.declared.table_kind.TableKind.TheVariants.{Intentions}
+use Rattle.type_table.specs.declared.kind.Kind.TheVariants as way
 use Rattle.type_table.specs.Lists.{ListsForward}
 use Rattle.type_table.proofs.Elements.{eqb-sym}
 use Rattle.type_table.proofs.Legal.{legal-front, forward-turned}
@@ -82,11 +83,15 @@ deferred_strike along = λ o C V t n covered kind uncommitted facts. record {
 
 -- ---- a commit
 
--- operations that don't conflict commute forward
-free_commute : (o : Object) → IsCovered o → o.kind ≡ Intentions → (p q : ℕ) → o.conflicts p q ≡ false → CommuteForward o.table o.set p q
-free_commute o covered kind p q free = rw kind at (covered.commute p q free)
+-- an object that is covered for its kind is covered for deferred update, where that is its kind
+covers_deferred : (o : Object) → IsCovered o → o.kind ≡ way.Intentions → Covers Intentions o.table o.set o.conflicts
+covers_deferred o covered kind = rw kind at covered
 
-module _ (o : Object) (C : List ℕ) (V : List Entry) (covered : IsCovered o) (kind : o.kind ≡ Intentions) (t u : ℕ)
+-- operations that don't conflict commute forward
+free_commute : (o : Object) → IsCovered o → o.kind ≡ way.Intentions → (p q : ℕ) → o.conflicts p q ≡ false → CommuteForward o.table o.set p q
+free_commute o covered kind p q free = (covers_deferred o covered kind).commute p q free
+
+module _ (o : Object) (C : List ℕ) (V : List Entry) (covered : IsCovered o) (kind : o.kind ≡ way.Intentions) (t u : ℕ)
     (t_pending : is_among C t ≡ false) (u_pending : is_among C u ≡ false) (apart : (t == u) ≡ false) where
   -- an operation of t commutes forward with one of u
   abbrev Commuting : Entry → Entry → Type 0
@@ -124,10 +129,10 @@ module _ (o : Object) (C : List ℕ) (V : List Entry) (covered : IsCovered o) (k
       let begin : Option ℕ = Some o.table.initial in
       let before = ops (serial C V) in
       let reached = ends T begin before facts.serial_legal in
-      let member = inside T o.set o.table.initial reached.0 before covered.closed covered.begins_inside reached.1 in
+      let member = inside T o.set o.table.initial reached.0 before (covers_deferred o covered kind).closed (covers_deferred o covered kind).begins_inside reached.1 in
       let t_legal = legal-behind along T begin before (ops (of t V)) reached.0 reached.1 (rw (ops-append (serial C V) (of t V)) at (facts.views_legal t t_pending)) in
       let u_legal = legal-behind along T begin before (ops (of u V)) reached.0 reached.1 (rw (ops-append (serial C V) (of u V)) at (facts.views_legal u u_pending)) in
-      let joined = forward T o.set reached.0 (ops (of t V)) (ops (of u V)) covered.closed member (lists_commute facts.locked) t_legal u_legal in
+      let joined = forward T o.set reached.0 (ops (of t V)) (ops (of u V)) (covers_deferred o covered kind).closed member (lists_commute facts.locked) t_legal u_legal in
       let whole : ops (serial (C ++ t ∷ []) V ++ of u V) ≡ before ++ (ops (of t V) ++ ops (of u V)) =
       ap (λ W. ops (W ++ of u V)) (serial-snoc C t V) ∙ ap ops (append_assoc (serial C V) (of t V) (of u V))
       ∙ ops-append (serial C V) (of t V ++ of u V) ∙ ap (λ w. before ++ w) (ops-append (of t V) (of u V)) in

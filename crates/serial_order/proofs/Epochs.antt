@@ -6,9 +6,10 @@ use Rattle.type_table.specs.Table.{Table, table_at}
 use Rattle.type_table.specs.Run.{run, IsLegal, Looks, AreEqui}
 use Rattle.type_table.specs.Laws.{RunsAlike, RunsAlong, LooksExtends, EquiExtends, IsExtended}
 use Rattle.type_table.specs.declared.kind.Kind.{Kind}
-use Rattle.type_table.specs.declared.kind.Kind.TheVariants.{Undo, Intentions}
+use Rattle.type_table.specs.declared.kind.Kind.TheVariants.{Undo, Intentions, Escrow}
 use Rattle.table_checker.specs.Checked.{Checked, IsChecked, IsStrong}
 use Rattle.object_trait.specs.Object.{object_of}
+use Rattle.table_checker.specs.At.{AtIsChecked, AtIsStrong, checked_at}
 use Rattle.object_trait.specs.Laws.{CheckedIsCovered}
 use Rattle.object_trait.specs.declared.event.Event.{Event}
 use Rattle.serial_order.specs.Operations.{ops}
@@ -16,7 +17,6 @@ use Rattle.serial_order.specs.Machine.{IsRun}
 use Rattle.serial_order.specs.Serial.{serial_at, serial_state}
 use Rattle.serial_order.specs.Stand.{KeptAgreesBy}
 use Rattle.serial_order.specs.Laws.{AreChecked, CheckedHeadline}
-use Rattle.table_checker.specs.At.{checked_at, AtIsChecked, AtIsStrong}
 use Rattle.serial_order.specs.Epochs.{Epoch, types_at, IsKeptAt, IsEpoch, AreEpochs, types_after, serial_over, EpochsAreSerial, EpochsGoOn}
 use Rattle.serial_order.proofs.EpochStarts.{legal-from, looks-from, looks-to, equi-from, equi-to}
 
@@ -110,6 +110,7 @@ kept-looks c s x H kept = by c.kind kept.agrees
     by : (kind : Kind) → KeptAgreesBy kind (object_of c) (Some s) x H → Looks c.file.table (Some s) (serial_state (object_of c) x H)
     by Undo agrees = (agrees kept.idle).0
     by Intentions agrees = agrees.0
+    by Escrow agrees = subst (Looks c.file.table (Some s)) agrees (λ ks legal. legal)
 
 -- and where the yes is strong it is equieffective
 kept-equi : CheckedIsCovered → (c : Checked) (s x : ℕ) (H : List Event) → IsChecked c → IsStrong c → IsKeptAt c s x H → AreEqui c.file.table (Some s) (serial_state (object_of c) x H)
@@ -118,6 +119,7 @@ kept-equi covered c s x H checked strong kept = by c.kind kept.agrees
     by : (kind : Kind) → KeptAgreesBy kind (object_of c) (Some s) x H → AreEqui c.file.table (Some s) (serial_state (object_of c) x H)
     by Undo agrees = (agrees kept.idle).1 ((covered c checked).1 strong)
     by Intentions agrees = agrees
+    by Escrow agrees = subst (AreEqui c.file.table (Some s)) agrees (λ ks legal. legal, λ ks legal. legal)
 
 -- the last types are checked
 after-checked : AtIsChecked → (types : List Checked) (es : List Epoch) → AreChecked types → AreEpochs types es → AreChecked (types_after types es)

@@ -7,6 +7,7 @@ use Rattle.object_trait.specs.Object.{Object, IsCovered}
 use Rattle.object_trait.specs.Orders.{Pairs, Sorts}
 use Rattle.object_trait.specs.Strike.{keep_first}
 use Rattle.serial_order.specs.Operations.{is_among, is_by, ops, of, serial, pending}
+use Rattle.serial_order.specs.View.{stops_at}
 use Rattle.serial_order.specs.Laws.{may_pass}
 use Rattle.serial_order.specs.declared.entry.Entry.{Entry}
 use Rattle.serial_order.proofs.Lists.{is_among-neither}
@@ -35,6 +36,18 @@ pub record DeferredFacts (o : Object) (C : List ℕ) (V : List Entry) : Type 0 w
 pub record IsFree (o : Object) (C : List ℕ) (V : List Entry) (e : Entry) : Type 0 where
   pub uncommitted : is_among C e.by ≡ false
   pub free : AllByRecursion (λ held. is_among C held.by ≡ false → (e.by == held.by) ≡ false → o.conflicts e.op held.op ≡ false) V
+
+-- the operation is of no committed transaction, and none that another transaction holds stops it
+pub record IsAdmitted (o : Object) (C : List ℕ) (V : List Entry) (e : Entry) : Type 0 where
+  pub uncommitted : is_among C e.by ≡ false
+  pub free : AllByRecursion (λ held. is_among C held.by ≡ false → (e.by == held.by) ≡ false → stops_at o.kind o C V e.by e.op held ≡ false) V
+
+-- where what stops it are conflicts, it is free
+pub free_undo : (o : Object) (C : List ℕ) (V : List Entry) (e : Entry) → o.kind ≡ Undo → IsAdmitted o C V e → IsFree o C V e
+free_undo o C V e kind admitted = record { uncommitted = admitted.uncommitted; free = rw kind at admitted.free }
+
+pub free_deferred : (o : Object) (C : List ℕ) (V : List Entry) (e : Entry) → o.kind ≡ Intentions → IsAdmitted o C V e → IsFree o C V e
+free_deferred o C V e kind admitted = record { uncommitted = admitted.uncommitted; free = rw kind at admitted.free }
 
 -- what was pending after one more commit was pending before it
 pub held_free-commit : (o : Object) (C : List ℕ) (t : ℕ) (a b : Entry) → IsHeldFree o C a b → IsHeldFree o (C ++ t ∷ []) a b

@@ -13,6 +13,7 @@ use Rattle.object_trait.specs.declared.event.EventKind.TheVariants as kind
 use Rattle.object_trait.specs.declared.event.EventKind.TheVariants.{Begin, Op, Busy, Commit, Abort, Rollback}
 use Rattle.serial_order.specs.Operations.{at_object, is_by, of}
 use Rattle.serial_order.specs.History.{Seen, is_open}
+use Rattle.serial_order.specs.View.{stops_at}
 use Rattle.serial_order.specs.Machine.{May}
 use Rattle.serial_order.specs.Stand.{struck_at}
 use Rattle.serial_order.specs.Answer.{earliest}
@@ -107,7 +108,7 @@ held_after_one objects s (Rollback t n) x known may = held-rollback objects s x 
 -- ---- what blocks
 
 -- the earliest of what passes one test and another is the earliest of those that pass the one
-earliest-filter : (first second : Entry → Bool) (V : List Entry) → earliest (λ e. first e && second e) V ≡ earliest second (filter first V)
+pub earliest-filter : (first second : Entry → Bool) (V : List Entry) → earliest (λ e. first e && second e) V ≡ earliest second (filter first V)
 earliest-filter first second [] = refl
 earliest-filter first second (e ∷ V) =
     elim (cases_Bool (first e)) [
@@ -116,7 +117,7 @@ earliest-filter first second (e ∷ V) =
     ]
 
 pub blocker_is_held : BlockerIsHeld
-blocker_is_held = λ o s x t k. earliest-filter (λ e. is_open s e.by) (λ e. not (e.by == t) && o.conflicts k e.op) (at_object x s.stands)
+blocker_is_held = λ o s x t k. earliest-filter (λ e. is_open s e.by) (λ e. not (e.by == t) && stops_at o.kind o s.committed (at_object x s.stands) t k e) (at_object x s.stands)
 
 -- ---- what one transaction did
 

@@ -7,6 +7,7 @@ pub mod Legal
 pub mod Facts
 pub mod Undo
 pub mod Deferred
+pub mod Escrow
 pub mod Events
 pub mod MayStand
 pub mod Runs
@@ -19,8 +20,10 @@ pub mod Views
 pub mod StandLogs
 pub mod StandUndo
 pub mod StandDeferred
+pub mod StandEscrow
 pub mod Standing
 pub mod Allows
+pub mod Stopping
 pub mod Kept
 pub mod Checked
 pub mod Answers

@@ -3,9 +3,9 @@ use Rattle.std.proofs.Common.{◌≡◌, ℕ, suc, ◌+◌, ◌-◌, ◌<◌, �
 use Rattle.std.specs.List.{AllByRecursion}
 use Rattle.std.proofs.lemmas.Bool.{cases_Bool, false≢true}
 use Rattle.std.proofs.lemmas.List.{length-map}
-use Rattle.type_table.specs.declared.kind.Kind.{Kind}
-use Rattle.type_table.specs.declared.kind.Kind.TheVariants.{Undo, Intentions}
 use Rattle.type_table.proofs.Elements.{each-weaker, each-both, each-filter, filter-none, filter-length}
+use Rattle.type_table.specs.declared.kind.Kind.{Kind}
+use Rattle.type_table.specs.declared.kind.Kind.TheVariants.{Undo, Intentions, Escrow}
 use Rattle.object_trait.specs.Object.{Object}
 use Rattle.object_trait.specs.Strike.{keep_first}
 use Rattle.object_trait.specs.Meaning.{object, open_of}
@@ -26,6 +26,7 @@ use Rattle.serial_order.proofs.Pairs.{each-rest, each-from_map}
 use Rattle.serial_order.proofs.Runs.{transactions_in_run, pending_is_open, open_is_uncommitted}
 use Rattle.serial_order.proofs.StandLogs.{ops-plain}
 use Rattle.serial_order.proofs.StandUndo.{undo_of}
+use Rattle.serial_order.proofs.StandEscrow.{as_deferred}
 use Rattle.serial_order.proofs.StandDeferred.{deferred_of}
 
 -- ---- lengths
@@ -74,12 +75,17 @@ log-length Intentions o base log x C V stands =
     let whole = ap length stands.whole in
     let part = filter-length (λ (e : Entry). not (is_among C e.by)) V in
     omega (arith, length-map log (plain x), whole, part)
+log-length Escrow o base log x C V stands =
+    let whole = ap length stands.whole in
+    let part = filter-length (λ (e : Entry). not (is_among C e.by)) V in
+    omega (arith, length-map log (plain x), whole, part)
 
 -- the operations of a transaction that didn't commit are its open entries
 own-entries : (recovery : Kind) (o : Object) (base : ℕ) (log : List LogEntry) (x : ℕ) (C : List ℕ) (V : List Entry) (t : ℕ) → is_among C t ≡ false →
     StandsBy recovery o base log x C V → of t V ≡ map (plain x) (open_of t log)
 own-entries Undo o base log x C V t apart stands = undo_of o base log x C V stands t apart
 own-entries Intentions o base log x C V t apart stands = deferred_of o base log x C V stands t apart
+own-entries Escrow o base log x C V t apart stands = deferred_of o base log x C V (as_deferred o base log x C V stands) t apart
 
 pub logs_are_counted : LogsAreCounted
 logs_are_counted = λ m x H stands.
@@ -112,6 +118,9 @@ closes Undo o base log x C V stands ended =
     let all = each-rest (λ e. is_among C e.by ≡ true) stands.past (map (plain x) log) (rw (sym stands.whole) at ended) in
     done-closes log (each-both (λ e flag is. flag ∙ is) log stands.flags (each-from_map (λ e. is_among C e.by ≡ true) (plain x) log all))
 closes Intentions o base log x C V stands ended =
+    let none = filter-none (λ (e : Entry). not (is_among C e.by)) V (each-weaker (λ e is. ap not is) V ended) in
+    ap open_transactions (empty-map (plain x) log (stands.whole ∙ none))
+closes Escrow o base log x C V stands ended =
     let none = filter-none (λ (e : Entry). not (is_among C e.by)) V (each-weaker (λ e is. ap not is) V ended) in
     ap open_transactions (empty-map (plain x) log (stands.whole ∙ none))
 

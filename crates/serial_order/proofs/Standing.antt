@@ -4,9 +4,9 @@ use Rattle.std.proofs.lemmas.Bool.{cases_Bool, eqb-true}
 use Rattle.std.proofs.lemmas.List.{append-nil, length-append, take-append-drop}
 use Rattle.std.proofs.lemmas.List.Elements.{filter-append}
 use Rattle.type_table.specs.Laws.{RunsAlong}
-use Rattle.type_table.specs.declared.kind.Kind.{Kind}
-use Rattle.type_table.specs.declared.kind.Kind.TheVariants.{Undo, Intentions}
 use Rattle.type_table.proofs.Elements.{filter-turned}
+use Rattle.type_table.specs.declared.kind.Kind.{Kind}
+use Rattle.type_table.specs.declared.kind.Kind.TheVariants.{Undo, Intentions, Escrow}
 use Rattle.table_checker.specs.Checked.{Checked}
 use Rattle.object_trait.specs.Object.{Object, object_of}
 use Rattle.object_trait.specs.Strike.{keep_first}
@@ -26,6 +26,7 @@ use Rattle.serial_order.proofs.Strikes.{keep_first-part}
 use Rattle.serial_order.proofs.Events.{seen-snoc}
 use Rattle.serial_order.proofs.Runs.{open_is_uncommitted}
 use Rattle.serial_order.proofs.StandUndo.{undo_stands-settled, undo_stands-op, undo_stands-commit, undo_stands-strike, undo_stands-count}
+use Rattle.serial_order.proofs.StandEscrow.{as_deferred, escrow_stands-op, escrow_stands-commit, escrow_stands-strike}
 use Rattle.serial_order.proofs.StandDeferred.{deferred_stands-op, deferred_stands-commit, deferred_stands-strike, deferred_stands-count}
 
 -- ---- a new object
@@ -34,6 +35,7 @@ use Rattle.serial_order.proofs.StandDeferred.{deferred_stands-op, deferred_stand
 fresh_by : (recovery : Kind) (o : Object) (base : ℕ) (log : List LogEntry) (x : ℕ) → base ≡ o.table.initial → log ≡ [] → StandsBy recovery o base log x [] []
 fresh_by Undo o base log x at_start empty = rw empty (record { past = []; reached = ap Some (sym at_start); whole = refl; ended = tt; flags = tt })
 fresh_by Intentions o base log x at_start empty = rw (at_start, empty) (record { reached = (λ ks legal. legal, λ ks legal. legal); whole = refl; flags = tt })
+fresh_by Escrow o base log x at_start empty = rw (at_start, empty) (record { reached = refl; whole = refl; flags = tt })
 
 -- a new object stands for the empty history
 pub fresh_stands : FreshStands
@@ -47,6 +49,7 @@ stands-op : (recovery : Kind) (o : Object) (base : ℕ) (log : List LogEntry) (x
     StandsBy recovery o base (log ++ (record { by = t; op = k; done = false }) ∷ []) x C (V ++ (record { by = t; at = x; op = k }) ∷ [])
 stands-op Undo o base log x C V t k apart stands = undo_stands-op o base log x C V stands t k apart
 stands-op Intentions o base log x C V t k apart stands = deferred_stands-op o base log x C V stands t k apart
+stands-op Escrow o base log x C V t k apart stands = escrow_stands-op o base log x C V stands t k apart
 
 -- a commit
 stands-commit : RunsAlong → (recovery : Kind) (o : Object) (base : ℕ) (log : List LogEntry) (x : ℕ) (C : List ℕ) (V : List Entry) (t new_base : ℕ) (new_log : List LogEntry) → is_among C t ≡ false →
@@ -54,6 +57,7 @@ stands-commit : RunsAlong → (recovery : Kind) (o : Object) (base : ℕ) (log :
 stands-commit along Undo o base log x C V t new_base new_log apart stands commit =
     undo_stands-settled o base _ x (C ++ t ∷ []) V (undo_stands-commit o base log x C V stands t) along new_base new_log commit
 stands-commit along Intentions o base log x C V t new_base new_log apart stands commit = deferred_stands-commit o base log x C V stands along t new_base new_log apart commit
+stands-commit along Escrow o base log x C V t new_base new_log apart stands commit = escrow_stands-commit o base log x C V stands along t new_base new_log apart commit
 
 -- a strike of a transaction that didn't commit
 stands-strike : RunsAlong → (recovery : Kind) (o : Object) (base : ℕ) (log : List LogEntry) (x : ℕ) (C : List ℕ) (V : List Entry) (t n new_base : ℕ) (new_log : List LogEntry) → is_among C t ≡ false →
@@ -61,12 +65,14 @@ stands-strike : RunsAlong → (recovery : Kind) (o : Object) (base : ℕ) (log :
 stands-strike along Undo o base log x C V t n new_base new_log apart stands strike =
     undo_stands-settled o base _ x C (keep_first (is_by t) n V) (undo_stands-strike o base log x C V stands t n apart) along new_base new_log strike
 stands-strike along Intentions o base log x C V t n new_base new_log apart stands strike = rw (strike.same_base, strike.rest) (deferred_stands-strike o base log x C V stands t n apart)
+stands-strike along Escrow o base log x C V t n new_base new_log apart stands strike = rw (strike.same_base, strike.rest) (escrow_stands-strike o base log x C V stands t n apart)
 
 -- so many open entries as there are operations of a transaction that didn't commit
 stands-count : (recovery : Kind) (o : Object) (base : ℕ) (log : List LogEntry) (x : ℕ) (C : List ℕ) (V : List Entry) (t : ℕ) → is_among C t ≡ false →
     StandsBy recovery o base log x C V → length (of t V) ≡ length (open_of t log)
 stands-count Undo o base log x C V t apart stands = undo_stands-count o base log x C V stands t apart
 stands-count Intentions o base log x C V t apart stands = deferred_stands-count o base log x C V stands t apart
+stands-count Escrow o base log x C V t apart stands = deferred_stands-count o base log x C V (as_deferred o base log x C V stands) t apart
 
 -- ---- what an event changes at one object
 

@@ -5,9 +5,10 @@ use Rattle.std.proofs.lemmas.Bool.{not-true, not_from_false, and_parts, and_from
 use Rattle.std.proofs.lemmas.List.{append_assoc}
 use Rattle.type_table.specs.Commute.{Covers, CommutesBackward}
 use Rattle.type_table.specs.Laws.{RunsAlong}
-use Rattle.type_table.specs.declared.kind.Kind.TheVariants.{Undo}
+use Rattle.type_table.specs.declared.table_kind.TableKind.TheVariants.{Undo}
 use Rattle.type_table.proofs.Elements.{each-append, each-passes, eqb-sym}
 use Rattle.type_table.proofs.Legal.{legal-front}
+use Rattle.type_table.specs.declared.kind.Kind.TheVariants as way
 use Rattle.object_trait.specs.Object.{Object, IsCovered}
 use Rattle.object_trait.specs.Orders.{Pairs, Sorts, chain}
 use Rattle.object_trait.specs.Strike.{keep_first}
@@ -26,7 +27,7 @@ use Rattle.serial_order.proofs.Sorts.{sorts-append, sorts-behind, sorts-keep_fir
 -- ---- objects of update in place
 
 -- an object that is covered for its kind is covered for update in place, where that is its kind
-pub covers_undo : (o : Object) → IsCovered o → o.kind ≡ Undo → Covers Undo o.table o.set o.conflicts
+pub covers_undo : (o : Object) → IsCovered o → o.kind ≡ way.Undo → Covers Undo o.table o.set o.conflicts
 covers_undo o covered kind = rw kind at covered
 
 -- ---- what may pass

@@ -1,5 +1,6 @@
 -- The answer of a call: one of those that the machine allows.
-use Rattle.std.specs.Prelude.{ℕ, zero, suc, List, [], ◌∷◌, length, Bool, true, false, cond, not, ◌&&◌, Option, Some, None, is_some}
+use Rattle.std.specs.Prelude.{ℕ, List, [], ◌∷◌, length, Bool, cond, not, ◌&&◌, Option, Some, None, is_some}
+use Rattle.type_table.specs.Least.{first_below}
 use Rattle.object_trait.specs.Object.{Object}
 use Rattle.object_trait.specs.declared.event.EventKind.{EventKind}
 use Rattle.object_trait.specs.declared.event.EventKind.TheVariants as kind
@@ -9,17 +10,6 @@ use Rattle.serial_order.specs.History.{Seen}
 use Rattle.serial_order.specs.View.{is_legal_for, conflicts_with, is_of_call}
 use Rattle.serial_order.specs.declared.entry.Entry.{Entry}
 
--- a number that was found, else n where it passes
-abbrev pub found_or : Option ℕ → Bool → ℕ → Option ℕ
-found_or (Some k) passes n = Some k
-found_or None true n = Some n
-found_or None false n = None
-
--- the least number below n that passes
-abbrev pub first_below : ℕ → (ℕ → Bool) → Option ℕ
-first_below zero test = None
-first_below (suc n) test = found_or (first_below n test) (test n) n
-
 -- the earliest operation that passes
 abbrev pub earliest : (Entry → Bool) → List Entry → Option Entry
 earliest test [] = None
@@ -27,7 +17,7 @@ earliest test (e ∷ V) = cond (test e) (Some e) (earliest test V)
 
 -- the earliest operation at x that keeps t from k
 abbrev pub blocker : Object → Seen → ℕ → ℕ → ℕ → Option Entry
-blocker o s x t k = earliest (conflicts_with o s t k) (at_object x s.stands)
+blocker o s x t k = earliest (conflicts_with o s x t k) (at_object x s.stands)
 
 -- an operation of the call that is legal for t
 abbrev pub is_reply : Object → Seen → ℕ → ℕ → ℕ → ℕ → Bool

@@ -1,7 +1,7 @@
 -- Epochs: histories one after another, each from the states that were kept at the end of the one before it.
-use Rattle.std.specs.Prelude.{◌≡◌, ℕ, List, [], ◌∷◌, ◌++◌, map, true, false, Some, slice_get}
+use Rattle.std.specs.Prelude.{◌≡◌, ℕ, List, [], ◌∷◌, ◌++◌, map, false, Some, slice_get}
 use Rattle.type_table.specs.Run.{run, IsLegal, Looks, AreEqui}
-use Rattle.type_table.specs.StateSet.{has}
+use Rattle.table_checker.specs.At.{checked_at, IsInside}
 use Rattle.table_checker.specs.Checked.{Checked, IsChecked, IsStrong}
 use Rattle.object_trait.specs.Object.{object_of}
 use Rattle.object_trait.specs.Meaning.{Meaning, state_of}
@@ -13,7 +13,6 @@ use Rattle.serial_order.specs.Machine.{IsRun}
 use Rattle.serial_order.specs.Serial.{serial_at}
 use Rattle.serial_order.specs.Stand.{StandsFor, IsIdle, KeptAgreesBy}
 use Rattle.serial_order.specs.Laws.{AreChecked}
-use Rattle.table_checker.specs.At.{checked_at}
 
 -- a history, and at its end the state that was kept of each object
 pub record Epoch : Type 0 where
@@ -26,9 +25,9 @@ types_at [] kept = []
 types_at (c ∷ types) [] = []
 types_at (c ∷ types) (s ∷ kept) = checked_at c s ∷ types_at types kept
 
--- s may be the state that is kept of the object at x: one of its type's set, at a time when no open transaction has an operation there
+-- s may be the state that is kept of the object at x: one at which its type may begin, at a time when no open transaction has an operation there
 pub record IsKeptAt (c : Checked) (s x : ℕ) (H : List Event) : Type 0 where
-  pub inside : has c.file.reach s ≡ true
+  pub inside : IsInside c s
   pub idle : IsIdle x H
   pub agrees : KeptAgreesBy c.kind (object_of c) (Some s) x H
 
@@ -73,9 +72,9 @@ EpochsGoOn =
     (types : List Checked) (es : List Epoch) (e : Epoch) → AreEpochs types es → IsEpoch (types_after types es) e
     → AreEpochs types (es ++ e ∷ []) × (types_after types (es ++ e ∷ []) ≡ types_at (types_after types es) e.kept)
 
--- the state of a sound object is one of its type's set
+-- at the state of a sound object its type may begin
 abbrev pub StatesAreInside : Type 0
-StatesAreInside = (m : Meaning) (s : ℕ) → IsChecked m.checked → IsSound m → state_of m ≡ Some s → has m.checked.file.reach s ≡ true
+StatesAreInside = (m : Meaning) (s : ℕ) → IsChecked m.checked → IsSound m → state_of m ≡ Some s → IsInside m.checked s
 
 -- where no transaction is open, a history and the states of objects that represent it are an epoch
 abbrev pub ClosedIsEpoch : Type 0

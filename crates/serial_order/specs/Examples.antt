@@ -3,13 +3,16 @@ use Rattle.std.specs.Prelude.{ℕ, Bool, true, false, List, [], ◌∷◌, map, 
 use Rattle.type_table.specs.Table.{Table}
 use Rattle.type_table.specs.ConflictTable.{conflicts}
 use Rattle.type_table.specs.Examples.{ok_op}
-use Rattle.type_table.specs.declared.kind.Kind.TheVariants.{Undo, Intentions}
+use Rattle.type_table.specs.declared.kind.Kind.TheVariants.{Undo, Intentions, Escrow}
 use Rattle.table_checker.specs.Examples.{counter_file, one_way_file}
 use Rattle.object_trait.specs.Object.{Object, object_of}
+use Rattle.escrow_laws.specs.Amounts.{Amounts}
+use Rattle.escrow_laws.specs.declared.bounded.Bounded.{Bounded}
+use Rattle.escrow_laws.specs.Bounds.{amounts_of, steps_of}
 use Rattle.object_trait.specs.declared.event.Event.{Event}
 use Rattle.object_trait.specs.declared.event.EventKind.{EventKind}
 use Rattle.object_trait.specs.declared.event.EventKind.TheVariants as kind
-use Rattle.object_trait.specs.declared.event.EventKind.TheVariants.{Begin, Op, Commit, Rollback}
+use Rattle.object_trait.specs.declared.event.EventKind.TheVariants.{Begin, Op, Commit, Abort, Rollback}
 use Rattle.serial_order.specs.History.{Seen, seen}
 use Rattle.serial_order.specs.declared.command.Command.{Command}
 use Rattle.serial_order.specs.declared.command.Command.TheVariants as command
@@ -30,6 +33,10 @@ abbrev pub seen_first : ℕ → List Event → Seen
 seen_first n H = seen (take n H)
 
 -- ---- objects
+
+-- what nothing gives or takes
+abbrev pub no_amounts : Amounts
+no_amounts = record { gives = λ k. 0; takes = λ k. 0 }
 
 -- the one-way type, update in place: q, requested, conflicts with p, held, and r with q
 abbrev pub undo_one_way : Object
@@ -63,7 +70,7 @@ semiqueue_pairs =
 
 -- the semiqueue, update in place
 abbrev pub undo_semiqueue : Object
-undo_semiqueue = record { kind = Undo; table = semiqueue; set = λ s. nat_lt s 6; conflicts = conflicts semiqueue_pairs }
+undo_semiqueue = record { kind = Undo; table = semiqueue; set = λ s. nat_lt s 6; conflicts = conflicts semiqueue_pairs; amounts = no_amounts }
 
 -- an account of 0 or 1: operation 0 pays in, and operations 1 and 2 are one call, whose replies are the balances
 abbrev pub account : Table
@@ -82,9 +89,38 @@ account_pairs = (false ∷ true ∷ false ∷ []) ∷ (false ∷ false ∷ false
 
 -- the account, update in place
 abbrev pub undo_account : Object
-undo_account = record { kind = Undo; table = account; set = λ s. nat_lt s 2; conflicts = conflicts account_pairs }
+undo_account = record { kind = Undo; table = account; set = λ s. nat_lt s 2; conflicts = conflicts account_pairs; amounts = no_amounts }
+
+-- a number up to 10, from 5: operations 0 and 1 take 5 and are answered ok and short, operations 2 and 3 give 5 and are answered ok and full
+abbrev pub fives : List Bounded
+fives =
+    (record { low = 5; high = 10; gives = 0; takes = 5 }) ∷ (record { low = 0; high = 4; gives = 0; takes = 0 })
+    ∷ (record { low = 0; high = 5; gives = 5; takes = 0 }) ∷ (record { low = 6; high = 10; gives = 0; takes = 0 }) ∷ []
+
+abbrev pub number : Object
+number = record {
+  kind = Escrow;
+  table = record {
+    name = codes "number";
+    states = 11;
+    initial = 5;
+    ops = ok_op (codes "take:5") ∷ (record { call = codes "take:5"; reply = codes "short" }) ∷ ok_op (codes "give:5") ∷ (record { call = codes "give:5"; reply = codes "full" }) ∷ [];
+    steps = steps_of 10 fives;
+  };
+  set = λ s. true;
+  conflicts = λ p q. false;
+  amounts = amounts_of fives;
+}
 
 -- ---- histories
+
+-- one takes 5 and another gives 5, which are both open; the first commits, the second aborts, and a third finds nothing to take
+abbrev pub number_history : List Event
+number_history = events (Begin 0 ∷ Begin 1 ∷ Begin 2 ∷ Op 0 0 0 ∷ Op 1 0 2 ∷ Commit 0 ∷ Abort 1 ∷ Op 2 0 1 ∷ Commit 2 ∷ [])
+
+-- one finds nothing to take, of 5 that it took itself, and another asks to give
+abbrev pub short_history : List Event
+short_history = events (Begin 0 ∷ Begin 1 ∷ Op 0 0 0 ∷ Op 0 0 1 ∷ [])
 
 -- q by transaction 0 and p by transaction 1, which commits first
 abbrev pub one_way_history : List Event

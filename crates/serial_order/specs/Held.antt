@@ -6,6 +6,7 @@ use Rattle.object_trait.specs.declared.event.EventKind.{EventKind}
 use Rattle.object_trait.specs.declared.event.EventKind.TheVariants.{Op, Commit, Abort, Rollback}
 use Rattle.serial_order.specs.Operations.{at_object, is_by, of}
 use Rattle.serial_order.specs.History.{Seen, is_open}
+use Rattle.serial_order.specs.View.{stops_at}
 use Rattle.serial_order.specs.Machine.{May}
 use Rattle.serial_order.specs.Stand.{struck_at}
 use Rattle.serial_order.specs.Answer.{earliest, blocker}
@@ -34,7 +35,7 @@ HeldAfter =
 -- what keeps t from k is the earliest operation held by another that conflicts with it
 abbrev pub BlockerIsHeld : Type 0
 BlockerIsHeld =
-    (o : Object) (s : Seen) (x t k : ℕ) → blocker o s x t k ≡ earliest (λ e. not (e.by == t) && o.conflicts k e.op) (held_at x s)
+    (o : Object) (s : Seen) (x t k : ℕ) → blocker o s x t k ≡ earliest (λ e. not (e.by == t) && stops_at o.kind o s.committed (at_object x s.stands) t k e) (held_at x s)
 
 -- ---- what one transaction did
 

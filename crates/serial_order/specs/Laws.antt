@@ -8,7 +8,7 @@ use Rattle.object_trait.specs.Object.{Object, object_of}
 use Rattle.object_trait.specs.Orders.{Sorts}
 use Rattle.object_trait.specs.Strike.{keep_first}
 use Rattle.object_trait.specs.Meaning.{Meaning, object}
-use Rattle.object_trait.specs.Steps.{IsFresh, IsLegalFor, MayApply}
+use Rattle.object_trait.specs.Steps.{IsFresh, IsLegalFor, stopper, MayApply}
 use Rattle.object_trait.specs.declared.event.Event.{Event}
 use Rattle.object_trait.specs.declared.event.EventKind.{EventKind}
 use Rattle.object_trait.specs.declared.event.EventKind.TheVariants.{Op, Commit}
@@ -18,7 +18,8 @@ use Rattle.serial_order.specs.View.{view, is_legal_for}
 use Rattle.serial_order.specs.Machine.{IsFirstOfCall, MayFollow, IsRun, AreCovered}
 use Rattle.serial_order.specs.Serial.{standing_at, serial_at, pending_at, IsSerial}
 use Rattle.serial_order.specs.Stand.{StandsFor, Changes, KeptAgrees}
-use Rattle.serial_order.specs.Answer.{event_of_call}
+use Rattle.serial_order.specs.Answer.{blocker, event_of_call}
+use Rattle.std.specs.Option.{option_map}
 use Rattle.serial_order.specs.Readings.{staying}
 use Rattle.serial_order.specs.Replay.{refusal, event_of, replay}
 use Rattle.serial_order.specs.declared.command.Command.{Command}
@@ -103,7 +104,7 @@ StruckViewIsLegal =
     → slice_get objects x ≡ Some o → o.kind ≡ Undo → is_open (seen H) t ≡ true
     → IsLegal o.table (Some o.table.initial) (ops (keep_first (is_by t) n (standing_at x H)))
 
--- ---- both kinds
+-- ---- all kinds
 
 -- in a run, what each open transaction sees is legal
 abbrev pub ViewsAreLegal : Type 0
@@ -136,6 +137,12 @@ abbrev pub AllowsAlike : Type 0
 AllowsAlike =
     (m : Meaning) (x : ℕ) (H : List Event) (t k : ℕ) → is_open (seen H) t ≡ true → StandsFor m x H
     → IsLegalFor m t k ↔ (is_legal_for (object m) (seen H) x t k ≡ true)
+
+-- who keeps t from k at an object that represents the history is who does by the machine
+abbrev pub StopperIsBlocker : Type 0
+StopperIsBlocker =
+    (objects : List Object) (H : List Event) (x t k : ℕ) (m : Meaning) → IsRun objects H → StandsFor m x H
+    → option_map (λ e. e.by) (blocker (object m) (seen H) x t k) ≡ stopper m t k
 
 -- an operation that the machine allows may be executed, where the log has room
 abbrev pub MachineMayApply : Type 0

@@ -17,7 +17,7 @@ IsFirstOfCall o c = (c < length o.table.ops) × ((k : ℕ) → k < c → is_of_c
 
 -- an operation of another open transaction at x conflicts with k
 abbrev pub IsBlocked : Object → Seen → ℕ → ℕ → ℕ → Type 0
-IsBlocked o s x t k = (e : Entry) × Contains (at_object x s.stands) e × (conflicts_with o s t k e ≡ true)
+IsBlocked o s x t k = (e : Entry) × Contains (at_object x s.stands) e × (conflicts_with o s x t k e ≡ true)
 
 -- the first legal operation of a call
 pub record IsFirstLegal (o : Object) (s : Seen) (x t c k : ℕ) : Type 0 where
@@ -29,7 +29,7 @@ pub record IsFirstLegal (o : Object) (s : Seen) (x t c k : ℕ) : Type 0 where
 abbrev pub MayDo : Option Object → Seen → ℕ → ℕ → ℕ → Type 0
 MayDo None s x t k = ⊥
 MayDo (Some o) s x t k =
-    (k < length o.table.ops) × (is_legal_for o s x t k ≡ true) × AllByRecursion (λ e. conflicts_with o s t k e ≡ false) (at_object x s.stands)
+    (k < length o.table.ops) × (is_legal_for o s x t k ≡ true) × AllByRecursion (λ e. conflicts_with o s x t k e ≡ false) (at_object x s.stands)
 
 -- `None`: no operation of the call is legal
 abbrev pub MayHaveNone : Option Object → Seen → ℕ → ℕ → ℕ → Type 0
@@ -44,7 +44,7 @@ pub record IsBusyWith (o : Object) (s : Seen) (x t c u : ℕ) : Type 0 where
   pub first : IsFirstLegal o s x t c k
   pub held : Entry
   pub stands : Contains (at_object x s.stands) held
-  pub conflicts : conflicts_with o s t k held ≡ true
+  pub conflicts : conflicts_with o s x t k held ≡ true
   pub holder : held.by ≡ u
 
 abbrev pub MayBeBusy : Option Object → Seen → ℕ → ℕ → ℕ → ℕ → Type 0

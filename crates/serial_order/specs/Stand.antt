@@ -4,7 +4,7 @@ use Rattle.std.specs.Prelude.{◌≡◌, ℕ, ◌-◌, List, ◌++◌, map, drop
 use Rattle.std.specs.List.{AllByRecursion}
 use Rattle.type_table.specs.Run.{run, Looks, AreEqui}
 use Rattle.type_table.specs.declared.kind.Kind.{Kind}
-use Rattle.type_table.specs.declared.kind.Kind.TheVariants.{Undo, Intentions}
+use Rattle.type_table.specs.declared.kind.Kind.TheVariants.{Undo, Intentions, Escrow}
 use Rattle.object_trait.specs.Object.{Object, IsCoveredStrongly}
 use Rattle.object_trait.specs.Meaning.{Meaning, object, state_of}
 use Rattle.object_trait.specs.Steps.{applied, IsCommit, IsAbort, IsStrike}
@@ -36,9 +36,16 @@ pub record StandsIntentions (o : Object) (base : ℕ) (log : List LogEntry) (x :
   pub whole : map (plain x) log ≡ pending committed V
   pub flags : AllByRecursion (λ e. e.done ≡ false) log
 
+-- escrow: base is the serial state, and the log is what lives of open transactions
+pub record StandsEscrow (o : Object) (base : ℕ) (log : List LogEntry) (x : ℕ) (committed : List ℕ) (V : List Entry) : Type 0 where
+  pub reached : run o.table (Some o.table.initial) (ops (serial committed V)) ≡ Some base
+  pub whole : map (plain x) log ≡ pending committed V
+  pub flags : AllByRecursion (λ e. e.done ≡ false) log
+
 abbrev pub StandsBy : Kind → Object → ℕ → List LogEntry → ℕ → List ℕ → List Entry → Type 0
 StandsBy Undo = StandsUndo
 StandsBy Intentions = StandsIntentions
+StandsBy Escrow = StandsEscrow
 
 -- an object of this meaning represents the history at x
 abbrev pub StandsFor : Meaning → ℕ → List Event → Type 0
@@ -65,11 +72,12 @@ abbrev pub IsIdle : ℕ → List Event → Type 0
 IsIdle x H = AllByRecursion (λ e. is_open (seen H) e.by ≡ false) (standing_at x H)
 
 -- update in place: where no open transaction has an operation at x, whatever the kept state allows, the serial state allows, and
--- the reverse where the yes is strong. Deferred update: the two are equieffective, also while transactions are open
+-- the reverse where the yes is strong. Deferred update: the two are equieffective, also while transactions are open. Escrow: they are the same
 abbrev pub KeptAgreesBy : Kind → Object → Option ℕ → ℕ → List Event → Type 0
 KeptAgreesBy Undo o kept x H =
     IsIdle x H → Looks o.table kept (serial_state o x H) × (IsCoveredStrongly o → AreEqui o.table kept (serial_state o x H))
 KeptAgreesBy Intentions o kept x H = AreEqui o.table kept (serial_state o x H)
+KeptAgreesBy Escrow o kept x H = kept ≡ serial_state o x H
 
 abbrev pub KeptAgrees : Meaning → ℕ → List Event → Type 0
 KeptAgrees m x H = KeptAgreesBy m.checked.kind (object m) (state_of m) x H

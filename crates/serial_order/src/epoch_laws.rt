@@ -28,7 +28,7 @@ pub fn epochs_go_on()
     ensures { EpochsGoOn }
 {}
 
-/// The state of a sound object is one of its type's set.
+/// At the state of a sound object its type may begin.
 pub fn states_are_inside()
     ensures { StatesAreInside }
 {

@@ -4,9 +4,13 @@
 
 ghost use Rattle.serial_order.specs.After.{SeenAfter, TransactionsInRun, OpensAfter, HistoryOpensAfter, BeginnersAfter, NumbersInRun, OperationsInRun, LogsAreCounted, IdleIsClosed};
 ghost use Rattle.serial_order.specs.Held.{HeldAfter, BlockerIsHeld, OwnAfter};
-ghost use Rattle.serial_order.specs.Laws.{RunIsHistory, RunGoesOn, StandsAsRead, FirstOpIsLeast, AnswerMayFollow, ReplayRuns, CommandAppends, RefusedAppendsNothing, ReplaysJoin, SortsIntoCommitOrder, StruckViewIsLegal, ViewsAreLegal, CommitKeepsViews, FreshStands, StandsOn, AllowsAlike, MachineMayApply, Headline, CheckedHeadline};
+ghost use Rattle.serial_order.specs.Laws.{RunIsHistory, RunGoesOn, StandsAsRead, FirstOpIsLeast, AnswerMayFollow, ReplayRuns, CommandAppends, RefusedAppendsNothing, ReplaysJoin, SortsIntoCommitOrder, StruckViewIsLegal, ViewsAreLegal, CommitKeepsViews, FreshStands, StandsOn, AllowsAlike, StopperIsBlocker, MachineMayApply, Headline, CheckedHeadline};
 
 use crate::entry::Entry;
+use escrow_laws::{
+    firm_after_apply, firm_after_commit, firm_after_strike, firm_is_legal, fresh_is_firm,
+    nothing_keeps,
+};
 use object_trait::{checked_is_covered, parts_sort, sorts_equi, sorts_look, struck_part};
 use type_table::{ends_inside, legal_ends, lists_forward, runs_along};
 
@@ -169,6 +173,12 @@ pub fn struck_view_is_legal()
 pub fn views_are_legal()
     ensures { ViewsAreLegal }
 {
+    firm_after_apply();
+    firm_after_commit();
+    firm_after_strike();
+    nothing_keeps();
+    firm_is_legal();
+    fresh_is_firm();
     runs_along();
     ends_inside();
     legal_ends();
@@ -208,6 +218,12 @@ pub fn allows_alike()
     runs_along();
 }
 
+/// Who keeps a transaction from an operation is told by the log of an object that represents the
+/// history.
+pub fn stopper_is_blocker()
+    ensures { StopperIsBlocker }
+{}
+
 /// An operation that the machine allows may be executed at an object that represents the history.
 pub fn machine_may_apply()
     ensures { MachineMayApply }
@@ -222,6 +238,12 @@ pub fn machine_may_apply()
 pub fn headline()
     ensures { Headline }
 {
+    firm_after_apply();
+    firm_after_commit();
+    firm_after_strike();
+    nothing_keeps();
+    firm_is_legal();
+    fresh_is_firm();
     runs_along();
     ends_inside();
     legal_ends();

@@ -18,7 +18,7 @@ pub use laws::{
     history_opens_after, idle_is_closed, logs_are_counted, machine_may_apply, numbers_in_run,
     opens_after, operations_in_run, own_after, replay_runs, replays_join, run_goes_on,
     run_is_history, seen_after, sorts_into_commit_order, stands_as_read, stands_on,
-    struck_view_is_legal, transactions_in_run, views_are_legal,
+    stopper_is_blocker, struck_view_is_legal, transactions_in_run, views_are_legal,
 };
 pub use refusal::Refusal;
 

@@ -5,9 +5,9 @@ ghost use Rattle.std.specs.Prelude.{◌≡◌, ◌≤◌, List, true, false, [],
 ghost use Rattle.type_table.specs.Table.{next};
 ghost use Rattle.type_table.specs.Run.{run, Looks};
 ghost use Rattle.type_table.specs.Examples.{counter, one_way};
+ghost use Rattle.object_trait.specs.Examples.{held, past, counter_at};
 ghost use Rattle.table_checker.specs.At.{checked_at};
 ghost use Rattle.table_checker.specs.Checked.{Checked};
-ghost use Rattle.object_trait.specs.Examples.{held, past, counter_at};
 ghost use Rattle.serial_order.specs.Operations.{ops};
 ghost use Rattle.serial_order.specs.History.{seen, commits, standing, IsHistory};
 ghost use Rattle.serial_order.specs.View.{view, is_legal_after};
@@ -20,7 +20,7 @@ ghost use Rattle.serial_order.specs.Replay.{open_count, refusal, replay};
 ghost use Rattle.serial_order.specs.After.{after, is_open_after, AreBelow, CountsTo, beginners};
 ghost use Rattle.serial_order.specs.Held.{held_at, held_after, own_after};
 ghost use Rattle.serial_order.specs.Laws.{IsSerialAndKept};
-ghost use Rattle.serial_order.specs.Examples.{events, entry, seen_first, undo_one_way, undo_counter, deferred_counter, undo_semiqueue, undo_account, one_way_history, semiqueue_history, deferred_history, lock_history, two_objects_history, unlocked_history, refused_history, reader_history, half_history, half_deferred_history, up_and_back};
+ghost use Rattle.serial_order.specs.Examples.{events, entry, seen_first, undo_one_way, undo_counter, deferred_counter, undo_semiqueue, undo_account, one_way_history, semiqueue_history, deferred_history, lock_history, two_objects_history, unlocked_history, refused_history, reader_history, half_history, half_deferred_history, up_and_back, number, number_history, short_history};
 ghost use Rattle.serial_order.specs.Epochs.{serial_over, types_after, types_at};
 ghost use Rattle.serial_order.specs.EpochExamples.{up, up_and_down};
 
@@ -130,7 +130,7 @@ pub fn some_lists_are_no_histories()
 {}
 
 /// The headline at these runs: of a counter in place, of a deferred one, and of one of each. The checker
-/// says yes for the counter and both kinds.
+/// says yes for the counter and both kinds that have a conflict table.
 pub fn the_headline_speaks_of_these_runs()
     ensures in_place { IsSerialAndKept (undo_counter ∷ []) lock_history }
     ensures deferred { IsSerialAndKept (deferred_counter ∷ []) deferred_history }
@@ -246,4 +246,25 @@ pub fn one_up_and_one_down()
     ensures behind_one { (c : Checked) → types_after (c ∷ []) (up ∷ []) ≡ checked_at c 1 ∷ [] }
     ensures behind_both { (c : Checked) → types_after (c ∷ []) up_and_down ≡ checked_at c 0 ∷ [] }
     ensures left_out { (c d : Checked) → types_at (c ∷ d ∷ []) (1 ∷ []) ≡ checked_at c 1 ∷ [] }
+{}
+
+/// Under escrow two transactions take and give beside each other. A third is kept from giving by the one
+/// that gives, from taking by the one that takes, and, when that has committed, from being told that
+/// there is too little by the one that gives.
+#[tactic(auto, unfolding(type_table::specs::Table::next, escrow_laws::specs::Bounds::steps_of))]
+pub fn numbers_are_taken_and_given()
+    ensures takes { event_of_call number (seen_first 3 number_history) 0 0 0 ≡ EventKind.Op 0 0 0 }
+    ensures gives { event_of_call number (seen_first 4 number_history) 0 1 2 ≡ EventKind.Op 1 0 2 }
+    ensures kept_from_giving { event_of_call number (seen_first 5 number_history) 0 2 2 ≡ EventKind.Busy 2 2 0 1 }
+    ensures kept_from_taking { event_of_call number (seen_first 5 number_history) 0 2 0 ≡ EventKind.Busy 0 2 0 0 }
+    ensures not_yet_short { event_of_call number (seen_first 6 number_history) 0 2 0 ≡ EventKind.Busy 0 2 0 1 }
+    ensures short { event_of_call number (seen_first 7 number_history) 0 2 0 ≡ EventKind.Op 2 0 1 }
+    ensures runs { IsRun (number ∷ []) number_history }
+{}
+
+/// A reply `short` is held: another may not give. The one that holds it may.
+#[tactic(auto, unfolding(type_table::specs::Table::next, escrow_laws::specs::Bounds::steps_of))]
+pub fn a_short_reply_is_held()
+    ensures held { event_of_call number (seen short_history) 0 1 2 ≡ EventKind.Busy 2 1 0 0 }
+    ensures own { event_of_call number (seen short_history) 0 0 2 ≡ EventKind.Op 0 0 2 }
 {}

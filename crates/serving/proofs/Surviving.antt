@@ -37,7 +37,7 @@ commits-more {lines} {asked} {answers} {first} later more none so_far = record {
   none = list_any-append (λ (a : Answered). is_commit a.answer) so_far.others more ∙ ap₂ (λ p q. p || q) so_far.none none;
 }
 
--- ---- a session goes on
+-- ---- serving goes on
 
 -- epoch after epoch: a crash
 abbrev pub survives-on : {S : Type 0} {g : Ghosts S} {began : Session S} {lines : List (List ℕ)} {answers : List Answered} (old new : Durable S) (kept kept_now : Option (List KeptHistory))
@@ -91,7 +91,7 @@ safe-more later more none safe = record {
 
 -- ---- all that was written is durable
 
--- what was done by a session whose file is as durable as this
+-- what was done by a store whose file is as durable as this
 done-settled : {S : Type 0} {g : Ghosts S} {began : Session S} (mid : Session S) (new : Durable S) (lines : List (List ℕ)) (answers : List Answered) (ended : Option Asked) → IsDurable g mid.store
     → Clean g mid.store.journal → mid.life ≡ life_of mid.store → life_of new ≡ life_of mid.store → IsDurable g new → Clean g new.journal → ShowsCommit g new.journal
     → written g new.journal ≡ written g mid.store.journal

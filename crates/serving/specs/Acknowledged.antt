@@ -27,7 +27,7 @@ pub record HasAllCommits (lines : List (List ℕ)) (answers : List Answered) (as
   pub answers_are : answers ≡ first ++ others
   pub none : has_commit others ≡ false
 
--- since a session began these lines were done and so answered, and this is what the file of the store said then: its life, and all that it had done
+-- since serving began these lines were done and so answered, and this is what the file of the store said then: its life, and all that it had done
 -- in its epoch
 pub record HasDone {S : Type 0} (g : Ghosts S) (began : Session S) (asked : List (List ℕ)) (first : List Answered) (file : Contents) : Type 0 where
   pub header : Header

@@ -15,7 +15,7 @@ pub enum AnswerLine {
     /// A transaction began.
     Begun { t: TransactionName },
     /// The state of an object.
-    State { state: u16 },
+    State { state: u32 },
     /// The reply of a call.
     Reply { reply: Name },
     /// Each legal operation of a call conflicts with one that another transaction holds; this one holds what the

@@ -108,7 +108,7 @@ fn put_transaction<W: Out>(
 }
 
 /// Writes a tag and a state.
-fn put_state<W: Out>(out: &mut W, tag: &[u8], state: u16) -> Result<(), OutFault>
+fn put_state<W: Out>(out: &mut W, tag: &[u8], state: u32) -> Result<(), OutFault>
     requires { W.fault out.old ≡ None }
     ensures { Puts (W.taken out.old) (W.taken out.new) (W.fault out.new) (state_text tag.now state) result }
 {

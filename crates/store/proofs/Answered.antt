@@ -21,15 +21,13 @@ use Rattle.serial_order.specs.declared.refusal.Refusal.TheVariants.{HistoryFull,
 use Rattle.object_calls.specs.Calls.{IsCall}
 use Rattle.object_calls.specs.declared.call.Call.{Call}
 use Rattle.object_calls.specs.declared.call.NamedCall.{NamedCall}
-use Rattle.op_locks.specs.Locks.{Locks}
-use Rattle.op_locks.specs.declared.held.Held.{Held}
 use Rattle.object_calls.specs.Answers.{answer_of}
 use Rattle.object_calls.specs.declared.answer.Answer.{Answer}
 use Rattle.object_calls.specs.declared.answer.Answer.TheVariants as answer
 use Rattle.open_transactions.specs.Transactions as table
 use Rattle.open_transactions.specs.Transactions.{Row, row, pushed, count_open}
 use Rattle.store_laws.specs.Stored.{Stored, objects, types_of}
-use Rattle.store_laws.specs.Kept.{keeping, held_of, objects_of, IsKept}
+use Rattle.store_laws.specs.Kept.{keeping, objects_of, IsKept}
 use Rattle.store_laws.specs.Moves.{Moves, StaysKept}
 use Rattle.store_laws.specs.Before.{RowsSayWhoIsOpen, RowsAreCounted}
 use Rattle.store_laws.specs.Words.{as_event, AnswersAsDefined}
@@ -41,7 +39,7 @@ use Rattle.store.specs.Whole.{IsWhole}
 use Rattle.store.proofs.Pasts.{past-test}
 use Rattle.store.proofs.Stored.{stored, shown, event-whole}
 use Rattle.store.proofs.Begins.{full-then, full-else}
-use Rattle.store.proofs.Opens.{some-of, open-alike, lists-alike}
+use Rattle.store.proofs.Opens.{some-of, open-alike}
 use Rattle.store.proofs.Executed.{seen-at}
 
 -- ---- the call
@@ -54,24 +52,23 @@ one-at xs x a b first second = cc
 abbrev pub IsThere : Stored → ℕ → Call → Type 0
 IsThere s x call = (o : Object) × (slice_get (objects s) x ≡ Some o) × IsCall o.table call
 
--- an open transaction's call at the object of this meaning, where this is held
-pub record IsCalled (ms : List Meaning) (locks : List Locks) (rows : List (Option Row)) (H : List Event) (t x : ℕ) (call : Call) (m : Meaning) (held : List Held) : Type 0 where
-  pub kept : IsKept (keeping ms locks rows) H
+-- an open transaction's call at the object of this meaning
+pub record IsCalled (ms : List Meaning) (rows : List (Option Row)) (H : List Event) (t x : ℕ) (call : Call) (m : Meaning) : Type 0 where
+  pub kept : IsKept (keeping ms rows) H
   pub going : is_open (seen H) t ≡ true
   pub there : slice_get ms x ≡ Some m
-  pub list : slice_get (held_of locks) x ≡ Some held
   pub is_call : IsCall m.checked.file.table call
 
 -- and its answer, whose event the history defines
-pub record IsGiven (ms : List Meaning) (locks : List Locks) (rows : List (Option Row)) (H : List Event) (t x : ℕ) (call : Call) (m : Meaning) (a : Answer) : Type 0 where
-  pub kept : IsKept (keeping ms locks rows) H
+pub record IsGiven (ms : List Meaning) (rows : List (Option Row)) (H : List Event) (t x : ℕ) (call : Call) (m : Meaning) (a : Answer) : Type 0 where
+  pub kept : IsKept (keeping ms rows) H
   pub going : is_open (seen H) t ≡ true
   pub there : slice_get ms x ≡ Some m
   pub is_call : IsCall m.checked.file.table call
   pub defined : call_event (slice_get (objects_of ms) x) (seen H) x t (Some call.first) ≡ Some (as_event t x call.first a)
 
-module _ (ms : List Meaning) (locks : List Locks) (rows : List (Option Row)) (H : List Event) (max forgotten : ℕ) (s : Stored) (x : ℕ) (call : Call)
-    (same : shown (keeping ms locks rows) H max forgotten ≡ s) (known : IsThere s x call) where
+module _ (ms : List Meaning) (rows : List (Option Row)) (H : List Event) (max forgotten : ℕ) (s : Stored) (x : ℕ) (call : Call)
+    (same : shown (keeping ms rows) H max forgotten ≡ s) (known : IsThere s x call) where
   -- the object that the caller knows
   known-at : slice_get (objects_of ms) x ≡ Some known.0
   known-at = subst (λ (z : Stored). slice_get (objects z) x ≡ Some known.0) (sym same) known.1
@@ -82,20 +79,19 @@ module _ (ms : List Meaning) (locks : List Locks) (rows : List (Option Row)) (H 
       subst (λ k. x < k) (length-map (types_of ms) object_of ∙ length-map ms (λ (m : Meaning). m.checked) ∙ many) (slice_get_within (objects_of ms) x known.0 known-at)
 
   -- and has this call
-  pub called-at : (t : ℕ) (m : Meaning) (held : List Held) → IsKept (keeping ms locks rows) H → is_open (seen s.history) t ≡ true
-      → slice_get ms x ≡ Some m → slice_get (held_of locks) x ≡ Some held → IsCalled ms locks rows H t x call m held
-  called-at t m held kept going there list =
+  pub called-at : (t : ℕ) (m : Meaning) → IsKept (keeping ms rows) H → is_open (seen s.history) t ≡ true
+      → slice_get ms x ≡ Some m → IsCalled ms rows H t x call m
+  called-at t m kept going there =
       record {
         kept = kept;
         going = subst (λ (z : Stored). is_open (seen z.history) t ≡ true) (sym same) going;
         there = there;
-        list = list;
         is_call = subst (λ (z : Object). IsCall z.table call) (one-at (objects_of ms) x known.0 (object m) known-at (object-at ms x m there)) known.2;
       }
 
   -- whose answer is given
-  pub given-at : (t : ℕ) (a : Answer) (m : Meaning) → IsKept (keeping ms locks rows) H → is_open (seen s.history) t ≡ true → slice_get ms x ≡ Some m
-      → call_event (slice_get (objects s) x) (seen s.history) x t (Some call.first) ≡ Some (as_event t x call.first a) → IsGiven ms locks rows H t x call m a
+  pub given-at : (t : ℕ) (a : Answer) (m : Meaning) → IsKept (keeping ms rows) H → is_open (seen s.history) t ≡ true → slice_get ms x ≡ Some m
+      → call_event (slice_get (objects s) x) (seen s.history) x t (Some call.first) ≡ Some (as_event t x call.first a) → IsGiven ms rows H t x call m a
   given-at t a m kept going there defined =
       record {
         kept = kept;
@@ -106,29 +102,27 @@ module _ (ms : List Meaning) (locks : List Locks) (rows : List (Option Row)) (H 
       }
 
   -- at the object that is there
-  pub given : (t : ℕ) (a : Answer) → IsKept (keeping ms locks rows) H → is_open (seen s.history) t ≡ true
-      → call_event (slice_get (objects s) x) (seen s.history) x t (Some call.first) ≡ Some (as_event t x call.first a) → (m : Meaning) × IsGiven ms locks rows H t x call m a
+  pub given : (t : ℕ) (a : Answer) → IsKept (keeping ms rows) H → is_open (seen s.history) t ≡ true
+      → call_event (slice_get (objects s) x) (seen s.history) x t (Some call.first) ≡ Some (as_event t x call.first a) → (m : Meaning) × IsGiven ms rows H t x call m a
   given t a kept going defined =
       let found = element_at ms x (called-inside (length ms) refl) in
       (found.0, given-at t a found.0 kept going found.1 defined)
 
 -- so for objects that mean it
-pub called-of : {A : Type 0} (meaning : A → Meaning) (objects : List A) (locks : List Locks) (rows : List (Option Row)) (H : List Event) (max forgotten : ℕ) (s : Stored) (t x : ℕ) (call : Call)
-    (o : A) (list : Locks) → shown (keeping (map meaning objects) locks rows) H max forgotten ≡ s → IsKept (keeping (map meaning objects) locks rows) H
-    → is_open (seen s.history) t ≡ true → IsThere s x call → o ≡ get_or objects x o → list ≡ get_or locks x list
-    → IsCalled (map meaning objects) locks rows H t x call (meaning o) list.held
-called-of meaning objects locks rows H max forgotten s t x call o list same kept going known is_object is_list =
+pub called-of : {A : Type 0} (meaning : A → Meaning) (objects : List A) (rows : List (Option Row)) (H : List Event) (max forgotten : ℕ) (s : Stored) (t x : ℕ) (call : Call)
+    (o : A) → shown (keeping (map meaning objects) rows) H max forgotten ≡ s → IsKept (keeping (map meaning objects) rows) H
+    → is_open (seen s.history) t ≡ true → IsThere s x call → o ≡ get_or objects x o
+    → IsCalled (map meaning objects) rows H t x call (meaning o)
+called-of meaning objects rows H max forgotten s t x call o same kept going known is_object =
     let ms = map meaning objects in
-    let as_many : length locks ≡ length ms = lists-alike ms locks rows H (length ms) kept refl in
-    called-at ms locks rows H max forgotten s x call same known t (meaning o) list.held kept going
-    (seen-at meaning objects x o (called-inside ms locks rows H max forgotten s x call same known (length objects) (length-map objects meaning)) is_object)
-    (seen-at (λ (l : Locks). l.held) locks x list (called-inside ms locks rows H max forgotten s x call same known (length locks) (sym as_many)) is_list)
+    called-at ms rows H max forgotten s x call same known t (meaning o) kept going
+    (seen-at meaning objects x o (called-inside ms rows H max forgotten s x call same known (length objects) (length-map objects meaning)) is_object)
 
 -- whose transaction has a row
-pub still-open : RowsSayWhoIsOpen → (ms : List Meaning) (locks : List Locks) (rows : List (Option Row)) (H : List Event) (max forgotten : ℕ) (s : Stored) (t : ℕ)
-    → shown (keeping ms locks rows) H max forgotten ≡ s → IsKept (keeping ms locks rows) H → is_open (seen s.history) t ≡ true → table.is_open rows t ≡ true
-still-open says ms locks rows H max forgotten s t same kept going =
-    sym (open-alike says ms locks rows H t kept) ∙ subst (λ (z : Stored). is_open (seen z.history) t ≡ true) (sym same) going
+pub still-open : RowsSayWhoIsOpen → (ms : List Meaning) (rows : List (Option Row)) (H : List Event) (max forgotten : ℕ) (s : Stored) (t : ℕ)
+    → shown (keeping ms rows) H max forgotten ≡ s → IsKept (keeping ms rows) H → is_open (seen s.history) t ≡ true → table.is_open rows t ≡ true
+still-open says ms rows H max forgotten s t same kept going =
+    sym (open-alike says ms rows H t kept) ∙ subst (λ (z : Stored). is_open (seen z.history) t ≡ true) (sym same) going
 
 -- and of the least of its operations
 call-least : FirstOpIsLeast → (o : Object) (call : Call) → IsCall o.table call → IsFirstOfCall o call.first
@@ -137,12 +131,12 @@ call-least least o call is = least o (call_of o.table call.first) call.first is.
 -- ---- room for its event
 
 -- what the test of room said
-pub room-tested : RowsAreCounted → (ms : List Meaning) (locks : List Locks) (rows : List (Option Row)) (past Hm K : List Event) (forgotten opened max : ℕ) (has said : Bool)
-    → IsKept (keeping ms locks rows) (past ++ Hm) → opened ≡ count_open rows → forgotten ≡ length past → K ≡ Hm → has ≡ nat_le (forgotten + length K + opened + 1) max → has ≡ said
+pub room-tested : RowsAreCounted → (ms : List Meaning) (rows : List (Option Row)) (past Hm K : List Event) (forgotten opened max : ℕ) (has said : Bool)
+    → IsKept (keeping ms rows) (past ++ Hm) → opened ≡ count_open rows → forgotten ≡ length past → K ≡ Hm → has ≡ nat_le (forgotten + length K + opened + 1) max → has ≡ said
     → is_full max (past ++ Hm) 1 ≡ not said
-room-tested counted ms locks rows past Hm K forgotten opened max has said kept exact many same test says =
+room-tested counted ms rows past Hm K forgotten opened max has said kept exact many same test says =
     let H = past ++ Hm in
-    let counts : opened ≡ open_count (seen H) = exact ∙ sym (counted (keeping ms locks rows) H kept) in
+    let counts : opened ≡ open_count (seen H) = exact ∙ sym (counted (keeping ms rows) H kept) in
     let told : nat_le (length H + opened + 1) max ≡ said = past-test past K Hm forgotten opened 1 max has said many test same says in
     elim said as (λ b. nat_le (length H + opened + 1) max ≡ b → is_full max H 1 ≡ not b) [
       | true ↦ full-else H opened 1 max counts
@@ -156,17 +150,17 @@ room-left H max room = grind (arith, nat_tests, room)
 -- ---- its answer
 
 -- is that of the event that the history defines
-pub answer-defined : {ms : List Meaning} {locks : List Locks} {rows : List (Option Row)} {H : List Event} {t x : ℕ} {call : Call} {m : Meaning} {held : List Held} {a : Answer}
-    → IsCalled ms locks rows H t x call m held → a ≡ answer_of m held t call.first → AnswersAsDefined
+pub answer-defined : {ms : List Meaning} {rows : List (Option Row)} {H : List Event} {t x : ℕ} {call : Call} {m : Meaning} {a : Answer}
+    → IsCalled ms rows H t x call m → a ≡ answer_of m t call.first → AnswersAsDefined
     → call_event (slice_get (objects_of ms) x) (seen H) x t (Some call.first) ≡ Some (as_event t x call.first a)
-answer-defined {ms} {H = H} {t = t} {x = x} {call = call} {m = m} {held = held} called is_answer defined =
+answer-defined {ms} {H = H} {t = t} {x = x} {call = call} {m = m} called is_answer defined =
     let event =
-    ap (as_event t x call.first) (is_answer ∙ ap (λ held. answer_of m held t call.first) (called.kept.held x held called.list))
-    ∙ defined m x H t call.first (called.kept.objects x m called.there).represents called.going in
+    ap (as_event t x call.first) is_answer
+    ∙ defined (objects_of ms) m x H t call.first called.kept.run (called.kept.objects x m called.there).represents called.going in
     ap (λ o. call_event o (seen H) x t (Some call.first)) (object-at ms x m called.there) ∙ ap Some (sym event)
 
-module _ {ms : List Meaning} {locks : List Locks} {rows : List (Option Row)} {H : List Event} {t x : ℕ} {call : Call} {m : Meaning} {a : Answer}
-    (given : IsGiven ms locks rows H t x call m a) where
+module _ {ms : List Meaning} {rows : List (Option Row)} {H : List Event} {t x : ℕ} {call : Call} {m : Meaning} {a : Answer}
+    (given : IsGiven ms rows H t x call m a) where
   answer-event : as_event t x call.first a ≡ event_of_call (object m) (seen H) x t call.first
   answer-event =
       same_Some (as_event t x call.first a) (event_of_call (object m) (seen H) x t call.first)
@@ -189,26 +183,19 @@ module _ {ms : List Meaning} {locks : List Locks} {rows : List (Option Row)} {H 
       (subst (λ b. MayFollow (objects_of ms) H (record { worker = 0; kind = as_event t x call.first b })) replies (answer-follows least follow 0))
       (object-at ms x m given.there) represents (omega (arith, log, limited, fits))
 
-  -- and is one of 64 operations
-  pub reply-fits : (k : ℕ) → MayApply m t k → k < 64
-  reply-fits k may =
-      let few = (given.kept.objects x m given.there).checked.table.ops_fit in
-      let below = may.operation in
-      omega (arith, few, below)
-
 -- ---- what it changes
 
 -- a reply executes its operation, and any other answer changes nothing
-abbrev pub IsDone : Answer → ℕ → ℕ → List Meaning → List Meaning → List Locks → List Locks → List (Option Row) → List (Option Row) → Type 0
-IsDone (answer.Reply k) t x ms now locks after rows left = IsExecuted t x k ms now locks after rows left
-IsDone a t x ms now locks after rows left = (now ≡ ms) × (held_of after ≡ held_of locks) × (left ≡ rows)
+abbrev pub IsDone : Answer → ℕ → ℕ → List Meaning → List Meaning → List (Option Row) → List (Option Row) → Type 0
+IsDone (answer.Reply k) t x ms now rows left = IsExecuted t x k ms now rows left
+IsDone a t x ms now rows left = (now ≡ ms) × (left ≡ rows)
 
 -- an answer that is no reply changes nothing
-pub quiet-done : (a : Answer) (t x : ℕ) (ms : List Meaning) (locks : List Locks) (rows : List (Option Row)) → ((k : ℕ) → a ≡ answer.Reply k → ⊥)
-    → IsDone a t x ms ms locks locks rows rows
-quiet-done (answer.Reply k) t x ms locks rows another = absurd (another k refl)
-quiet-done (answer.Busy u) t x ms locks rows another = (refl, refl, refl)
-quiet-done answer.None t x ms locks rows another = (refl, refl, refl)
+pub quiet-done : (a : Answer) (t x : ℕ) (ms : List Meaning) (rows : List (Option Row)) → ((k : ℕ) → a ≡ answer.Reply k → ⊥)
+    → IsDone a t x ms ms rows rows
+quiet-done (answer.Reply k) t x ms rows another = absurd (another k refl)
+quiet-done (answer.Busy u) t x ms rows another = (refl, refl)
+quiet-done answer.None t x ms rows another = (refl, refl)
 
 -- it takes room for one event
 answer-takes : (t x c : ℕ) (a : Answer) → takes (as_event t x c a) ≡ 1
@@ -225,55 +212,55 @@ answer-last H K after w t x y c a happened appends same is here =
     ∙ ap (λ k. H ++ (record { worker = w; kind = k }) ∷ []) (is ∙ ap (λ z. as_event t z c a) here)
 
 -- which is what its event does
-answer-moved : QuietMoves → OpMoves → (ms now : List Meaning) (locks lists : List Locks) (rows left : List (Option Row)) (H : List Event) (w t x c : ℕ) (a : Answer)
-    → IsKept (keeping ms locks rows) H → table.is_open rows t ≡ true → IsDone a t x ms now locks lists rows left
-    → Moves (keeping ms locks rows) (keeping now lists left) H (record { worker = w; kind = as_event t x c a })
-answer-moved quiet op ms now locks lists rows left H w t x c (answer.Reply k) kept going done =
+answer-moved : QuietMoves → OpMoves → (ms now : List Meaning) (rows left : List (Option Row)) (H : List Event) (w t x c : ℕ) (a : Answer)
+    → IsKept (keeping ms rows) H → table.is_open rows t ≡ true → IsDone a t x ms now rows left
+    → Moves (keeping ms rows) (keeping now left) H (record { worker = w; kind = as_event t x c a })
+answer-moved quiet op ms now rows left H w t x c (answer.Reply k) kept going done =
     let found = some-of (row rows t) going in
-    op (keeping ms locks rows) (keeping now lists left) H w t x k found.0 done.m done.list kept found.1 done.there done.held done.object done.lists
+    op (keeping ms rows) (keeping now left) H w t x k found.0 done.m kept found.1 done.there done.object
     (done.row ∙ ap (λ r. set rows t (option_map (pushed x) r)) found.1)
-answer-moved quiet op ms now locks lists rows left H w t x c (answer.Busy u) kept going done =
-    (quiet (keeping ms locks rows) (keeping now lists left) H w t x c kept done.0 done.1 done.2).0 u
-answer-moved quiet op ms now locks lists rows left H w t x c answer.None kept going done =
-    (quiet (keeping ms locks rows) (keeping now lists left) H w t x c kept done.0 done.1 done.2).1
+answer-moved quiet op ms now rows left H w t x c (answer.Busy u) kept going done =
+    (quiet (keeping ms rows) (keeping now left) H w t x c kept done.0 done.1).0 u
+answer-moved quiet op ms now rows left H w t x c answer.None kept going done =
+    (quiet (keeping ms rows) (keeping now left) H w t x c kept done.0 done.1).1
 
-module _ (quiet : QuietMoves) (op : OpMoves) (types : TypesStay) (ms now : List Meaning) (locks lists : List Locks) (rows left : List (Option Row)) (H after : List Event)
-    (w t x c : ℕ) (a : Answer) (kept : IsKept (keeping ms locks rows) H) (going : table.is_open rows t ≡ true) (done : IsDone a t x ms now locks lists rows left)
+module _ (quiet : QuietMoves) (op : OpMoves) (types : TypesStay) (ms now : List Meaning) (rows left : List (Option Row)) (H after : List Event)
+    (w t x c : ℕ) (a : Answer) (kept : IsKept (keeping ms rows) H) (going : table.is_open rows t ≡ true) (done : IsDone a t x ms now rows left)
     (appended : after ≡ H ++ (record { worker = w; kind = as_event t x c a }) ∷ []) where
   -- what is kept
-  pub answer-whole : StaysKept → RoomAfter → RowsAreCounted → (calls : List (List NamedCall)) (room more max opened : ℕ) → IsWhole ms calls locks rows H room max
+  pub answer-whole : StaysKept → RoomAfter → RowsAreCounted → (calls : List (List NamedCall)) (room more max opened : ℕ) → IsWhole ms calls rows H room max
       → MayFollow (objects_of ms) H (record { worker = w; kind = as_event t x c a }) → opened ≡ count_open rows → max ≤ 4294967295
-      → length H + opened + 1 ≤ more → is_full max H 1 ≡ false → IsWhole now calls lists left after more max
+      → length H + opened + 1 ≤ more → is_full max H 1 ≡ false → IsWhole now calls left after more max
   answer-whole stays room_after counted calls room more max opened whole may exact fits reserved free =
       let takes_one = answer-takes t x c a in
-      let counts : open_count (seen H) ≡ count_open rows = counted (keeping ms locks rows) H kept in
+      let counts : open_count (seen H) ≡ count_open rows = counted (keeping ms rows) H kept in
       let limited = room-left H max free in
-      event-whole stays room_after types ms now calls locks lists rows left H after (record { worker = w; kind = as_event t x c a }) room more max whole may
-      (answer-moved quiet op ms now locks lists rows left H w t x c a kept going done) appended (omega (arith, limited, fits))
+      event-whole stays room_after types ms now calls rows left H after (record { worker = w; kind = as_event t x c a }) room more max whole may
+      (answer-moved quiet op ms now rows left H w t x c a kept going done) appended (omega (arith, limited, fits))
       (omega (arith, reserved, counts, exact, takes_one)) (omega (arith, limited, takes_one))
 
   -- what comes of it
-  pub answer-comes : (max forgotten : ℕ) (s : Stored) → shown (keeping ms locks rows) H max forgotten ≡ s → is_full max H 1 ≡ false
-      → call_event (slice_get (objects_of ms) x) (seen H) x t (Some c) ≡ Some (as_event t x c a) → Comes s w t x c (Ok a) (shown (keeping now lists left) after max forgotten)
+  pub answer-comes : (max forgotten : ℕ) (s : Stored) → shown (keeping ms rows) H max forgotten ≡ s → is_full max H 1 ≡ false
+      → call_event (slice_get (objects_of ms) x) (seen H) x t (Some c) ≡ Some (as_event t x c a) → Comes s w t x c (Ok a) (shown (keeping now left) after max forgotten)
   answer-comes max forgotten s same room defined =
       let same_types : types_of now ≡ types_of ms =
-      types (keeping ms locks rows) (keeping now lists left) H (record { worker = w; kind = as_event t x c a })
-      (answer-moved quiet op ms now locks lists rows left H w t x c a kept going done) in
-      subst (λ (z : Stored). Comes z w t x c (Ok a) (shown (keeping now lists left) after max forgotten)) same
+      types (keeping ms rows) (keeping now left) H (record { worker = w; kind = as_event t x c a })
+      (answer-moved quiet op ms now rows left H w t x c a kept going done) in
+      subst (λ (z : Stored). Comes z w t x c (Ok a) (shown (keeping now left) after max forgotten)) same
       (room, defined, ap (λ ts. stored ts after max forgotten) same_types ∙ ap (λ K. stored (types_of ms) K max forgotten) appended)
 
 -- ---- where nothing comes of it
 
-module _ (ms : List Meaning) (locks : List Locks) (rows : List (Option Row)) (H : List Event) (max forgotten : ℕ) (s : Stored) (w t x c : ℕ)
-    (same : shown (keeping ms locks rows) H max forgotten ≡ s) where
+module _ (ms : List Meaning) (rows : List (Option Row)) (H : List Event) (max forgotten : ℕ) (s : Stored) (w t x c : ℕ)
+    (same : shown (keeping ms rows) H max forgotten ≡ s) where
   -- there is no room for the event
   pub full-comes : is_full max H 1 ≡ true → Comes s w t x c (Err HistoryFull) s
   full-comes full = (refl, inl (subst (λ (z : Stored). is_full z.max z.history 1 ≡ true) same full, refl))
 
   -- memory was refused
-  pub wanting-comes : (now : List Meaning) (lists : List Locks) (left : List (Option Row)) (after : List Event) → now ≡ ms → after ≡ H → is_full max H 1 ≡ false
-      → Comes s w t x c (Err NoMemory) (shown (keeping now lists left) after max forgotten)
-  wanting-comes now lists left after unchanged stays room = (
+  pub wanting-comes : (now : List Meaning) (left : List (Option Row)) (after : List Event) → now ≡ ms → after ≡ H → is_full max H 1 ≡ false
+      → Comes s w t x c (Err NoMemory) (shown (keeping now left) after max forgotten)
+  wanting-comes now left after unchanged stays room = (
     ap (λ ns. stored (types_of ns) after max forgotten) unchanged ∙ ap (λ K. stored (types_of ms) K max forgotten) stays ∙ same,
     inr (subst (λ (z : Stored). is_full z.max z.history 1 ≡ false) same room, refl),
   )

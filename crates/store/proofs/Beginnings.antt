@@ -1,8 +1,8 @@
 -- The beginning of a store.
-use Rattle.std.proofs.Common.{◌≡◌, ℕ, ◌+◌, ◌<◌, ◌≤◌, Bool, true, false, List, [], ◌∷◌, ◌++◌, map, length, get_or, Option, Some, slice_get, All, refl, sym, ap, subst, ◌∙◌, inl, inr, arith}
+use Rattle.std.proofs.Common.{◌≡◌, ℕ, ◌+◌, ◌<◌, ◌≤◌, Bool, true, false, List, [], ◌∷◌, ◌++◌, map, length, get_or, Option, Some, slice_get, refl, sym, ap, subst, ◌∙◌, inl, inr, arith}
 use Rattle.std.specs.Option.{option_map}
 use Rattle.std.proofs.lemmas.List.{length-map, length-append}
-use Rattle.std.proofs.lemmas.Option.{same_Some, slice_get-map, slice_get_within, slice_get_read, get_or_from_slice_get}
+use Rattle.std.proofs.lemmas.Option.{same_Some, slice_get-map, slice_get_within, slice_get_read}
 use Rattle.type_table.proofs.Elements.{cases-more, found-map, FirstAre, first-more}
 use Rattle.table_checker.specs.Checked.{Checked, IsChecked}
 use Rattle.object_trait.specs.Meaning.{Meaning}
@@ -10,7 +10,6 @@ use Rattle.object_trait.specs.declared.event.Event.{Event}
 use Rattle.serial_order.specs.Laws.{AreChecked}
 use Rattle.object_calls.specs.Calls.{IsCallTable}
 use Rattle.object_calls.specs.declared.call.NamedCall.{NamedCall}
-use Rattle.op_locks.specs.Locks.{Locks}
 use Rattle.open_transactions.specs.Transactions.{Row}
 use Rattle.store_laws.specs.Stored.{types_of}
 use Rattle.store_laws.specs.Kept.{keeping, IsKept}
@@ -84,23 +83,18 @@ module _ (ms : List Meaning) (calls : List (List NamedCall)) (capacity i : ℕ) 
 -- ---- a new store
 
 -- it is whole, with the empty history
-pub new-whole : NewIsKept → (ms : List Meaning) (calls : List (List NamedCall)) (locks : List Locks) (rows : List (Option Row)) (H : List Event) (capacity max : ℕ)
-    → MayBegin ms max → AreChecked (types_of ms) → HasCalls (types_of ms) calls → length locks ≡ length ms → All (λ l. l.held ≡ []) locks → rows ≡ [] → H ≡ []
-    → IsWhole ms calls locks rows H capacity max
-new-whole is_kept ms calls locks rows H capacity max may checked known as_many empty none nothing =
-    let kept : IsKept (keeping ms locks rows) [] =
-    is_kept (keeping ms locks rows) (record {
+pub new-whole : NewIsKept → (ms : List Meaning) (calls : List (List NamedCall)) (rows : List (Option Row)) (H : List Event) (capacity max : ℕ)
+    → MayBegin ms max → AreChecked (types_of ms) → HasCalls (types_of ms) calls → rows ≡ [] → H ≡ []
+    → IsWhole ms calls rows H capacity max
+new-whole is_kept ms calls rows H capacity max may checked known none nothing =
+    let kept : IsKept (keeping ms rows) [] =
+    is_kept (keeping ms rows) (record {
       checked = λ x m there. checked x m.checked (slice_get-map (λ (n : Meaning). n.checked) ms x ∙ ap (option_map (λ (n : Meaning). n.checked)) there);
       fresh = may.fresh;
-      lists = length-map locks (λ (l : Locks). l.held) ∙ as_many;
-      held = λ x held there.
-          let found = found-map (λ (l : Locks). l.held) locks x held there in
-          let inside = slice_get_within locks x found.0 found.1 in
-          sym found.2 ∙ ap (λ (l : Locks). l.held) (sym (get_or_from_slice_get locks x found.0 found.0 found.1)) ∙ empty x found.0 inside;
       rows = none;
     })
     in
-    subst (λ K. IsWhole ms calls locks rows K capacity max) (sym nothing)
+    subst (λ K. IsWhole ms calls rows K capacity max) (sym nothing)
     (record {
       store = record { kept = kept; reserved = omega arith; limited = omega arith };
       few = may.few;

@@ -9,7 +9,6 @@ use Rattle.serial_order.specs.History.{seen, begins}
 use Rattle.serial_order.specs.Replay.{open_count, refusal, is_full}
 use Rattle.serial_order.specs.declared.command.Command.TheVariants as command
 use Rattle.serial_order.specs.declared.refusal.Refusal.TheVariants.{TooManyOpen, HistoryFull}
-use Rattle.op_locks.specs.Locks.{Locks}
 use Rattle.open_transactions.specs.Transactions.{Row, count_open, begun_by}
 use Rattle.object_calls.specs.declared.call.NamedCall.{NamedCall}
 use Rattle.store_laws.specs.Stored.{Stored, Steps}
@@ -62,29 +61,29 @@ module _ (objects : List Object) (most : ℕ) (H : List Event) (opened : ℕ) (s
 -- ---- what it does
 
 -- a row is one more
-module _ (moves : BeginMoves) (ms : List Meaning) (locks : List Locks) (rows now : List (Option Row)) (H after : List Event) (w t : ℕ)
-    (kept : IsKept (keeping ms locks rows) H) (number : t ≡ length rows) (longer : now ≡ rows ++ Some (begun_by w) ∷ [])
+module _ (moves : BeginMoves) (ms : List Meaning) (rows now : List (Option Row)) (H after : List Event) (w t : ℕ)
+    (kept : IsKept (keeping ms rows) H) (number : t ≡ length rows) (longer : now ≡ rows ++ Some (begun_by w) ∷ [])
     (appended : after ≡ H ++ (record { worker = w; kind = Begin t }) ∷ []) where
   -- its number is how many began
   pub begin-number : t ≡ begins H
   begin-number = number ∙ kept.begun
 
   -- so it is what its event does to what is kept
-  begin-moved : Moves (keeping ms locks rows) (keeping ms locks now) H (record { worker = w; kind = Begin t })
-  begin-moved = moves (keeping ms locks rows) (keeping ms locks now) H w t kept refl refl longer
+  begin-moved : Moves (keeping ms rows) (keeping ms now) H (record { worker = w; kind = Begin t })
+  begin-moved = moves (keeping ms rows) (keeping ms now) H w t kept refl longer
 
   -- the store stays whole
-  pub begin-whole : StaysKept → RoomAfter → TypesStay → RowsAreCounted → (calls : List (List NamedCall)) (opened room more max : ℕ) → IsWhole ms calls locks rows H room max
-      → opened ≡ count_open rows → max ≤ 4294967295 → length H + opened + 2 ≤ more → length H + opened + 2 ≤ max → IsWhole ms calls locks now after more max
+  pub begin-whole : StaysKept → RoomAfter → TypesStay → RowsAreCounted → (calls : List (List NamedCall)) (opened room more max : ℕ) → IsWhole ms calls rows H room max
+      → opened ≡ count_open rows → max ≤ 4294967295 → length H + opened + 2 ≤ more → length H + opened + 2 ≤ max → IsWhole ms calls now after more max
   begin-whole stays room_after types counted calls opened room more max whole counts fits reserved limited =
-      let same : opened ≡ open_count (seen H) = counts ∙ sym (counted (keeping ms locks rows) H kept) in
-      event-whole stays room_after types ms ms calls locks locks rows now H after (record { worker = w; kind = Begin t }) room more max whole begin-number
+      let same : opened ≡ open_count (seen H) = counts ∙ sym (counted (keeping ms rows) H kept) in
+      event-whole stays room_after types ms ms calls rows now H after (record { worker = w; kind = Begin t }) room more max whole begin-number
       begin-moved appended (omega (arith, fits, limited)) (subst (λ n. length H + n + 2 ≤ more) same reserved)
       (subst (λ n. length H + n + 2 ≤ max) same limited)
 
   -- and callers see the event
-  pub begin-shown : TypesStay → (max forgotten : ℕ) (s : Stored) → shown (keeping ms locks rows) H max forgotten ≡ s → refusal (objects_of ms) max H command.Begin ≡ None
-      → Steps s w command.Begin (Ok t) (shown (keeping ms locks now) after max forgotten)
+  pub begin-shown : TypesStay → (max forgotten : ℕ) (s : Stored) → shown (keeping ms rows) H max forgotten ≡ s → refusal (objects_of ms) max H command.Begin ≡ None
+      → Steps s w command.Begin (Ok t) (shown (keeping ms now) after max forgotten)
   begin-shown types max forgotten s same unrefused =
-      event-shown types ℕ (keeping ms locks rows) (keeping ms locks now) H after w max forgotten (Begin t) command.Begin t s same begin-moved appended unrefused
+      event-shown types ℕ (keeping ms rows) (keeping ms now) H after w max forgotten (Begin t) command.Begin t s same begin-moved appended unrefused
       (ap (λ n. Some (Begin n)) (sym begin-number))

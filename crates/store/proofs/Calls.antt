@@ -5,7 +5,6 @@ use Rattle.object_trait.specs.declared.event.Event.{Event}
 use Rattle.serial_order.specs.History.{seen, is_open}
 use Rattle.serial_order.specs.declared.command.Command.TheVariants.{Call}
 use Rattle.serial_order.specs.declared.refusal.Refusal.TheVariants.{NotOpen, NoObject}
-use Rattle.op_locks.specs.Locks.{Locks}
 use Rattle.open_transactions.specs.Transactions as table
 use Rattle.open_transactions.specs.Transactions.{Row}
 use Rattle.object_calls.specs.declared.call.NamedCall.{NamedCall}
@@ -19,10 +18,10 @@ use Rattle.store.proofs.Opens.{open-alike}
 
 -- ---- what callers see
 
-module _ (ms : List Meaning) (locks : List Locks) (rows : List (Option Row)) (H : List Event) (max forgotten : ℕ) (s : Stored) (same : shown (keeping ms locks rows) H max forgotten ≡ s) where
+module _ (ms : List Meaning) (rows : List (Option Row)) (H : List Event) (max forgotten : ℕ) (s : Stored) (same : shown (keeping ms rows) H max forgotten ≡ s) where
   -- whether a transaction is open
-  pub open-shown : RowsSayWhoIsOpen → (t : ℕ) → IsKept (keeping ms locks rows) H → is_open (seen s.history) t ≡ table.is_open rows t
-  open-shown says t kept = subst (λ (z : Stored). is_open (seen z.history) t ≡ table.is_open rows t) same (open-alike says ms locks rows H t kept)
+  pub open-shown : RowsSayWhoIsOpen → (t : ℕ) → IsKept (keeping ms rows) H → is_open (seen s.history) t ≡ table.is_open rows t
+  open-shown says t kept = subst (λ (z : Stored). is_open (seen z.history) t ≡ table.is_open rows t) same (open-alike says ms rows H t kept)
 
   -- the calls of each object
   pub calls-shown : (calls : List (List NamedCall)) → HasCalls (types_of ms) calls → HasCalls s.types calls

@@ -17,12 +17,11 @@ use Rattle.serial_order.specs.Laws.{RunGoesOn}
 use Rattle.serial_order.specs.After.{SeenAfter, TransactionsInRun, OpensAfter, beginners, BeginnersAfter, IdleIsClosed}
 use Rattle.serial_order.specs.declared.command.Command.TheVariants as command
 use Rattle.serial_order.specs.declared.refusal.Refusal.TheVariants.{NotOpen}
-use Rattle.op_locks.specs.Locks.{Locks}
 use Rattle.open_transactions.specs.Transactions as table
 use Rattle.open_transactions.specs.Transactions.{Row, row, worker_of}
 use Rattle.store_laws.specs.Stored.{Stored, objects, after}
 use Rattle.store_laws.specs.Kept.{Keeping, keeping, objects_of, IsKept}
-use Rattle.store.specs.Ends.{closing, closing_abort, closing_but, is_other, IsHandedOut}
+use Rattle.store.specs.Ends.{closing_abort, closing_but, is_other, IsHandedOut}
 use Rattle.store.proofs.Stored.{shown}
 use Rattle.store_laws.specs.Before.{RowsSayWhoIsOpen}
 use Rattle.serial_order.proofs.Idle.{none-idle}
@@ -51,9 +50,9 @@ abort-appends s w t going =
     ap (λ b. record s { history = if is_some (if not b then Some NotOpen else None) then s.history else s.history ++ (record { worker = w; kind = Abort t }) ∷ [] }) going
 
 -- the worker in the row of an open transaction is the one by whose event it began
-row-worker : (ms : List Meaning) (locks : List Locks) (rows : List (Option Row)) (H : List Event) (t : ℕ) → IsKept (keeping ms locks rows) H
+row-worker : (ms : List Meaning) (rows : List (Option Row)) (H : List Event) (t : ℕ) → IsKept (keeping ms rows) H
     → table.is_open rows t ≡ true → closing_abort H t ≡ record { worker = worker_of (row rows t); kind = Abort t }
-row-worker ms locks rows H t kept going =
+row-worker ms rows H t kept going =
     let found = some-of (row rows t) going in
     elim (cases_lt t (length rows)) [
       | inl low ↦
@@ -64,12 +63,12 @@ row-worker ms locks rows H t kept going =
     ]
 
 -- an abort by that worker is the abort of t at the end of a store
-pub aborts-once : (ms : List Meaning) (locks : List Locks) (rows : List (Option Row)) (s new : Stored) (w t : ℕ) → IsKept (keeping ms locks rows) s.history
+pub aborts-once : (ms : List Meaning) (rows : List (Option Row)) (s new : Stored) (w t : ℕ) → IsKept (keeping ms rows) s.history
     → table.is_open rows t ≡ true → is_open (seen s.history) t ≡ true → w ≡ worker_of (row rows t) → new ≡ after s w (command.Abort t) → new ≡ aborted_once s t
-aborts-once ms locks rows s new w t kept going opened by_its_own is =
+aborts-once ms rows s new w t kept going opened by_its_own is =
     is ∙ abort-appends s w t opened
     ∙ ap (λ (e : Event). record s { history = s.history ++ e ∷ [] })
-    (ap (λ v. record { worker = v; kind = Abort t }) by_its_own ∙ sym (row-worker ms locks rows s.history t kept going))
+    (ap (λ v. record { worker = v; kind = Abort t }) by_its_own ∙ sym (row-worker ms rows s.history t kept going))
 
 -- ---- one abort after another
 
@@ -110,10 +109,10 @@ closing-none those H (suc n) none =
     (closing-ended those H n (and_right _ _ (none n (omega arith))) ∙ closing-none those H n (λ t low. none t (omega (arith, low))))
 
 -- so a store is as it was where the rows of those below n say that they ended
-pub closed-none : RowsSayWhoIsOpen → (those : List ℕ) (ms : List Meaning) (locks : List Locks) (rows : List (Option Row)) (s : Stored) (n : ℕ)
-    → IsKept (keeping ms locks rows) s.history → ((t : ℕ) → t < n → table.is_open rows t ≡ false) → s ≡ closed_below those s n
-closed-none says those ms locks rows s n kept none =
-    ap (λ K. record s { history = K }) (sym (closing-none those s.history n (λ t low. open-alike says ms locks rows s.history t kept ∙ none t low)))
+pub closed-none : RowsSayWhoIsOpen → (those : List ℕ) (ms : List Meaning) (rows : List (Option Row)) (s : Stored) (n : ℕ)
+    → IsKept (keeping ms rows) s.history → ((t : ℕ) → t < n → table.is_open rows t ≡ false) → s ≡ closed_below those s n
+closed-none says those ms rows s n kept none =
+    ap (λ K. record s { history = K }) (sym (closing-none those s.history n (λ t low. open-alike says ms rows s.history t kept ∙ none t low)))
 
 -- ---- what is known meanwhile
 
@@ -246,18 +245,18 @@ closed-all goes_on now in_run opens began those s k K n kept run many is =
     (record { whole = refl; run = below.run; left = left-open those (objects s) s.history (s.history ++ closing_but those s.history) below })
 
 -- and of a store as it is, where the rows of all say that they ended
-pub closed-already : RunGoesOn → SeenAfter → TransactionsInRun → OpensAfter → BeginnersAfter → RowsSayWhoIsOpen → (ms : List Meaning) (locks : List Locks)
-    (rows : List (Option Row)) (K : List Event) (max forgotten n : ℕ) (s : Stored) → shown (keeping ms locks rows) K max forgotten ≡ s → IsKept (keeping ms locks rows) K
+pub closed-already : RunGoesOn → SeenAfter → TransactionsInRun → OpensAfter → BeginnersAfter → RowsSayWhoIsOpen → (ms : List Meaning)
+    (rows : List (Option Row)) (K : List Event) (max forgotten n : ℕ) (s : Stored) → shown (keeping ms rows) K max forgotten ≡ s → IsKept (keeping ms rows) K
     → n ≡ length rows → ((t : ℕ) → t < n → table.is_open rows t ≡ false) → IsClosed [] s s.history
-closed-already goes_on now in_run opens began says ms locks rows K max forgotten n s same its many ended =
-    let k = keeping ms locks rows in
+closed-already goes_on now in_run opens began says ms rows K max forgotten n s same its many ended =
+    let k = keeping ms rows in
     let kept = kept-shown k K max forgotten s same its in
     closed-all goes_on now in_run opens began [] s k s.history n kept (run-shown k K max forgotten s same its) many
-    (ap (λ (z : Stored). z.history) (closed-none says [] ms locks rows s n kept ended))
+    (ap (λ (z : Stored). z.history) (closed-none says [] ms rows s n kept ended))
 
 -- where none is open, each object is handed out with no open entry
-pub handed-out : IdleIsClosed → (ms : List Meaning) (locks : List Locks) (rows : List (Option Row)) (K : List Event) → IsKept (keeping ms locks rows) K
+pub handed-out : IdleIsClosed → (ms : List Meaning) (rows : List (Option Row)) (K : List Event) → IsKept (keeping ms rows) K
     → ((t : ℕ) → is_open (seen K) t ≡ false) → (x : ℕ) (m : Meaning) → slice_get ms x ≡ Some m → IsHandedOut m x K
-handed-out closed ms locks rows K kept none x m there =
+handed-out closed ms rows K kept none x m there =
     let its = kept.objects x m there in
     record { object = its; closed = closed (objects_of ms) m x K kept.run its.represents (none-idle K x none) }

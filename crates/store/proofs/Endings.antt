@@ -8,7 +8,6 @@ use Rattle.serial_order.specs.History.{Seen, seen, is_open}
 use Rattle.serial_order.specs.Machine.{MayFollow}
 use Rattle.serial_order.specs.Replay.{open_count, refusal, event_of}
 use Rattle.serial_order.specs.declared.refusal.Refusal.TheVariants.{NotOpen}
-use Rattle.op_locks.specs.Locks.{Locks, without}
 use Rattle.object_calls.specs.Ends.{ChangesAt, IsEnd}
 use Rattle.object_calls.specs.declared.end.End.{End}
 use Rattle.object_calls.specs.declared.end.End.TheVariants as end
@@ -50,48 +49,47 @@ end-takes end.Abort t = refl
 -- ---- what it does
 
 -- where one is open, the history has room for one event more
-pub end-room : RowsAreCounted → (ms : List Meaning) (locks : List Locks) (rows : List (Option Row)) (H : List Event) (room max left : ℕ)
-    → IsStore (keeping ms locks rows) H room max → left + 1 ≡ count_open rows → (length H < room) × (length H < max)
-end-room counted ms locks rows H room max left store one =
-    let counts : open_count (seen H) ≡ count_open rows = counted (keeping ms locks rows) H store.kept in
+pub end-room : RowsAreCounted → (ms : List Meaning) (rows : List (Option Row)) (H : List Event) (room max left : ℕ)
+    → IsStore (keeping ms rows) H room max → left + 1 ≡ count_open rows → (length H < room) × (length H < max)
+end-room counted ms rows H room max left store one =
+    let counts : open_count (seen H) ≡ count_open rows = counted (keeping ms rows) H store.kept in
     let reserved : length H + count_open rows ≤ room = subst (λ n. length H + n ≤ room) counts store.reserved in
     let limited : length H + count_open rows ≤ max = subst (λ n. length H + n ≤ max) counts store.limited in
     (omega (arith, reserved, one), omega (arith, limited, one))
 
--- each object where it has operations is as after its end, what it holds there is given up, and it has no row
-module _ (how : End) (moves : EndMoves) (says : RowsSayWhoIsOpen) (ms ms_now : List Meaning) (locks locks_now : List Locks)
-    (rows now : List (Option Row)) (H after : List Event) (w t : ℕ) (places : List ℕ) (kept : IsKept (keeping ms locks rows) H)
+-- each object where it has operations is as after its end, and it has no row
+module _ (how : End) (moves : EndMoves) (says : RowsSayWhoIsOpen) (ms ms_now : List Meaning)
+    (rows now : List (Option Row)) (H after : List Event) (w t : ℕ) (places : List ℕ) (kept : IsKept (keeping ms rows) H)
     (going : table.is_open rows t ≡ true) (its : places ≡ places_of (row rows t)) (objects : ChangesAt places (λ x m n. IsEnd how m t n) ms ms_now)
-    (held : ChangesAt places (λ x a b. b.held ≡ without t a.held) locks locks_now) (gone : now ≡ set rows t None)
-    (appended : after ≡ H ++ (record { worker = w; kind = end_event how t }) ∷ []) where
+    (gone : now ≡ set rows t None) (appended : after ≡ H ++ (record { worker = w; kind = end_event how t }) ∷ []) where
   opened : is_open (seen H) t ≡ true
-  opened = open-alike says ms locks rows H t kept ∙ going
+  opened = open-alike says ms rows H t kept ∙ going
 
   -- so it is what its event does to what is kept
-  end-moved : Moves (keeping ms locks rows) (keeping ms_now locks_now now) H (record { worker = w; kind = end_event how t })
+  end-moved : Moves (keeping ms rows) (keeping ms_now now) H (record { worker = w; kind = end_event how t })
   end-moved =
-      let found = its-row ms locks rows H t places kept going its in
-      let same = row-places ms locks rows H t places kept going its in
-      moves how (keeping ms locks rows) (keeping ms_now locks_now now) H w t found.0 locks locks_now kept found.1 refl refl
+      let found = its-row ms rows H t places kept going its in
+      let same = row-places ms rows H t places kept going its in
+      moves how (keeping ms rows) (keeping ms_now now) H w t found.0 kept found.1
       (subst (λ ps. ChangesAt ps (λ x m n. IsEnd how m t n) ms ms_now) (sym same) objects)
-      (subst (λ ps. ChangesAt ps (λ x (a : Locks) (b : Locks). b.held ≡ without t a.held) locks locks_now) (sym same) held) gone
+      gone
 
   -- the store stays whole
-  pub end-whole : StaysKept → RoomAfter → TypesStay → RowsAreCounted → (calls : List (List NamedCall)) (room more max : ℕ) → IsWhole ms calls locks rows H room max
-      → room ≤ more → max ≤ 4294967295 → count_open now + 1 ≡ count_open rows → IsWhole ms_now calls locks_now now after more max
+  pub end-whole : StaysKept → RoomAfter → TypesStay → RowsAreCounted → (calls : List (List NamedCall)) (room more max : ℕ) → IsWhole ms calls rows H room max
+      → room ≤ more → max ≤ 4294967295 → count_open now + 1 ≡ count_open rows → IsWhole ms_now calls now after more max
   end-whole stays room_after types counted calls room more max whole grown fits one =
-      let low = (end-room counted ms locks rows H room max (count_open now) whole.store one).1 in
+      let low = (end-room counted ms rows H room max (count_open now) whole.store one).1 in
       let reserved = whole.store.reserved in
       let limited = whole.store.limited in
       let free : takes (end_event how t) ≡ 0 = end-takes how t in
-      event-whole stays room_after types ms ms_now calls locks locks_now rows now H after (record { worker = w; kind = end_event how t }) room more max whole
+      event-whole stays room_after types ms ms_now calls rows now H after (record { worker = w; kind = end_event how t }) room more max whole
       (end-may how (objects_of ms) H w t opened) end-moved appended (omega (arith, low, fits))
       (subst (λ n. length H + open_count (seen H) + n ≤ more) (sym free) (omega (arith, reserved, grown)))
       (subst (λ n. length H + open_count (seen H) + n ≤ max) (sym free) (omega (arith, limited)))
 
   -- and callers see the event
-  pub end-shown : TypesStay → (T : Type 0) (x : T) (max forgotten : ℕ) (s : Stored) → shown (keeping ms locks rows) H max forgotten ≡ s
-      → Steps {T = T} s w (end_command how t) (Ok x) (shown (keeping ms_now locks_now now) after max forgotten)
+  pub end-shown : TypesStay → (T : Type 0) (x : T) (max forgotten : ℕ) (s : Stored) → shown (keeping ms rows) H max forgotten ≡ s
+      → Steps {T = T} s w (end_command how t) (Ok x) (shown (keeping ms_now now) after max forgotten)
   end-shown types T x max forgotten s same =
-      event-shown types T (keeping ms locks rows) (keeping ms_now locks_now now) H after w max forgotten (end_event how t) (end_command how t) x s same end-moved appended
+      event-shown types T (keeping ms rows) (keeping ms_now now) H after w max forgotten (end_event how t) (end_command how t) x s same end-moved appended
       (end-refusal how (objects_of ms) max H t true opened) (end-makes how (objects_of ms) (seen H) t)

@@ -1,5 +1,5 @@
 -- The execution of an operation at an object.
-use Rattle.std.proofs.Common.{◌≡◌, ℕ, ◌<◌, true, List, [], ◌∷◌, ◌++◌, length, map, set, get_or, Option, Some, Ok, Err, Result, OnErr, slice_get, refl, sym, ap, subst, ◌∙◌}
+use Rattle.std.proofs.Common.{◌≡◌, ℕ, ◌<◌, true, List, length, map, set, get_or, Option, Some, Ok, Err, Result, OnErr, slice_get, refl, sym, ap, ◌∙◌}
 use Rattle.std.specs.Option.{option_map}
 use Rattle.std.specs.Result.{is_err}
 use Rattle.std.proofs.lemmas.Bool.{true≢false}
@@ -8,9 +8,7 @@ use Rattle.std.proofs.lemmas.Option.{slice_get-map, slice_get_read}
 use Rattle.std.proofs.Math.Seq.{map-set_same}
 use Rattle.object_trait.specs.Meaning.{Meaning}
 use Rattle.object_trait.specs.Steps.{applied}
-use Rattle.op_locks.specs.Locks.{Locks}
 use Rattle.open_transactions.specs.Transactions.{Row, pushed, changed}
-use Rattle.store_laws.specs.Kept.{held_of}
 use Rattle.store.specs.Executed.{IsExecuted}
 
 -- what holds in any case holds of an error
@@ -31,19 +29,14 @@ seen-at f xs x a inside is = slice_get-map f xs x ∙ ap (option_map f) (slice_g
 pub unseen-at : {A B : Type 0} (f : A → B) (xs : List A) (x : ℕ) (a b : A) → a ≡ get_or xs x a → f b ≡ f a → map f (set xs x b) ≡ map f xs
 unseen-at f xs x a b is same = map-set_same f xs x b a (same ∙ ap f is)
 
--- one entry more, one operation more that is held, and one place more
-pub executed : {A : Type 0} (meaning : A → Meaning) (objects : List A) (locks : List Locks) (rows reserved left : List (Option Row)) (t x k : ℕ) (before after : A)
-    (list roomy longer : Locks) → x < length objects → length locks ≡ length objects → before ≡ get_or objects x before → list ≡ get_or locks x list
-    → meaning after ≡ applied (meaning before) t k → roomy.held ≡ list.held → longer.held ≡ roomy.held ++ (record { by = t; op = k }) ∷ [] → reserved ≡ rows
-    → left ≡ changed reserved t (pushed x) → IsExecuted t x k (map meaning objects) (map meaning (set objects x after)) locks (set locks x longer) rows left
-executed meaning objects locks rows reserved left t x k before after list roomy longer inside as_many is_object is_list does same holds stays pushes =
+-- one entry more, and one place more
+pub executed : {A : Type 0} (meaning : A → Meaning) (objects : List A) (rows reserved left : List (Option Row)) (t x k : ℕ) (before after : A) → x < length objects
+    → before ≡ get_or objects x before → meaning after ≡ applied (meaning before) t k → reserved ≡ rows → left ≡ changed reserved t (pushed x)
+    → IsExecuted t x k (map meaning objects) (map meaning (set objects x after)) rows left
+executed meaning objects rows reserved left t x k before after inside is_object does stays pushes =
     record {
       m = meaning before;
       there = seen-at meaning objects x before inside is_object;
       object = map-set meaning objects x after ∙ ap (set (map meaning objects) x) does;
-      list = list.held;
-      held = seen-at (λ (l : Locks). l.held) locks x list (subst (λ n. x < n) (sym as_many) inside) is_list;
-      lists = map-set (λ (l : Locks). l.held) locks x longer
-          ∙ ap (set (held_of locks) x) (holds ∙ ap (λ held. held ++ (record { by = t; op = k }) ∷ []) same);
       row = pushes ∙ ap (λ r. changed r t (pushed x)) stays;
     }

@@ -23,7 +23,8 @@ use Rattle.store_laws.specs.Words.{as_event}
 use Rattle.store.specs.Calls.{op_call_at, CallsIf}
 use Rattle.store.specs.Follows.{Follows, IsMade, IsOfCallAlone, answered}
 use Rattle.serial_order.specs.View.{is_of_call}
-use Rattle.serial_order.specs.Answer.{first_below, found_or, blocker, busy_with, refused, is_reply, is_free_reply, event_of_call}
+use Rattle.type_table.specs.Least.{first_below, found_or}
+use Rattle.serial_order.specs.Answer.{blocker, busy_with, refused, is_free_reply, event_of_call}
 use Rattle.serial_order.specs.Replay.{call_event, call_at, event_of}
 use Rattle.serial_order.specs.declared.entry.Entry.{Entry}
 use Rattle.serial_order.specs.declared.command.Command.{Command}

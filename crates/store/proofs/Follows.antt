@@ -7,7 +7,8 @@ use Rattle.object_trait.specs.declared.event.Event.{Event}
 use Rattle.object_trait.specs.declared.event.EventKind.{EventKind}
 use Rattle.object_trait.specs.declared.event.EventKind.TheVariants as kind
 use Rattle.serial_order.specs.History.{Seen, seen}
-use Rattle.serial_order.specs.Answer.{first_below, blocker, busy_with, refused, answered, is_reply}
+use Rattle.type_table.specs.Least.{first_below}
+use Rattle.serial_order.specs.Answer.{blocker, busy_with, refused, answered, is_reply}
 use Rattle.serial_order.specs.Replay.{call_event, call_at, event_of}
 use Rattle.serial_order.specs.declared.entry.Entry.{Entry}
 use Rattle.serial_order.specs.declared.command.Command.{Command}

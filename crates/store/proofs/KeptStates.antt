@@ -5,9 +5,9 @@ use Rattle.std.proofs.lemmas.List.{map-append}
 use Rattle.std.proofs.lemmas.Option.{slice_get-map}
 use Rattle.type_table.specs.Run.{run}
 use Rattle.type_table.specs.Laws.{RunsAlong}
-use Rattle.type_table.specs.declared.kind.Kind.{Kind}
-use Rattle.type_table.specs.declared.kind.Kind.TheVariants.{Undo, Intentions}
 use Rattle.type_table.proofs.Elements.{found-map}
+use Rattle.type_table.specs.declared.kind.Kind.{Kind}
+use Rattle.type_table.specs.declared.kind.Kind.TheVariants.{Undo, Intentions, Escrow}
 use Rattle.table_checker.specs.Checked.{IsChecked}
 use Rattle.object_trait.specs.Object.{Object, object_of}
 use Rattle.object_trait.specs.Meaning.{Meaning, object, run_log, state_by, state_of}
@@ -20,7 +20,6 @@ use Rattle.serial_order.specs.Stand.{plain, StandsUndo, StandsBy, KeptAgreesBy}
 use Rattle.serial_order.specs.Laws.{AreChecked, IsSerialAndKept, CheckedHeadline}
 use Rattle.serial_order.specs.declared.entry.Entry.{Entry}
 use Rattle.serial_order.proofs.StandLogs.{ops-plain}
-use Rattle.op_locks.specs.Locks.{Locks}
 use Rattle.open_transactions.specs.Transactions.{Row}
 use Rattle.store_laws.specs.Stored.{Stored, objects, types_of}
 use Rattle.store_laws.specs.Kept.{keeping, objects_of, IsKept}
@@ -44,11 +43,12 @@ in-place : RunsAlong → (kind : Kind) (o : Object) (base : ℕ) (log : List Log
     → state_by kind o base log ≡ Some state → kind ≡ Undo → run o.table (Some o.table.initial) (ops V) ≡ Some state
 in-place along Undo o base log x C V state stands is undo = stands-run along o base log x C V stands ∙ is
 in-place along Intentions o base log x C V state stands is undo = cc
+in-place along Escrow o base log x C V state stands is undo = cc
 
 -- ---- a store
 
-module _ (headline : CheckedHeadline) (ms : List Meaning) (locks : List Locks) (rows : List (Option Row)) (H : List Event) (max forgotten : ℕ) (kept : IsKept (keeping ms locks rows) H)
-    (s : Stored) (same : shown (keeping ms locks rows) H max forgotten ≡ s) where
+module _ (headline : CheckedHeadline) (ms : List Meaning) (rows : List (Option Row)) (H : List Event) (max forgotten : ℕ) (kept : IsKept (keeping ms rows) H)
+    (s : Stored) (same : shown (keeping ms rows) H max forgotten ≡ s) where
   -- the checker said yes for each of its types
   accepted : AreChecked (types_of ms)
   accepted x c there =
@@ -74,7 +74,7 @@ module _ (headline : CheckedHeadline) (ms : List Meaning) (locks : List Locks) (
       ∙ ap (option_map object_of) (slice_get-map (λ (n : Meaning). n.checked) ms x ∙ ap (option_map (λ (n : Meaning). n.checked)) there)
 
   -- and its state
-  pub kept-shown : RunsAlong → (x state : ℕ) (m : Meaning) → slice_get ms x ≡ Some m → state_of m ≡ Some state → state < 65536 → IsKeptState s x state
+  pub kept-shown : RunsAlong → (x state : ℕ) (m : Meaning) → slice_get ms x ≡ Some m → state_of m ≡ Some state → state < 10000000 → IsKeptState s x state
   kept-shown along x state m there is short =
       let represents = (kept.objects x m there).represents in
       subst (λ (z : Stored). IsKeptState z x state) same

@@ -3,8 +3,7 @@ use Rattle.std.proofs.Common.{◌≡◌, ℕ, ◌<◌, true, false, nat_lt, List
 use Rattle.std.specs.Prelude.{if◌then◌else◌}
 use Rattle.std.specs.Option.{option_map}
 use Rattle.std.proofs.lemmas.Bool.{ltb-true, lt-ltb}
-use Rattle.std.proofs.lemmas.List.{length-map}
-use Rattle.std.proofs.lemmas.List.{get_or-map}
+use Rattle.std.proofs.lemmas.List.{length-map, get_or-map}
 use Rattle.std.proofs.lemmas.Option.{same_Some, slice_get_within}
 use Rattle.type_table.specs.Table.{call_of, first_op}
 use Rattle.type_table.specs.declared.op.Op.{Op}
@@ -15,7 +14,6 @@ use Rattle.table_checker.specs.Checked.{Checked}
 use Rattle.object_trait.specs.Object.{Object, object_of}
 use Rattle.object_trait.specs.Meaning.{Meaning, object}
 use Rattle.object_trait.specs.declared.event.Event.{Event}
-use Rattle.op_locks.specs.Locks.{Locks}
 use Rattle.open_transactions.specs.Transactions.{Row}
 use Rattle.store_laws.proofs.Objects.{object-at}
 use Rattle.store_laws.specs.Stored.{Stored, objects}
@@ -25,9 +23,9 @@ use Rattle.store.specs.Whole.{HasCalls}
 use Rattle.store.proofs.Stored.{shown}
 
 -- the object of a meaning, as callers see it
-pub object-shown : (ms : List Meaning) (locks : List Locks) (rows : List (Option Row)) (H : List Event) (max forgotten : ℕ) (s : Stored) (x : ℕ) (m : Meaning)
-    → shown (keeping ms locks rows) H max forgotten ≡ s → slice_get ms x ≡ Some m → slice_get (objects s) x ≡ Some (object m)
-object-shown ms locks rows H max forgotten s x m same there = subst (λ (z : Stored). slice_get (objects z) x ≡ Some (object m)) same (object-at ms x m there)
+pub object-shown : (ms : List Meaning) (rows : List (Option Row)) (H : List Event) (max forgotten : ℕ) (s : Stored) (x : ℕ) (m : Meaning)
+    → shown (keeping ms rows) H max forgotten ≡ s → slice_get ms x ≡ Some m → slice_get (objects s) x ≡ Some (object m)
+object-shown ms rows H max forgotten s x m same there = subst (λ (z : Stored). slice_get (objects z) x ≡ Some (object m)) same (object-at ms x m there)
 
 module _ (at : Option Object) (o : Object) (k n : ℕ) (ops : List Op) (there : at ≡ Some o) (same : ops ≡ o.table.ops) (number : n ≡ k) where
   -- an operation that isn't there has none

@@ -1,13 +1,11 @@
 -- An open transaction of a store: where its operations are, and what is known of them.
 use Rattle.std.proofs.Common.{◌≡◌, ℕ, ◌-◌, ◌<◌, ◌≤◌, true, List, length, Option, Some, None, is_some, All, refl, sym, ap, subst, ◌∙◌}
 use Rattle.std.proofs.lemmas.Bool.{true≢false}
-use Rattle.std.proofs.lemmas.List.{length-map}
 use Rattle.std.proofs.lemmas.List.Elements.{All-drop}
 use Rattle.object_trait.specs.Meaning.{Meaning}
 use Rattle.object_trait.specs.declared.event.Event.{Event}
 use Rattle.serial_order.specs.Operations.{of}
 use Rattle.serial_order.specs.History.{seen, is_open}
-use Rattle.op_locks.specs.Locks.{Locks}
 use Rattle.object_calls.specs.Ends.{HasLast}
 use Rattle.open_transactions.specs.Transactions as table
 use Rattle.open_transactions.specs.Transactions.{Row, row, places_of}
@@ -20,16 +18,11 @@ some-of None there = absurd (true≢false (sym there))
 some-of (Some a) there = (a, refl)
 
 -- what the table says of a transaction is what the history says
-pub open-alike : RowsSayWhoIsOpen → (ms : List Meaning) (locks : List Locks) (rows : List (Option Row)) (H : List Event) (t : ℕ) → IsKept (keeping ms locks rows) H
+pub open-alike : RowsSayWhoIsOpen → (ms : List Meaning) (rows : List (Option Row)) (H : List Event) (t : ℕ) → IsKept (keeping ms rows) H
     → is_open (seen H) t ≡ table.is_open rows t
-open-alike says ms locks rows H t kept = says (keeping ms locks rows) H t kept
+open-alike says ms rows H t kept = says (keeping ms rows) H t kept
 
--- as many lock lists as objects
-pub lists-alike : (ms : List Meaning) (locks : List Locks) (rows : List (Option Row)) (H : List Event) (n : ℕ) → IsKept (keeping ms locks rows) H → length ms ≡ n
-    → length locks ≡ n
-lists-alike ms locks rows H n kept many = sym (length-map locks (λ (l : Locks). l.held)) ∙ kept.lists ∙ many
-
-module _ (ms : List Meaning) (locks : List Locks) (rows : List (Option Row)) (H : List Event) (t : ℕ) (places : List ℕ) (kept : IsKept (keeping ms locks rows) H)
+module _ (ms : List Meaning) (rows : List (Option Row)) (H : List Event) (t : ℕ) (places : List ℕ) (kept : IsKept (keeping ms rows) H)
     (going : table.is_open rows t ≡ true) (its : places ≡ places_of (row rows t)) where
   -- its row
   pub its-row : (r : Row) × (row rows t ≡ Some r)
@@ -42,20 +35,20 @@ module _ (ms : List Meaning) (locks : List Locks) (rows : List (Option Row)) (H 
   pub places-inside : PlacesAreInside → (n : ℕ) → length ms ≡ n → All (λ x. x < n) places
   places-inside inside n many =
       subst (λ k. All (λ x. x < k) places) many
-      (subst (λ ps. All (λ x. x < length ms) ps) row-places (inside (keeping ms locks rows) H t its-row.0 kept its-row.1))
+      (subst (λ ps. All (λ x. x < length ms) ps) row-places (inside (keeping ms rows) H t its-row.0 kept its-row.1))
 
   pub places-counted : PlacesAreCounted → length (of t (seen H).stands) ≡ length places
-  places-counted counted = counted (keeping ms locks rows) H t its-row.0 kept its-row.1 ∙ ap length row-places
+  places-counted counted = counted (keeping ms rows) H t its-row.0 kept its-row.1 ∙ ap length row-places
 
   pub places-few : PlacesAreFew → length places ≤ length H
-  places-few few = subst (λ ps. length ps ≤ length H) row-places (few (keeping ms locks rows) H t its-row.0 kept its-row.1)
+  places-few few = subst (λ ps. length ps ≤ length H) row-places (few (keeping ms rows) H t its-row.0 kept its-row.1)
 
   -- where its last operations are
   pub struck-inside : PlacesAreInside → (n k : ℕ) (struck : List ℕ) → length ms ≡ k → struck ≡ last_places n places → All (λ x. x < k) struck
   struck-inside inside n k struck many ends =
       subst (λ ps. All (λ x. x < k) ps) (sym ends) (All-drop (λ x. x < k) (length places - n) places (places-inside inside k many))
 
-  pub struck-last : HasWhatIsStruck → (n : ℕ) (struck : List ℕ) → struck ≡ last_places n places → HasLast t struck ms locks
+  pub struck-last : HasWhatIsStruck → (n : ℕ) (struck : List ℕ) → struck ≡ last_places n places → HasLast t struck ms
   struck-last has n struck ends =
-      subst (λ ps. HasLast t ps ms locks) (sym (ends ∙ ap (last_places n) (sym row-places)))
-      (has (keeping ms locks rows) H t n its-row.0 locks kept its-row.1 refl)
+      subst (λ ps. HasLast t ps ms) (sym (ends ∙ ap (last_places n) (sym row-places)))
+      (has (keeping ms rows) H t n its-row.0 kept its-row.1)

@@ -5,7 +5,6 @@ use Rattle.table_checker.specs.Checked.{Checked}
 use Rattle.object_trait.specs.declared.event.Event.{Event}
 use Rattle.object_trait.specs.Meaning.{Meaning}
 use Rattle.object_calls.specs.declared.call.NamedCall.{NamedCall}
-use Rattle.op_locks.specs.Locks.{Locks}
 use Rattle.open_transactions.specs.Transactions.{Row}
 use Rattle.store_laws.specs.Stored.{Stored}
 use Rattle.store.specs.Whole.{IsWhole}
@@ -55,10 +54,10 @@ module _ (past K read gone left : List Event) (n : ℕ) (added : gone ≡ past +
       ∙ sym (ap length taken)
 
 -- what is kept agrees with the same events, where there is at least as much room
-pub same-whole : (ms : List Meaning) (calls : List (List NamedCall)) (locks : List Locks) (rows : List (Option Row)) (H after : List Event) (room more max : ℕ)
-    → IsWhole ms calls locks rows H room max → after ≡ H → room ≤ more → IsWhole ms calls locks rows after more max
-same-whole ms calls locks rows H after room more max whole same wider =
-    subst (λ J. IsWhole ms calls locks rows J more max) (sym same) (record {
+pub same-whole : (ms : List Meaning) (calls : List (List NamedCall)) (rows : List (Option Row)) (H after : List Event) (room more max : ℕ)
+    → IsWhole ms calls rows H room max → after ≡ H → room ≤ more → IsWhole ms calls rows after more max
+same-whole ms calls rows H after room more max whole same wider =
+    subst (λ J. IsWhole ms calls rows J more max) (sym same) (record {
       store = record { kept = whole.store.kept; reserved = omega (arith, whole.store.reserved, wider); limited = whole.store.limited };
       few = whole.few;
       known = whole.known;

@@ -4,14 +4,13 @@ use Rattle.std.proofs.lemmas.List.{length-append, length-map}
 use Rattle.std.proofs.lemmas.Option.{none-some, same_Some, slice_get_within}
 use Rattle.type_table.specs.Laws.{RunsAlong}
 use Rattle.type_table.proofs.Elements.{cases-more, element_at, found-map}
-use Rattle.table_checker.specs.Checked.{Checked, IsChecked}
 use Rattle.table_checker.specs.At.{checked_at}
+use Rattle.table_checker.specs.Checked.{Checked, IsChecked}
 use Rattle.object_trait.specs.Meaning.{Meaning, state_of}
 use Rattle.object_trait.specs.declared.event.Event.{Event}
 use Rattle.serial_order.specs.History.{seen, is_open}
 use Rattle.serial_order.specs.Laws.{AreChecked, CheckedHeadline}
 use Rattle.serial_order.specs.Epochs.{types_at, ClosedIsEpoch}
-use Rattle.op_locks.specs.Locks.{Locks}
 use Rattle.open_transactions.specs.Transactions.{Row}
 use Rattle.store_laws.specs.Kept.{keeping, IsKept}
 use Rattle.store_laws.specs.Stored.{Stored, types_of}
@@ -51,9 +50,9 @@ renewed-all ms now capacity i first all = record { as_many = first.as_many ∙ a
 
 -- ---- the states that were kept
 
--- the state of an object, in two bytes
+-- the state of an object, of at most seven digits
 abbrev IsStateOf : Meaning → ℕ → Type 0
-IsStateOf m s = (state_of m ≡ Some s) × (s < 65536)
+IsStateOf m s = (state_of m ≡ Some s) × (s < 10000000)
 
 -- their list, and the types at them
 pub record AreKept (ms now : List Meaning) : Type 0 where
@@ -86,7 +85,7 @@ kept-of (m ∷ ms) (n ∷ now) all =
 
 -- ---- the store
 
-module _ (ms : List Meaning) (locks : List Locks) (rows : List (Option Row)) (K : List Event) (kept : IsKept (keeping ms locks rows) K) where
+module _ (ms : List Meaning) (rows : List (Option Row)) (K : List Event) (kept : IsKept (keeping ms rows) K) where
   -- the checker said yes for each of its types
   accepted : AreChecked (types_of ms)
   accepted x c there =
@@ -95,16 +94,16 @@ module _ (ms : List Meaning) (locks : List Locks) (rows : List (Option Row)) (K 
 
   -- each state is the one that is kept there
   are-kept : CheckedHeadline → RunsAlong → (now : List Meaning) (max forgotten : ℕ) (its : AreKept ms now) (x s : ℕ) → slice_get its.kept x ≡ Some s
-      → IsKeptState (shown (keeping ms locks rows) K max forgotten) x s
+      → IsKeptState (shown (keeping ms rows) K max forgotten) x s
   are-kept headline along now max forgotten its x s here =
       let low : x < length ms = omega (arith, its.as_many, slice_get_within its.kept x s here) in
       let found = element_at ms x low in
       let is = its.states x found.0 s found.1 here in
-      kept-shown headline ms locks rows K max forgotten kept (shown (keeping ms locks rows) K max forgotten) refl along x s found.0 found.1 is.0 is.1
+      kept-shown headline ms rows K max forgotten kept (shown (keeping ms rows) K max forgotten) refl along x s found.0 found.1 is.0 is.1
 
   -- its history is an epoch, and the new one is of the types at the kept states
   pub renews-shown : CheckedHeadline → RunsAlong → ClosedIsEpoch → (now : List Meaning) (max forgotten : ℕ) (new : Stored) → ((t : ℕ) → is_open (seen K) t ≡ false) → AreRenewed ms now
-      → new ≡ stored (types_of now) [] max 0 → Renews (shown (keeping ms locks rows) K max forgotten) new
+      → new ≡ stored (types_of now) [] max 0 → Renews (shown (keeping ms rows) K max forgotten) new
   renews-shown headline along closed now max forgotten new none all made =
       let its = kept-of ms now all in
       record {
@@ -117,9 +116,9 @@ module _ (ms : List Meaning) (locks : List Locks) (rows : List (Option Row)) (K 
       }
 
 -- and so as its callers see it
-pub renews : CheckedHeadline → RunsAlong → ClosedIsEpoch → (ms now : List Meaning) (locks : List Locks) (rows : List (Option Row)) (K : List Event) (max forgotten : ℕ) (s new : Stored)
-    → shown (keeping ms locks rows) K max forgotten ≡ s → IsKept (keeping ms locks rows) K → ((t : ℕ) → is_open (seen s.history) t ≡ false) → AreRenewed ms now
+pub renews : CheckedHeadline → RunsAlong → ClosedIsEpoch → (ms now : List Meaning) (rows : List (Option Row)) (K : List Event) (max forgotten : ℕ) (s new : Stored)
+    → shown (keeping ms rows) K max forgotten ≡ s → IsKept (keeping ms rows) K → ((t : ℕ) → is_open (seen s.history) t ≡ false) → AreRenewed ms now
     → new ≡ stored (types_of now) [] max 0 → Renews s new
-renews headline along closed ms now locks rows K max forgotten s new same kept none all made =
+renews headline along closed ms now rows K max forgotten s new same kept none all made =
     subst (λ (z : Stored). Renews z new) same
-    (renews-shown ms locks rows K kept headline along closed now max forgotten new (subst (λ (z : Stored). (t : ℕ) → is_open (seen z.history) t ≡ false) (sym same) none) all made)
+    (renews-shown ms rows K kept headline along closed now max forgotten new (subst (λ (z : Stored). (t : ℕ) → is_open (seen z.history) t ≡ false) (sym same) none) all made)

@@ -14,7 +14,6 @@ use Rattle.serial_order.specs.Machine.{MayFollow}
 use Rattle.serial_order.specs.Replay.{open_count, refusal, is_full}
 use Rattle.serial_order.specs.declared.command.Command.TheVariants as command
 use Rattle.serial_order.specs.declared.refusal.Refusal.TheVariants.{NotOpen, BadRollback, HistoryFull}
-use Rattle.op_locks.specs.Locks.{Locks, without_last}
 use Rattle.object_calls.specs.Ends.{ChangesAt, count_at}
 use Rattle.open_transactions.specs.Transactions as table
 use Rattle.open_transactions.specs.Transactions.{Row, row, places_of, count_open, changed}
@@ -62,21 +61,21 @@ some-living living n some few =
     ap (λ b. b || nat_lt living n) first ∙ second
 
 -- where the transaction has no row
-pub rollback-closed : RowsSayWhoIsOpen → (ms : List Meaning) (locks : List Locks) (rows : List (Option Row)) (H : List Event) (t n max : ℕ) → IsKept (keeping ms locks rows) H
+pub rollback-closed : RowsSayWhoIsOpen → (ms : List Meaning) (rows : List (Option Row)) (H : List Event) (t n max : ℕ) → IsKept (keeping ms rows) H
     → table.is_open rows t ≡ false → refusal (objects_of ms) max H (command.Rollback t n) ≡ Some NotOpen
-rollback-closed says ms locks rows H t n max kept ended =
-    rollback-refusal (objects_of ms) max H t n false _ _ (open-alike says ms locks rows H t kept ∙ ended) refl refl
+rollback-closed says ms rows H t n max kept ended =
+    rollback-refusal (objects_of ms) max H t n false _ _ (open-alike says ms rows H t kept ∙ ended) refl refl
 
 -- and where it has one
-module _ (says : RowsSayWhoIsOpen) (living : PlacesAreCounted) (ms : List Meaning) (locks : List Locks) (rows : List (Option Row)) (H : List Event) (t n max : ℕ) (places : List ℕ)
-    (kept : IsKept (keeping ms locks rows) H) (going : table.is_open rows t ≡ true) (its : places ≡ places_of (row rows t)) where
+module _ (says : RowsSayWhoIsOpen) (living : PlacesAreCounted) (ms : List Meaning) (rows : List (Option Row)) (H : List Event) (t n max : ℕ) (places : List ℕ)
+    (kept : IsKept (keeping ms rows) H) (going : table.is_open rows t ≡ true) (its : places ≡ places_of (row rows t)) where
   -- it is open
   going-on : is_open (seen H) t ≡ true
-  going-on = open-alike says ms locks rows H t kept ∙ going
+  going-on = open-alike says ms rows H t kept ∙ going
 
   -- as many of its operations live as its row has places
   as-living : (bad : Bool) → (n == 0 || nat_lt (length places) n) ≡ bad → (n == 0 || nat_lt (length (of t (seen H).stands)) n) ≡ bad
-  as-living bad test = ap (λ m. n == 0 || nat_lt m n) (places-counted ms locks rows H t places kept going its living) ∙ test
+  as-living bad test = ap (λ m. n == 0 || nat_lt m n) (places-counted ms rows H t places kept going its living) ∙ test
 
   -- none is to be struck, or more than live
   pub rollback-bad : (n ≡ 0) ⊎ (length places < n) → refusal (objects_of ms) max H (command.Rollback t n) ≡ Some BadRollback
@@ -87,7 +86,7 @@ module _ (says : RowsSayWhoIsOpen) (living : PlacesAreCounted) (ms : List Meanin
   module _ (counted : RowsAreCounted) (opened : ℕ) (counts : opened ≡ count_open rows) (some : 0 < n) (few : n ≤ length places) where
     -- so many transactions are open
     open-seen : opened ≡ open_count (seen H)
-    open-seen = counts ∙ sym (counted (keeping ms locks rows) H kept)
+    open-seen = counts ∙ sym (counted (keeping ms rows) H kept)
 
     -- its number is right
     there : (n == 0 || nat_lt (length (of t (seen H).stands)) n) ≡ false
@@ -105,7 +104,7 @@ module _ (says : RowsSayWhoIsOpen) (living : PlacesAreCounted) (ms : List Meanin
 
   -- its event may follow
   pub rollback-may : (w : ℕ) → 0 < n → n ≤ length places → MayFollow (objects_of ms) H (record { worker = w; kind = Rollback t n })
-  rollback-may w some few = (going-on, some, subst (λ m. n ≤ m) (sym (places-counted ms locks rows H t places kept going its living)) few)
+  rollback-may w some few = (going-on, some, subst (λ m. n ≤ m) (sym (places-counted ms rows H t places kept going its living)) few)
 
 -- ---- what it does
 
@@ -113,42 +112,40 @@ module _ (says : RowsSayWhoIsOpen) (living : PlacesAreCounted) (ms : List Meanin
 pub places-from : (n : ℕ) (places : List ℕ) → take (length places - (length places - n)) (drop (length places - n) places) ≡ last_places n places
 places-from n places = take_rest places (length places - n)
 
--- at each object where one of the last n operations is, as many are struck and given up as are there
-module _ (moves : RollbackMoves) (ms ms_now : List Meaning) (locks locks_now : List Locks) (rows now : List (Option Row)) (H after : List Event) (w t n left : ℕ)
-    (places struck : List ℕ) (kept : IsKept (keeping ms locks rows) H) (going : table.is_open rows t ≡ true) (its : places ≡ places_of (row rows t))
+-- at each object where one of the last n operations is, as many are struck as are there
+module _ (moves : RollbackMoves) (ms ms_now : List Meaning) (rows now : List (Option Row)) (H after : List Event) (w t n left : ℕ)
+    (places struck : List ℕ) (kept : IsKept (keeping ms rows) H) (going : table.is_open rows t ≡ true) (its : places ≡ places_of (row rows t))
     (ends : struck ≡ last_places n places) (objects : ChangesAt struck (λ x m k. IsStrike m t (count_at x struck) k) ms ms_now)
-    (held : ChangesAt struck (λ x a b. b.held ≡ without_last t (count_at x struck) a.held) locks locks_now)
     (rest : left ≡ length places - n) (fewer : now ≡ changed rows t (table.kept left))
     (appended : after ≡ H ++ (record { worker = w; kind = Rollback t n }) ∷ []) where
   -- its row has the first places
-  rows-left : now ≡ set rows t (Some (without_places n (its-row ms locks rows H t places kept going its).0))
+  rows-left : now ≡ set rows t (Some (without_places n (its-row ms rows H t places kept going its).0))
   rows-left =
-      let found = its-row ms locks rows H t places kept going its in
+      let found = its-row ms rows H t places kept going its in
       fewer
       ∙ ap (λ r. set rows t (option_map (table.kept left) r)) found.1
-      ∙ ap (λ k. set rows t (Some (table.kept k found.0))) (rest ∙ ap (λ ps. length ps - n) (sym (row-places ms locks rows H t places kept going its)))
+      ∙ ap (λ k. set rows t (Some (table.kept k found.0))) (rest ∙ ap (λ ps. length ps - n) (sym (row-places ms rows H t places kept going its)))
 
   -- and so it is what its event does to what is kept
-  rollback-moved : Moves (keeping ms locks rows) (keeping ms_now locks_now now) H (record { worker = w; kind = Rollback t n })
+  rollback-moved : Moves (keeping ms rows) (keeping ms_now now) H (record { worker = w; kind = Rollback t n })
   rollback-moved =
-      let found = its-row ms locks rows H t places kept going its in
-      let same : struck ≡ last_places n (found.0).places = ends ∙ ap (last_places n) (sym (row-places ms locks rows H t places kept going its)) in
-      moves (keeping ms locks rows) (keeping ms_now locks_now now) H w t n found.0 locks locks_now kept found.1 refl refl
+      let found = its-row ms rows H t places kept going its in
+      let same : struck ≡ last_places n (found.0).places = ends ∙ ap (last_places n) (sym (row-places ms rows H t places kept going its)) in
+      moves (keeping ms rows) (keeping ms_now now) H w t n found.0 kept found.1
       (subst (λ ps. ChangesAt ps (λ x m k. IsStrike m t (count_at x ps) k) ms ms_now) same objects)
-      (subst (λ ps. ChangesAt ps (λ x (a : Locks) (b : Locks). b.held ≡ without_last t (count_at x ps) a.held) locks locks_now) same held)
       rows-left
 
   -- the store stays whole
   pub rollback-whole : StaysKept → RoomAfter → TypesStay → RowsAreCounted → MayFollow (objects_of ms) H (record { worker = w; kind = Rollback t n })
-      → (calls : List (List NamedCall)) (opened room more max : ℕ) → IsWhole ms calls locks rows H room max → opened ≡ count_open rows → max ≤ 4294967295
-      → length H + opened + 1 ≤ more → length H + opened + 1 ≤ max → IsWhole ms_now calls locks_now now after more max
+      → (calls : List (List NamedCall)) (opened room more max : ℕ) → IsWhole ms calls rows H room max → opened ≡ count_open rows → max ≤ 4294967295
+      → length H + opened + 1 ≤ more → length H + opened + 1 ≤ max → IsWhole ms_now calls now after more max
   rollback-whole stays room_after types counted may calls opened room more max whole counts fits reserved limited =
-      let same : opened ≡ open_count (seen H) = counts ∙ sym (counted (keeping ms locks rows) H kept) in
-      event-whole stays room_after types ms ms_now calls locks locks_now rows now H after (record { worker = w; kind = Rollback t n }) room more max whole may
+      let same : opened ≡ open_count (seen H) = counts ∙ sym (counted (keeping ms rows) H kept) in
+      event-whole stays room_after types ms ms_now calls rows now H after (record { worker = w; kind = Rollback t n }) room more max whole may
       rollback-moved appended (omega (arith, limited, fits)) (subst (λ m. length H + m + 1 ≤ more) same reserved) (subst (λ m. length H + m + 1 ≤ max) same limited)
 
   -- and callers see the event
-  pub rollback-shown : TypesStay → (T : Type 0) (x : T) (max forgotten : ℕ) (s : Stored) → shown (keeping ms locks rows) H max forgotten ≡ s
-      → refusal (objects_of ms) max H (command.Rollback t n) ≡ None → Steps {T = T} s w (command.Rollback t n) (Ok x) (shown (keeping ms_now locks_now now) after max forgotten)
+  pub rollback-shown : TypesStay → (T : Type 0) (x : T) (max forgotten : ℕ) (s : Stored) → shown (keeping ms rows) H max forgotten ≡ s
+      → refusal (objects_of ms) max H (command.Rollback t n) ≡ None → Steps {T = T} s w (command.Rollback t n) (Ok x) (shown (keeping ms_now now) after max forgotten)
   rollback-shown types T x max forgotten s same unrefused =
-      event-shown types T (keeping ms locks rows) (keeping ms_now locks_now now) H after w max forgotten (Rollback t n) (command.Rollback t n) x s same rollback-moved appended unrefused refl
+      event-shown types T (keeping ms rows) (keeping ms_now now) H after w max forgotten (Rollback t n) (command.Rollback t n) x s same rollback-moved appended unrefused refl

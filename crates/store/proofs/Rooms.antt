@@ -5,7 +5,6 @@ use Rattle.std.proofs.lemmas.Bool.{true≢false}
 use Rattle.std.proofs.lemmas.Bool.Decides.{nat_tests}
 use Rattle.object_trait.specs.Meaning.{Meaning}
 use Rattle.object_trait.specs.declared.event.Event.{Event}
-use Rattle.op_locks.specs.Locks.{Locks}
 use Rattle.open_transactions.specs.Transactions.{Row}
 use Rattle.store_laws.specs.Kept.{keeping, IsKept}
 use Rattle.store_laws.specs.Before.{RowsAreFew}
@@ -16,10 +15,10 @@ succeeded (Ok x) fine fact = fact
 succeeded (Err e) fine fact = absurd (true≢false fine)
 
 -- fewer began than there may be events
-pub rows-fit : RowsAreFew → (ms : List Meaning) (locks : List Locks) (rows now : List (Option Row)) (H : List Event) (max : ℕ) → IsKept (keeping ms locks rows) H → now ≡ rows
+pub rows-fit : RowsAreFew → (ms : List Meaning) (rows now : List (Option Row)) (H : List Event) (max : ℕ) → IsKept (keeping ms rows) H → now ≡ rows
     → length H < max → length now < max
-rows-fit few ms locks rows now H max kept same short =
-    let most = few (keeping ms locks rows) H kept in
+rows-fit few ms rows now H max kept same short =
+    let most = few (keeping ms rows) H kept in
     subst (λ r. length r < max) (sym same) (omega (arith, most, short))
 
 -- what the test of room says

@@ -15,7 +15,6 @@ use Rattle.store_laws.specs.Kept.{Keeping, keeping, objects_of, IsStore}
 use Rattle.store_laws.specs.Moves.{Moves, StaysKept}
 use Rattle.store_laws.specs.Events.{takes, TypesStay, RoomAfter}
 use Rattle.open_transactions.specs.Transactions.{Row}
-use Rattle.op_locks.specs.Locks.{Locks}
 use Rattle.object_trait.specs.Meaning.{Meaning}
 use Rattle.object_calls.specs.declared.call.NamedCall.{NamedCall}
 use Rattle.store.specs.Whole.{HasCalls, IsWhole}
@@ -69,15 +68,15 @@ event-store stays room_after old new H after e room more max store may moves app
     })
 
 -- and so for all parts of a store
-pub event-whole : StaysKept → RoomAfter → TypesStay → (ms now : List Meaning) (calls : List (List NamedCall)) (locks lists : List Locks) (rows left : List (Option Row))
-    (H after : List Event) (e : Event) (room more max : ℕ) → IsWhole ms calls locks rows H room max → MayFollow (objects_of ms) H e
-    → Moves (keeping ms locks rows) (keeping now lists left) H e → after ≡ H ++ e ∷ [] → length H < 4294967295
-    → length H + open_count (seen H) + takes e.kind ≤ more → length H + open_count (seen H) + takes e.kind ≤ max → IsWhole now calls lists left after more max
-event-whole stays room_after types ms now calls locks lists rows left H after e room more max whole may moves appended short reserved limited =
-    let same : types_of now ≡ types_of ms = types (keeping ms locks rows) (keeping now lists left) H e moves in
+pub event-whole : StaysKept → RoomAfter → TypesStay → (ms now : List Meaning) (calls : List (List NamedCall)) (rows left : List (Option Row))
+    (H after : List Event) (e : Event) (room more max : ℕ) → IsWhole ms calls rows H room max → MayFollow (objects_of ms) H e
+    → Moves (keeping ms rows) (keeping now left) H e → after ≡ H ++ e ∷ [] → length H < 4294967295
+    → length H + open_count (seen H) + takes e.kind ≤ more → length H + open_count (seen H) + takes e.kind ≤ max → IsWhole now calls left after more max
+event-whole stays room_after types ms now calls rows left H after e room more max whole may moves appended short reserved limited =
+    let same : types_of now ≡ types_of ms = types (keeping ms rows) (keeping now left) H e moves in
     let as_many : length now ≡ length ms = sym (length-map now (λ m. m.checked)) ∙ ap length same ∙ length-map ms (λ m. m.checked) in
     record {
-      store = event-store stays room_after (keeping ms locks rows) (keeping now lists left) H after e room more max whole.store may moves appended short reserved limited;
+      store = event-store stays room_after (keeping ms rows) (keeping now left) H after e room more max whole.store may moves appended short reserved limited;
       few = subst (λ n. n ≤ 256) (sym as_many) whole.few;
       known = subst (λ ts. HasCalls ts calls) (sym same) whole.known;
     }

@@ -9,10 +9,10 @@ use Rattle.serial_order.specs.Stand.{KeptAgreesBy}
 use Rattle.store_laws.specs.Stored.{Stored, objects}
 
 -- the state that is kept of the object at x: with update in place exactly the one to which all that lives there leads. It agrees with
--- the serial state, and has two bytes
+-- the serial state, and has at most seven digits
 pub record IsKeptState (s : Stored) (x state : ℕ) : Type 0 where
   pub o : Object
   pub there : slice_get (objects s) x ≡ Some o
   pub in_place : o.kind ≡ Undo → run o.table (Some o.table.initial) (ops (standing_at x s.history)) ≡ Some state
   pub agrees : KeptAgreesBy o.kind o (Some state) x s.history
-  pub short : state < 65536
+  pub short : state < 10000000

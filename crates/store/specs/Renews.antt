@@ -1,7 +1,6 @@
 -- A store that begins anew at the states that it kept.
 use Rattle.std.specs.Prelude.{◌≡◌, ℕ, ◌<◌, List, [], length, true, false, Some, slice_get}
-use Rattle.type_table.specs.StateSet.{has}
-use Rattle.table_checker.specs.At.{checked_at}
+use Rattle.table_checker.specs.At.{checked_at, IsInside}
 use Rattle.object_trait.specs.Meaning.{Meaning, state_of}
 use Rattle.object_trait.specs.Steps.{IsFresh}
 use Rattle.serial_order.specs.History.{seen, is_open}
@@ -17,7 +16,7 @@ use Rattle.store.specs.declared.refusals.RenewRefusal.TheVariants.{StillOpen, No
 pub record IsRenewed (m new : Meaning) : Type 0 where
   pub kept : ℕ
   pub state : state_of m ≡ Some kept
-  pub short : kept < 65536
+  pub short : kept < 10000000
   pub fresh : IsFresh new
   pub checked : new.checked ≡ checked_at m.checked kept
 
@@ -25,9 +24,9 @@ pub record AreRenewed (ms now : List Meaning) : Type 0 where
   pub as_many : length now ≡ length ms
   pub each : (x : ℕ) (m new : Meaning) → slice_get ms x ≡ Some m → slice_get now x ≡ Some new → IsRenewed m new
 
--- each state is one of its type's set
+-- at each state its type may begin
 abbrev pub AreInside : List Meaning → Type 0
-AreInside ms = (x : ℕ) (m : Meaning) (s : ℕ) → slice_get ms x ≡ Some m → state_of m ≡ Some s → has m.checked.file.reach s ≡ true
+AreInside ms = (x : ℕ) (m : Meaning) (s : ℕ) → slice_get ms x ≡ Some m → state_of m ≡ Some s → IsInside m.checked s
 
 -- ---- a store
 

@@ -6,7 +6,6 @@ use Rattle.object_calls.specs.declared.call.NamedCall.{NamedCall}
 use Rattle.table_checker.specs.Checked.{Checked}
 use Rattle.object_trait.specs.Meaning.{Meaning}
 use Rattle.object_trait.specs.declared.event.Event.{Event}
-use Rattle.op_locks.specs.Locks.{Locks}
 use Rattle.open_transactions.specs.Transactions.{Row}
 use Rattle.store_laws.specs.Stored.{types_of}
 use Rattle.store_laws.specs.Kept.{keeping, IsStore}
@@ -17,7 +16,7 @@ pub record HasCalls (types : List Checked) (calls : List (List NamedCall)) : Typ
   pub each : (x : ℕ) (c : Checked) (its : List NamedCall) → slice_get types x ≡ Some c → slice_get calls x ≡ Some its → IsCallTable c.file.table its
 
 -- what is kept agrees with the history, there are at most 256 objects, and the calls are those of their types
-pub record IsWhole (ms : List Meaning) (calls : List (List NamedCall)) (locks : List Locks) (rows : List (Option Row)) (H : List Event) (capacity max : ℕ) : Type 0 where
-  pub store : IsStore (keeping ms locks rows) H capacity max
+pub record IsWhole (ms : List Meaning) (calls : List (List NamedCall)) (rows : List (Option Row)) (H : List Event) (capacity max : ℕ) : Type 0 where
+  pub store : IsStore (keeping ms rows) H capacity max
   pub few : length ms ≤ most_objects
   pub known : HasCalls (types_of ms) calls

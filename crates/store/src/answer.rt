@@ -67,14 +67,7 @@ impl<R: Recovery> Store<R> {
             return Err(Refusal::NoMemory);
         }
         if let Answer::Reply(k) = answer {
-            let executed = execute(
-                &mut self.objects,
-                &mut self.locks,
-                &mut self.transactions,
-                t,
-                x,
-                k,
-            );
+            let executed = execute(&mut self.objects, &mut self.transactions, t, x, k);
             if executed.is_err() {
                 return Err(Refusal::NoMemory);
             }

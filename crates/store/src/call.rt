@@ -77,7 +77,7 @@ impl<R: Recovery> Store<R> {
         ensures { result ≡ op_call_at (slice_get (objects self.now) x) k }
     {
         let object = self.objects.get(x as usize)?;
-        let op = object.checked().table().ops().get(usize::from(k))?;
+        let op = object.ops().get(usize::from(k))?;
         let call = self.calls[x as usize].by_bytes(op.call.as_bytes())?;
         Some(call.first)
     }

@@ -29,7 +29,6 @@ impl<R: Recovery> Store<R> {
         let Store {
             objects,
             calls: _,
-            locks: _,
             transactions: _,
             past: _,
             forgotten: _,

@@ -55,13 +55,7 @@ impl<R: Recovery> Store<R> {
         if !self.transactions.is_open(t) {
             return Err(Refusal::NotOpen);
         }
-        end_at(
-            &mut self.objects,
-            &mut self.locks,
-            self.transactions.places(t),
-            t,
-            how,
-        );
+        end_at(&mut self.objects, self.transactions.places(t), t, how);
         self.transactions.end(t);
         let kind = kind_of_end(how, t);
         self.history.push_reserved(Event { worker: w, kind });

@@ -1,8 +1,7 @@
 //! Objects that begin anew at their states.
 
 ghost use Rattle.std.specs.Prelude.{◌≡◌, ℕ, true, map, Some, IfOk, IfSome};
-ghost use Rattle.type_table.specs.StateSet.{has};
-ghost use Rattle.table_checker.specs.At.{checked_at};
+ghost use Rattle.table_checker.specs.At.{checked_at, IsInside};
 ghost use Rattle.object_trait.specs.Meaning.{state_of};
 ghost use Rattle.store.specs.Renews.{AreInside, AreRenewed, IsRenewed};
 
@@ -38,7 +37,7 @@ fn renewed_object<R: Renew>(
     types: &mut Vec<Arc<CheckedType>>,
     object: &R,
 ) -> Result<R, AllocError>
-    requires { (s : ℕ) → state_of (R.meaning object.now) ≡ Some s → has (R.meaning object.now).checked.file.reach s ≡ true }
+    requires { (s : ℕ) → state_of (R.meaning object.now) ≡ Some s → IsInside (R.meaning object.now).checked s }
     ensures { IfOk result (λ new. IsRenewed (R.meaning object.now) (R.meaning new)) }
 {
     let state = object.state();
@@ -46,21 +45,24 @@ fn renewed_object<R: Renew>(
     Ok(object.renewed(alloc, shared))
 }
 
-/// The type, beginning at this state of its set: one of these, or else one that is made and is the last
+/// The type, beginning at this state, where it may: one of these, or else one that is made and is the last
 /// of them then.
 fn shared_at(
     alloc: Global,
     types: &mut Vec<Arc<CheckedType>>,
     checked: &CheckedType,
-    state: u16,
+    state: u32,
 ) -> Result<Arc<CheckedType>, AllocError>
-    requires { has checked.now.file.reach state ≡ true }
+    requires { IsInside checked.now state }
     ensures { IfOk result (λ shared. shared.value ≡ checked_at checked.now state) }
 {
-    if let Some(shared) = found_at(types, checked, state) {
+    // (read for its clause that there is a table, so that each of its states is small)
+    let _file = checked.file();
+    let at = state as u16;
+    if let Some(shared) = found_at(types, checked, at) {
         return Ok(Arc::clone(shared)?);
     }
-    let made = checked.at(alloc, state)?.unwrap();
+    let made = checked.at(alloc, at)?.unwrap();
     let shared = Arc::new(alloc, made)?;
     types.push(Arc::clone(&shared)?)?;
     Ok(shared)

@@ -14,8 +14,8 @@ use store_laws::{
 };
 
 impl<R: Recovery> Store<R> {
-    /// Strikes the last n operations of transaction t that live, over all objects together, and gives
-    /// up what was held for them, as worker w. The transaction stays open.
+    /// Strikes the last n operations of transaction t that live, over all objects together, as worker w.
+    /// The transaction stays open.
     ///
     /// # Errors
     ///
@@ -49,12 +49,7 @@ impl<R: Recovery> Store<R> {
             return Err(Refusal::NoMemory);
         }
         let left = living - n;
-        strike_at(
-            &mut self.objects,
-            &mut self.locks,
-            &places[left as usize..],
-            t,
-        );
+        strike_at(&mut self.objects, &places[left as usize..], t);
         self.transactions.keep_places(t, left);
         self.history.push_reserved(Event {
             worker: w,

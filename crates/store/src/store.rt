@@ -10,12 +10,11 @@ ghost use Rattle.store_laws.specs.Stored.{objects, types_of};
 ghost use Rattle.store.specs.Ends.{MayBegin, Refuses};
 ghost use Rattle.store.specs.KeptState.{IsKeptState};
 
-use crate::parts::{Parts, parts_of};
+use crate::parts::checked_calls;
 use crate::past::Past;
 use crate::refusals::NewRefusal;
 use object_calls::CallTable;
-use object_trait::{Event, Recovery};
-use op_locks::OpLocks;
+use object_trait::{Event, Recovery, Renew};
 use open_transactions::OpenTransactions;
 use serial_order::checked_headline;
 use std::alloc::Global;
@@ -35,8 +34,6 @@ pub struct Store<R: Recovery> {
     pub(crate) objects: Vec<R>,
     // The calls of each object's type.
     pub(crate) calls: Vec<CallTable>,
-    // What open transactions hold at each object.
-    pub(crate) locks: Vec<OpLocks>,
     pub(crate) transactions: OpenTransactions,
     // The events that were forgotten, which only contracts read, and how many they are.
     pub(crate) past: Past,
@@ -60,7 +57,7 @@ impl<R: Recovery> Model for Store<R> {
       forgotten = s.forgotten;
     } };
 
-    ghost invariant = { λ s. (s.forgotten ≡ length s.past.items) × IsWhole (map R.meaning s.objects.items) s.calls.items s.locks.items s.transactions.rows (s.past.items ++ s.history.items) (s.forgotten + vec_capacity s.history) s.max_events };
+    ghost invariant = { λ s. (s.forgotten ≡ length s.past.items) × IsWhole (map R.meaning s.objects.items) s.calls.items s.transactions.rows (s.past.items ++ s.history.items) (s.forgotten + vec_capacity s.history) s.max_events };
 }
 
 impl<R: Recovery> Store<R> {
@@ -81,14 +78,13 @@ impl<R: Recovery> Store<R> {
         ensures back { IfErr result (λ e. e.0.items ≡ objects.items) }
     {
         new_is_kept();
-        let Parts { calls, locks } = match parts_of(alloc, &objects, max_events) {
-            Ok(parts) => parts,
+        let calls = match checked_calls(alloc, &objects, max_events) {
+            Ok(calls) => calls,
             Err(refusal) => return Err((objects, refusal)),
         };
         Ok(Store {
             objects,
             calls,
-            locks,
             transactions: OpenTransactions::new(alloc),
             past: Past::new(),
             forgotten: 0,
@@ -134,21 +130,12 @@ impl<R: Recovery> Store<R> {
         self.objects.len() as u32
     }
 
-    /// The type of the object at x, at the state where its history begins; None where there is none.
-    pub fn checked(&self, x: u32) -> Option<&CheckedType>
-        ensures there { is_some result ≡ nat_lt x (length self.now.types) }
-        ensures checked { IfSome result (λ c. slice_get self.now.types x ≡ Some c.now) }
-    {
-        let object = self.objects.get(x as usize)?;
-        Some(object.checked())
-    }
-
     /// The state of the object at x, None where there is none. It agrees with the serial state.
     ///
-    /// With update in place the history determines it. With deferred update it does so up to
-    /// equieffectiveness: of a type whose states 3 and 4 nothing tells apart, 4 may be kept where the
-    /// serial state is 3.
-    pub fn kept(&self, x: u32) -> Option<u16>
+    /// With update in place the history determines it. In escrow it is the serial state. With deferred
+    /// update it is equieffective to that: of a type whose states 3 and 4 nothing tells apart, 4 may be
+    /// kept where the serial state is 3.
+    pub fn kept(&self, x: u32) -> Option<u32>
         ensures there { is_some result ≡ nat_lt x (length (objects self.now)) }
         ensures kept { IfSome result (λ state. IsKeptState self.now x state) }
     {
@@ -156,5 +143,16 @@ impl<R: Recovery> Store<R> {
         runs_along();
         let object = self.objects.get(x as usize)?;
         Some(object.state())
+    }
+}
+
+impl<R: Renew> Store<R> {
+    /// The type of the object at x, at the state where its history begins; None where there is none.
+    pub fn checked(&self, x: u32) -> Option<&CheckedType>
+        ensures there { is_some result ≡ nat_lt x (length self.now.types) }
+        ensures checked { IfSome result (λ c. slice_get self.now.types x ≡ Some (c.now)) }
+    {
+        let object = self.objects.get(x as usize)?;
+        Some(object.checked())
     }
 }

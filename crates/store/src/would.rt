@@ -14,7 +14,7 @@ use crate::store::Store;
 use object_calls::{Answer, Call, choose};
 use object_trait::Recovery;
 use serial_order::Refusal;
-use store_laws::{answers_as_defined, held_are_operations, rows_are_counted};
+use store_laws::{answers_as_defined, rows_are_counted};
 
 impl<R: Recovery> Store<R> {
     /// What `call` would answer now, for transaction t and the call with this name at object x. It is no
@@ -81,8 +81,7 @@ impl<R: Recovery> Store<R> {
         requires call { (o : Object) × (slice_get (objects self.now) x ≡ Some o) × IsCall o.table call }
         ensures { call_event (slice_get (objects self.now) x) (seen self.now.history) x t (Some call.first) ≡ Some (as_event t x call.first result) }
     {
-        held_are_operations();
         answers_as_defined();
-        choose(&self.objects[x as usize], &self.locks[x as usize], t, call)
+        choose(&self.objects[x as usize], t, call)
     }
 }

@@ -8,7 +8,9 @@ use Rattle.type_table.proofs.Elements.{each-append, each-places, each-weaker, el
 use Rattle.type_table.specs.Laws.{EndsWithin}
 use Rattle.type_table.specs.Table.{IsTable, Table}
 use Rattle.type_text.specs.declared.type_file.TypeFile.{TypeFile}
-use Rattle.table_checker.specs.Checked.{Checked, IsChecked}
+use Rattle.type_table.specs.declared.kind.Kind.{Kind}
+use Rattle.type_table.specs.declared.kind.Kind.TheVariants.{Undo, Intentions, Escrow}
+use Rattle.table_checker.specs.Checked.{Checked, IsChecked, IsCheckedBy}
 use Rattle.object_trait.specs.Object.{Object, object_of}
 use Rattle.object_trait.specs.declared.event.Event.{Event}
 use Rattle.object_trait.specs.declared.event.EventKind.{EventKind}
@@ -42,12 +44,18 @@ types_checked files lines types are x c there =
     let found = element_at lines x low in
     (are.each x found.0 c found.1 there).checked.1
 
+-- and has a table
+has-table : (kind : Kind) (file : TypeFile) → IsCheckedBy kind file → IsTable file.table
+has-table Undo file is = is.table
+has-table Intentions file is = is.table
+has-table Escrow file is = is.table
+
 module _ (s : Stored) (checked : (x : ℕ) (c : Checked) → slice_get s.types x ≡ Some c → IsChecked c) where
   pub ops_few : (x : ℕ) (o : Object) → slice_get (objects s) x ≡ Some o → length o.table.ops ≤ 64
-  ops_few = mapped object_of (λ o. length o.table.ops ≤ 64) s.types (λ x c there. (checked x c there).table.ops_fit)
+  ops_few = mapped object_of (λ o. length o.table.ops ≤ 64) s.types (λ x c there. (has-table c.kind c.file (checked x c there)).ops_fit)
 
   tables_are : (x : ℕ) (T : Table) → slice_get (tables s) x ≡ Some T → IsTable T
-  tables_are = mapped (λ (c : Checked). c.file.table) IsTable s.types (λ x c there. (checked x c there).table)
+  tables_are = mapped (λ (c : Checked). c.file.table) IsTable s.types (λ x c there. has-table c.kind c.file (checked x c there))
 
   -- ---- an audit
 

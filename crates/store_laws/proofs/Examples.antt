@@ -1,5 +1,5 @@
 -- What the events of a worked history do to what a store keeps.
-use Rattle.std.proofs.Common.{◌≡◌, ℕ, zero, suc, List, [], ◌∷◌, map, Some, slice_get, refl, sym, subst, arith}
+use Rattle.std.proofs.Common.{◌≡◌, ℕ, zero, suc, [], ◌∷◌, Some, slice_get, refl, subst, arith}
 use Rattle.std.specs.Prelude.{take}
 use Rattle.std.proofs.lemmas.Bool.{false≢true}
 use Rattle.std.proofs.lemmas.Option.{none-some, same_Some}
@@ -11,15 +11,12 @@ use Rattle.object_trait.specs.declared.event.EventKind.{EventKind}
 use Rattle.object_trait.specs.declared.event.EventKind.TheVariants.{Begin, Op, Commit, Rollback}
 use Rattle.serial_order.specs.History.{Seen, seen}
 use Rattle.serial_order.specs.Stand.{Changes}
-use Rattle.serial_order.specs.Held.{held_after}
-use Rattle.op_locks.specs.Locks.{Locks}
-use Rattle.op_locks.specs.declared.held.Held.{Held}
 use Rattle.object_calls.specs.Ends.{is_at, ChangesAt}
 use Rattle.object_calls.specs.declared.end.End.TheVariants as end
-use Rattle.store_laws.specs.Kept.{as_held, IsKept}
+use Rattle.store_laws.specs.Kept.{IsKept}
 use Rattle.store_laws.specs.Moves.{Moves, StaysKept}
 use Rattle.store_laws.specs.Events.{OpMoves, EndMoves, RollbackMoves}
-use Rattle.store_laws.specs.Examples.{by_seven, hold, one_up, new_counters, begun, counted, committed}
+use Rattle.store_laws.specs.Examples.{by_seven, one_up, new_counters, begun, counted, committed}
 
 -- ---- two objects
 
@@ -32,12 +29,6 @@ both-change s happened a b c d first second (suc zero) m n was is =
     subst (λ k. Changes 1 s happened k n) (same_Some b m was) (subst (λ k. Changes 1 s happened b k) (same_Some d n is) second)
 both-change s happened a b c d first second (suc (suc x)) m n was is = absurd (none-some m was)
 
--- what is held at each of two is held at each place
-both-held : (f : ℕ → List Held) (x : ℕ) (l : List Held) → slice_get (f 0 ∷ f 1 ∷ []) x ≡ Some l → l ≡ f x
-both-held f zero l there = sym (same_Some (f 0) l there)
-both-held f (suc zero) l there = sym (same_Some (f 1) l there)
-both-held f (suc (suc x)) l there = absurd (none-some l there)
-
 -- ---- each event
 
 -- the transaction begins
@@ -45,8 +36,6 @@ begins : Moves new_counters begun [] (record { worker = 7; kind = Begin 0 })
 begins = record {
   as_many = refl;
   objects = both-change (seen []) (Begin 0) _ _ _ _ refl refl;
-  lists = refl;
-  held = both-held (λ x. map as_held (held_after x (seen []) (Begin 0)));
   rows = refl;
 }
 
@@ -55,8 +44,6 @@ counts : Moves begun counted (take 1 one_up) (record { worker = 7; kind = Op 0 1
 counts = record {
   as_many = refl;
   objects = both-change (seen (take 1 one_up)) (Op 0 1 0) _ _ _ _ refl refl;
-  lists = refl;
-  held = both-held (λ x. map as_held (held_after x (seen (take 1 one_up)) (Op 0 1 0)));
   rows = record { row = by_seven []; was = refl; becomes = refl };
 }
 
@@ -73,8 +60,6 @@ commits = record {
       both-change (seen (take 2 one_up)) (Commit 0) _ _ _ _
       (record { checked = refl; commit = record { moved = []; front = refl; done = tt; reached = refl } })
       (record { checked = refl; commit = record { rest = refl; inside = refl; reached = (λ ks legal. legal, λ ks legal. legal); still = λ none. absurd (has_entry none) } });
-  lists = refl;
-  held = both-held (λ x. map as_held (held_after x (seen (take 2 one_up)) (Commit 0)));
   rows = record { row = by_seven (1 ∷ []); was = refl; becomes = refl };
 }
 
@@ -96,32 +81,25 @@ changes-second change a b c second = record { as_many = refl; changed = at-secon
     first change a b c (suc zero) outside = absurd (outside refl)
     first change a b c (suc (suc x)) outside = refl
 
--- lock lists of these, with room for eight
-two_lists : List Held → List Held → List Locks
-two_lists first second = (record { held = first; room = 8 }) ∷ (record { held = second; room = 8 }) ∷ []
-
 -- the transaction counts up
 pub counts-by_law : OpMoves → IsKept begun (take 1 one_up) → Moves begun counted (take 1 one_up) (record { worker = 7; kind = Op 0 1 0 })
 counts-by_law moves kept =
-    moves begun counted (take 1 one_up) 7 0 1 0 (by_seven []) (object.counter_at Intentions 0 []) [] kept refl refl refl refl refl refl
+    moves begun counted (take 1 one_up) 7 0 1 0 (by_seven []) (object.counter_at Intentions 0 []) kept refl refl refl refl
 
 -- takes it back
 pub takes_back-by_law : RollbackMoves → IsKept counted (take 2 one_up) → Moves counted begun (take 2 one_up) (record { worker = 7; kind = Rollback 0 1 })
-unfolding two_lists
 takes_back-by_law moves kept =
-    moves counted begun (take 2 one_up) 7 0 1 (by_seven (1 ∷ [])) (two_lists [] (hold 0 0 ∷ [])) (two_lists [] []) kept refl refl refl
+    moves counted begun (take 2 one_up) 7 0 1 (by_seven (1 ∷ [])) kept refl
     (changes-second _ _ _ _ (record { checked = refl; strike = record { same_base = refl; rest = refl } }))
-    (changes-second _ _ _ _ refl)
     refl
 
 -- or commits
 pub commits-by_law : EndMoves → IsKept counted (take 2 one_up) → Moves counted committed (take 2 one_up) (record { worker = 7; kind = Commit 0 })
-unfolding next two_lists
+unfolding next
 commits-by_law moves kept =
-    moves end.Commit counted committed (take 2 one_up) 7 0 (by_seven (1 ∷ [])) (two_lists [] (hold 0 0 ∷ [])) (two_lists [] []) kept refl refl refl
+    moves end.Commit counted committed (take 2 one_up) 7 0 (by_seven (1 ∷ [])) kept refl
     (changes-second _ _ _ _
     (record { checked = refl; commit = record { rest = refl; inside = refl; reached = (λ ks legal. legal, λ ks legal. legal); still = λ none. absurd (has_entry none) } }))
-    (changes-second _ _ _ _ refl)
     refl
 
 -- ---- what is kept after each

@@ -1,16 +1,15 @@
--- Filters and strikes: of mapped lists, of lists that have none of mine, and how many they keep.
-use Rattle.std.proofs.Common.{◌≡◌, ℕ, zero, suc, ◌+◌, ◌≤◌, Bool, false, not, List, [], ◌∷◌, map, filter, length, drop, take, refl, sym, ap, ◌∙◌, inl, inr, arith}
+-- Filters: of mapped lists, and how many they keep.
+use Rattle.std.proofs.Common.{◌≡◌, ℕ, suc, ◌+◌, ◌≤◌, Bool, false, List, [], ◌∷◌, map, filter, length, drop, take, refl, sym, ap, ◌∙◌, inl, inr, arith}
 use Rattle.std.specs.Prelude.{nat_lt}
 use Rattle.std.specs.List.{list_any}
 use Rattle.std.proofs.lemmas.Bool.{cases_Bool, lt-ltb, ltb-false}
 use Rattle.std.proofs.lemmas.List.{length-map, take-append-drop, length-append}
 use Rattle.std.proofs.lemmas.List.Elements.{filter-append}
-use Rattle.object_trait.specs.Strike.{keep_first}
 
 -- ---- mapped lists
 
 -- what a filter keeps of a mapped list
-pub filter-map : {A B : Type 0} (f : A → B) (test : B → Bool) (V : List A) → filter test (map f V) ≡ map f (filter (λ a. test (f a)) V)
+filter-map : {A B : Type 0} (f : A → B) (test : B → Bool) (V : List A) → filter test (map f V) ≡ map f (filter (λ a. test (f a)) V)
 filter-map f test [] = refl
 filter-map f test (a ∷ V) =
     elim (cases_Bool (test (f a))) [
@@ -21,31 +20,6 @@ filter-map f test (a ∷ V) =
 -- and how much of it
 pub count-map : {A B : Type 0} (f : A → B) (test : B → Bool) (V : List A) → length (filter test (map f V)) ≡ length (filter (λ a. test (f a)) V)
 count-map f test V = ap length (filter-map f test V) ∙ length-map (filter (λ a. test (f a)) V) f
-
--- what a strike leaves of a mapped list
-pub keep_first-map : {A B : Type 0} (f : A → B) (mine : B → Bool) (n : ℕ) (V : List A) → keep_first mine n (map f V) ≡ map f (keep_first (λ a. mine (f a)) n V)
-keep_first-map f mine n [] = refl
-keep_first-map f mine zero (a ∷ V) =
-    elim (cases_Bool (mine (f a))) [
-      | inl is ↦ rw is (keep_first-map f mine zero V)
-      | inr isnt ↦ rw isnt (ap (λ rest. f a ∷ rest) (keep_first-map f mine zero V))
-    ]
-keep_first-map f mine (suc n) (a ∷ V) =
-    elim (cases_Bool (mine (f a))) [
-      | inl is ↦ rw is (ap (λ rest. f a ∷ rest) (keep_first-map f mine n V))
-      | inr isnt ↦ rw isnt (ap (λ rest. f a ∷ rest) (keep_first-map f mine (suc n) V))
-    ]
-
--- ---- none of mine
-
--- where there is none of mine, the others are all
-pub filter-others : {E : Type 0} (mine : E → Bool) (V : List E) → length (filter mine V) ≡ 0 → filter (λ e. not (mine e)) V ≡ V
-filter-others mine [] none = refl
-filter-others mine (e ∷ V) none =
-    elim (cases_Bool (mine e)) [
-      | inl is ↦ absurd (let some : suc (length (filter mine V)) ≡ 0 = rw is at none in omega (arith, some))
-      | inr isnt ↦ rw isnt (ap (λ rest. e ∷ rest) (filter-others mine V (rw isnt at none)))
-    ]
 
 -- ---- how many pass
 

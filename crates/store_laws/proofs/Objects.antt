@@ -6,7 +6,7 @@ use Rattle.object_trait.specs.Object.{Object, IsCovered, object_of}
 use Rattle.object_trait.specs.Meaning.{Meaning, object}
 use Rattle.object_trait.specs.Sound.{IsSound}
 use Rattle.object_trait.specs.Steps.{MayApply}
-use Rattle.object_trait.specs.Laws.{CheckedIsCovered, SoundAfterApply, SoundAfterCommit, SoundAfterStrike}
+use Rattle.object_trait.specs.Laws.{SoundAfterApply, SoundAfterCommit, SoundAfterStrike, CheckedIsCovered}
 use Rattle.object_trait.specs.declared.event.Event.{Event}
 use Rattle.object_trait.specs.declared.event.EventKind.{EventKind}
 use Rattle.object_trait.specs.declared.event.EventKind.TheVariants as kind

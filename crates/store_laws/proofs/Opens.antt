@@ -6,7 +6,7 @@ use Rattle.std.proofs.lemmas.List.{length-append, length-map, get_or_past}
 use Rattle.std.proofs.lemmas.List.Sums.{sum_by-cons}
 use Rattle.std.proofs.lemmas.Option.{none-some, get_or_from_slice_get}
 use Rattle.type_table.proofs.Elements.{element_at, filter-length}
-use Rattle.object_trait.specs.Laws.{CheckedIsCovered, FreshIsSound}
+use Rattle.object_trait.specs.Laws.{FreshIsSound, CheckedIsCovered}
 use Rattle.object_trait.specs.declared.event.Event.{Event}
 use Rattle.object_trait.specs.declared.event.EventKind.{EventKind}
 use Rattle.object_trait.specs.declared.event.EventKind.TheVariants as kind
@@ -31,8 +31,6 @@ new_is_kept covers sound stands = λ k new.
           let checked = new.checked x m is in
           let fresh = new.fresh x m is in
           record { checked = checked; sound = sound m (covers m.checked checked).0 fresh; represents = stands m x fresh };
-      lists = new.lists;
-      held = λ x held is. new.held x held is;
       begun = ap length new.rows;
       transactions = λ t row is. absurd (none-some row (ap (λ rows. slice_get rows t) (sym new.rows) ∙ is));
     }

@@ -1,12 +1,10 @@
--- The places of an open transaction's operations: how many are at each object, in its log, in its lock list and in the transaction's row.
-use Rattle.std.proofs.Common.{◌≡◌, ℕ, zero, suc, ◌-◌, ◌<◌, true, false, ◌==◌, List, [], ◌∷◌, map, drop, length, Option, Some, All, option_map, slice_get, slice_index_or, refl, sym, ap, subst, ◌∙◌, arith}
+-- The places of an open transaction's operations: how many are at each object, in its log and in the transaction's row.
+use Rattle.std.proofs.Common.{◌≡◌, ℕ, zero, suc, ◌-◌, ◌<◌, true, false, ◌==◌, List, [], ◌∷◌, map, drop, length, Some, All, slice_get, refl, sym, ap, subst, ◌∙◌, arith}
 use Rattle.std.specs.List.{list_any}
-use Rattle.std.proofs.lemmas.Bool.{eqb-true}
 use Rattle.std.proofs.lemmas.List.{length-map}
-use Rattle.std.proofs.lemmas.List.Elements.{All-from_recursion, All-filter, All-map, All-same, All-weaker, filter_passes}
-use Rattle.std.proofs.lemmas.Option.{none-some, same_Some, slice_get-map}
+use Rattle.std.proofs.lemmas.List.Elements.{All-from_recursion, All-filter, All-map, All-same, All-weaker}
 use Rattle.type_table.specs.Table.{Table}
-use Rattle.type_table.proofs.Elements.{filter-turned, mine-within}
+use Rattle.type_table.proofs.Elements.{filter-turned}
 use Rattle.object_trait.specs.Object.{Object}
 use Rattle.object_trait.specs.Meaning.{Meaning, open_of}
 use Rattle.object_trait.specs.declared.event.Event.{Event}
@@ -16,30 +14,13 @@ use Rattle.serial_order.specs.History.{seen, is_open, standing, IsOperation}
 use Rattle.serial_order.specs.Serial.{standing_at}
 use Rattle.serial_order.specs.Stand.{struck_at}
 use Rattle.serial_order.specs.After.{OperationsInRun, LogsAreCounted}
-use Rattle.serial_order.specs.Held.{held_at}
 use Rattle.serial_order.specs.declared.entry.Entry.{Entry}
-use Rattle.op_locks.specs.Locks as locks
-use Rattle.op_locks.specs.Locks.{Locks, count_of}
-use Rattle.op_locks.specs.declared.held.Held.{Held}
 use Rattle.object_calls.specs.Ends.{count_at}
 use Rattle.open_transactions.specs.Transactions.{Row}
-use Rattle.store_laws.specs.Kept.{Keeping, held_of, as_held, objects_of, places_of, IsKept}
-use Rattle.store_laws.specs.Before.{IsOpenRow, last_places, PlacesAreInside, HeldAreOperations, HasWhatIsStruck}
+use Rattle.store_laws.specs.Kept.{Keeping, objects_of, places_of, IsKept}
+use Rattle.store_laws.specs.Before.{IsOpenRow, last_places, PlacesAreInside, HasWhatIsStruck}
 use Rattle.store_laws.proofs.Filters.{count-map, count-none, count-drop}
 use Rattle.store_laws.proofs.Lists.{inside-at}
-use Rattle.store_laws.proofs.Objects.{object-at}
-
--- ---- lock lists
-
--- what is held by the lock list at a place
-pub held-at : (list : List Locks) (x : ℕ) (l : Locks) → slice_get list x ≡ Some l → slice_get (held_of list) x ≡ Some l.held
-held-at list x l there = slice_get-map (λ (l : Locks). l.held) list x ∙ ap (option_map (λ (l : Locks). l.held)) there
-
--- is held by a lock list
-pub held-from : (list : List Locks) (x : ℕ) (held : List Held) → slice_get (held_of list) x ≡ Some held → (l : Locks) × (slice_get list x ≡ Some l) × (l.held ≡ held)
-held-from [] x held there = absurd (none-some held there)
-held-from (l ∷ list) zero held there = (l, refl, same_Some l.held held there)
-held-from (l ∷ list) (suc x) held there = held-from list x held there
 
 -- the end of a mapped list
 drop-mapped : {A B : Type 0} (f : A → B) (n : ℕ) (V : List A) → drop n (map f V) ≡ map f (drop n V)
@@ -76,17 +57,6 @@ module _ (k : Keeping) (H : List Event) (t : ℕ) (row : Row) (kept : IsKept k H
       ∙ ap length ((counted m x H (kept.objects x m is).represents).own t open-now)
       ∙ length-map (of t (standing_at x H)) (λ (e : Entry). e.op)
 
-  -- by what is held there
-  pub held-count : (x : ℕ) → length (of t (held_at x (seen H))) ≡ length (of t (standing_at x H))
-  held-count x =
-      ap length
-      (mine-within (λ (e : Entry). is_open (seen H) e.by) (is_by t) (standing_at x H) (λ e mine. rw (eqb-true e.by t mine) open-now))
-
-  -- and by the lock list
-  locks-count : (x : ℕ) (held : List Held) → slice_get k.held x ≡ Some held → count_of t held ≡ length (of t (standing_at x H))
-  locks-count x held is =
-      ap (count_of t) (kept.held x held is) ∙ count-map as_held (locks.is_by t) (held_at x (seen H)) ∙ held-count x
-
   -- none, where x is none of its places
   pub count-elsewhere : (x : ℕ) → list_any (λ y. y == x) row.places ≡ false → length (of t (standing_at x H)) ≡ 0
   count-elsewhere x none = sym (own-count x) ∙ count-none (λ y. y == x) row.places none
@@ -103,19 +73,11 @@ module _ (k : Keeping) (H : List Event) (t : ℕ) (row : Row) (kept : IsKept k H
 -- ---- what the calls at the objects want
 
 pub has_what_is_struck : LogsAreCounted → HasWhatIsStruck
-has_what_is_struck counted = λ k H t n row list kept there same.
-    record {
-      entries = λ x m is.
-          let most = count-drop (λ y. y == x) (length row.places - n) row.places in
-          let own = own-count k H t row kept there x in
-          let entries = entries-count k H t row kept there counted x m is in
-          omega (arith, most, own, entries);
-      held = λ x l is.
-          let most = count-drop (λ y. y == x) (length row.places - n) row.places in
-          let own = own-count k H t row kept there x in
-          let held = locks-count k H t row kept there x l.held (ap (λ all. slice_get all x) same ∙ held-at list x l is) in
-          omega (arith, most, own, held);
-    }
+has_what_is_struck counted = λ k H t n row kept there x m is.
+    let most = count-drop (λ y. y == x) (length row.places - n) row.places in
+    let own = own-count k H t row kept there x in
+    let entries = entries-count k H t row kept there counted x m is in
+    omega (arith, most, own, entries)
 
 -- ---- operations
 
@@ -134,10 +96,6 @@ tables-count : (ms : List Meaning) → length (tables_of ms) ≡ length ms
 tables-count [] = refl
 tables-count (m ∷ ms) = ap (λ n. suc n) (tables-count ms)
 
--- that of the object at a place
-table-at : (ms : List Meaning) (x : ℕ) (m : Meaning) → slice_get ms x ≡ Some m → slice_get (tables_of ms) x ≡ Some m.checked.file.table
-table-at ms x m there = slice_get-map (λ (o : Object). o.table) (objects_of ms) x ∙ ap (option_map (λ (o : Object). o.table)) (object-at ms x m there)
-
 module _ (operations : OperationsInRun) (k : Keeping) (H : List Event) (kept : IsKept k H) where
   -- each operation that lives is one of its object's table
   living : All (λ (e : Entry). IsOperation (slice_get (tables_of k.meanings) e.at) e.op) (standing H)
@@ -152,25 +110,6 @@ module _ (operations : OperationsInRun) (k : Keeping) (H : List Event) (kept : I
       (λ e is. subst (λ n. e.at < n) (tables-count k.meanings) (operation-inside (tables_of k.meanings) e.at e.op is))
       (standing H) living))
 
-  -- those at one object
-  of-table : (x : ℕ) (m : Meaning) → slice_get k.meanings x ≡ Some m → (e : Entry) → (e.at == x) ≡ true
-      → IsOperation (slice_get (tables_of k.meanings) e.at) e.op → e.op < length m.checked.file.table.ops
-  of-table x m there e here is =
-      subst (λ (T : Option Table). IsOperation T e.op) (table-at k.meanings x m there)
-      (subst (λ y. IsOperation (slice_get (tables_of k.meanings) y) e.op) (eqb-true e.at x here) is)
-
-  held-here : (x : ℕ) (m : Meaning) → slice_get k.meanings x ≡ Some m → All (λ (e : Held). e.op < length m.checked.file.table.ops) (map as_held (held_at x (seen H)))
-  held-here x m there =
-      All-map (λ (e : Held). e.op < length m.checked.file.table.ops) as_held (held_at x (seen H))
-      (All-filter (λ (e : Entry). is_open (seen H) e.by) (λ (e : Entry). e.op < length m.checked.file.table.ops) (standing_at x H)
-      (λ i d low. of-table x m there (slice_index_or (standing_at x H) i d) (filter_passes (λ (e : Entry). e.at == x) (standing H) i d low)
-      (All-filter (λ (e : Entry). e.at == x) (λ (e : Entry). IsOperation (slice_get (tables_of k.meanings) e.at) e.op) (standing H) living i d low)))
-
 pub places_are_inside : OperationsInRun → PlacesAreInside
 places_are_inside operations = λ k H t row kept there.
     All-same (λ x. x < length k.meanings) row.places (places_of t (seen H)) (row-places k H t row kept there) (inside operations k H kept t)
-
-pub held_are_operations : OperationsInRun → HeldAreOperations
-held_are_operations operations = λ k H x m held kept there is.
-    All-same (λ (e : Held). e.op < length m.checked.file.table.ops) held (map as_held (held_at x (seen H))) (kept.held x held is)
-    (held-here operations k H kept x m there)

@@ -1,19 +1,18 @@
 -- What is kept goes on agreeing with the history by an event that may follow.
-use Rattle.std.proofs.Common.{◌≡◌, ℕ, ◌<◌, List, [], ◌∷◌, ◌++◌, length, map, Option, Some, slice_get, sym, ap, subst, ◌∙◌}
+use Rattle.std.proofs.Common.{◌≡◌, ℕ, ◌<◌, List, [], ◌∷◌, ◌++◌, length, map, Option, Some, slice_get, sym, ap, subst}
 use Rattle.std.proofs.lemmas.Option.{slice_get_within}
 use Rattle.type_table.proofs.Elements.{element_at}
 use Rattle.object_trait.specs.Object.{object_of}
 use Rattle.object_trait.specs.Meaning.{Meaning}
-use Rattle.object_trait.specs.Laws.{CheckedIsCovered, SoundAfterApply, SoundAfterCommit, SoundAfterStrike}
+use Rattle.object_trait.specs.Laws.{SoundAfterApply, SoundAfterCommit, SoundAfterStrike, CheckedIsCovered}
 use Rattle.object_trait.specs.declared.event.Event.{Event}
 use Rattle.serial_order.specs.History.{Seen, seen}
 use Rattle.serial_order.specs.Machine.{MayFollow, IsRun}
 use Rattle.serial_order.specs.Laws.{RunGoesOn, StandsOn, MachineMayApply}
 use Rattle.serial_order.specs.After.{SeenAfter, TransactionsInRun, OpensAfter, beginners, BeginnersAfter, LogsAreCounted}
-use Rattle.serial_order.specs.Held.{held_at, HeldAfter, OwnAfter}
-use Rattle.op_locks.specs.declared.held.Held.{Held}
+use Rattle.serial_order.specs.Held.{OwnAfter}
 use Rattle.open_transactions.specs.Transactions.{Row}
-use Rattle.store_laws.specs.Kept.{Keeping, as_held, objects_of, IsObject, IsRow, IsKept}
+use Rattle.store_laws.specs.Kept.{Keeping, objects_of, IsObject, IsRow, IsKept}
 use Rattle.store_laws.specs.Moves.{Moves, StaysKept}
 use Rattle.store_laws.proofs.Objects.{same-type, same-types, object-at, object-after}
 use Rattle.store_laws.proofs.Rows.{IsRowOf, AreRows, rows-after}
@@ -39,14 +38,6 @@ module _ (old new : Keeping) (H : List Event) (e : Event) (known : IsKept old H)
       object-after covers applies commits strikes on may_apply counted (objects_of old.meanings) H e x was.0 n known.run may short
       (object-at old.meanings x was.0 was.1) (known.objects x was.0 was.1) (moves.objects x was.0 n was.1 is)
 
-  -- what is held is told by what was held
-  held-stays : SeenAfter → TransactionsInRun → HeldAfter
-      → (x : ℕ) (l : List Held) → slice_get new.held x ≡ Some l → l ≡ map as_held (held_at x (seen (H ++ e ∷ [])))
-  held-stays now in_run holds x l is =
-      moves.held x l is
-      ∙ ap (map as_held) (sym (holds (objects_of old.meanings) (seen H) e.kind x (in_run (objects_of old.meanings) H known.run) may))
-      ∙ ap (λ (s : Seen). map as_held (held_at x s)) (sym (now H e))
-
   -- rows as they are known
   rows-known : AreRows old.rows (seen H) (beginners H)
   rows-known = record {
@@ -71,14 +62,12 @@ row-of row t H is = record { going = is.going; worker = is.worker; places = is.p
 
 -- the law, from those on which it depends
 pub stays_kept : CheckedIsCovered → SoundAfterApply → SoundAfterCommit → SoundAfterStrike → RunGoesOn → StandsOn → MachineMayApply → LogsAreCounted
-    → SeenAfter → TransactionsInRun → HeldAfter → OpensAfter → OwnAfter → BeginnersAfter → StaysKept
-stays_kept covers applies commits strikes goes_on on may_apply counted now in_run holds opens own began = λ old new H e known may moves short.
+    → SeenAfter → TransactionsInRun → OpensAfter → OwnAfter → BeginnersAfter → StaysKept
+stays_kept covers applies commits strikes goes_on on may_apply counted now in_run opens own began = λ old new H e known may moves short.
     let rows = rows-stay old new H e known may moves now in_run opens own began in
     record {
       run = run-stays old new H e known may moves goes_on;
       objects = objects-stay old new H e known may moves covers applies commits strikes on may_apply counted short;
-      lists = moves.lists ∙ known.lists ∙ sym moves.as_many;
-      held = held-stays old new H e known may moves now in_run holds;
       begun = rows.begun;
       transactions = λ t row there. row-of row t (H ++ e ∷ []) (rows.each t row there);
     }

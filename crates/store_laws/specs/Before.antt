@@ -8,20 +8,16 @@ use Rattle.object_trait.specs.declared.event.Event.{Event}
 use Rattle.serial_order.specs.Operations.{of}
 use Rattle.serial_order.specs.History.{seen, is_open}
 use Rattle.serial_order.specs.Replay.{open_count}
-use Rattle.op_locks.specs.Locks.{Locks}
-use Rattle.op_locks.specs.declared.held.Held.{Held}
 use Rattle.object_calls.specs.Ends.{HasLast}
 use Rattle.open_transactions.specs.Transactions.{Row}
-use Rattle.store_laws.specs.Kept.{Keeping, held_of, IsKept}
+use Rattle.store_laws.specs.Kept.{Keeping, IsKept}
 
 -- ---- a new store
 
--- nothing happened to any object, nothing is held, and no transaction began
+-- nothing happened to any object, and no transaction began
 pub record IsNew (k : Keeping) : Type 0 where
   pub checked : (x : ℕ) (m : Meaning) → slice_get k.meanings x ≡ Some m → IsChecked m.checked
   pub fresh : (x : ℕ) (m : Meaning) → slice_get k.meanings x ≡ Some m → IsFresh m
-  pub lists : length k.held ≡ length k.meanings
-  pub held : (x : ℕ) (held : List Held) → slice_get k.held x ≡ Some held → held ≡ []
   pub rows : k.rows ≡ []
 
 -- it agrees with the empty history
@@ -72,14 +68,7 @@ PlacesAreInside =
     (k : Keeping) (H : List Event) (t : ℕ) (row : Row) → IsKept k H → IsOpenRow k t row
     → All (λ x. x < length k.meanings) row.places
 
--- what is held at an object are operations of its table
-abbrev pub HeldAreOperations : Type 0
-HeldAreOperations =
-    (k : Keeping) (H : List Event) (x : ℕ) (m : Meaning) (held : List Held) → IsKept k H
-    → slice_get k.meanings x ≡ Some m → slice_get k.held x ≡ Some held → All (λ e. e.op < length m.checked.file.table.ops) held
-
--- wherever an open transaction's last n operations are, it has as many open entries, and holds as many operations, as are struck there
+-- wherever an open transaction's last n operations are, it has as many open entries as are struck there
 abbrev pub HasWhatIsStruck : Type 0
 HasWhatIsStruck =
-    (k : Keeping) (H : List Event) (t n : ℕ) (row : Row) (locks : List Locks) → IsKept k H → IsOpenRow k t row → k.held ≡ held_of locks
-    → HasLast t (last_places n row.places) k.meanings locks
+    (k : Keeping) (H : List Event) (t n : ℕ) (row : Row) → IsKept k H → IsOpenRow k t row → HasLast t (last_places n row.places) k.meanings

@@ -10,14 +10,12 @@ use Rattle.object_trait.specs.declared.event.EventKind.TheVariants.{Begin, Op, B
 use Rattle.serial_order.specs.History.{seen}
 use Rattle.serial_order.specs.Machine.{MayFollow, IsRun}
 use Rattle.serial_order.specs.Replay.{open_count}
-use Rattle.op_locks.specs.Locks.{Locks, without, without_last}
-use Rattle.op_locks.specs.declared.held.Held.{Held}
 use Rattle.object_calls.specs.Ends.{count_at, ChangesAt, IsEnd}
 use Rattle.object_calls.specs.declared.end.End.{End}
 use Rattle.object_calls.specs.declared.end.End.TheVariants as end
 use Rattle.store_laws.specs.Stored.{types_of}
 use Rattle.open_transactions.specs.Transactions.{Row}
-use Rattle.store_laws.specs.Kept.{Keeping, held_of, IsKept}
+use Rattle.store_laws.specs.Kept.{Keeping, IsKept}
 use Rattle.store_laws.specs.Moves.{at_too, without_places, Moves}
 use Rattle.store_laws.specs.Before.{IsOpenRow, last_places}
 
@@ -26,21 +24,20 @@ use Rattle.store_laws.specs.Before.{IsOpenRow, last_places}
 -- where nothing changed: an answer `Busy` or `None`
 abbrev pub QuietMoves : Type 0
 QuietMoves =
-    (old new : Keeping) (H : List Event) (w t x c : ℕ) → IsKept old H → new.meanings ≡ old.meanings → new.held ≡ old.held → new.rows ≡ old.rows
+    (old new : Keeping) (H : List Event) (w t x c : ℕ) → IsKept old H → new.meanings ≡ old.meanings → new.rows ≡ old.rows
     → ((u : ℕ) → Moves old new H (record { worker = w; kind = Busy c t x u })) × Moves old new H (record { worker = w; kind = kind.None t x c })
 
 -- with one more row: a transaction began
 abbrev pub BeginMoves : Type 0
 BeginMoves =
-    (old new : Keeping) (H : List Event) (w t : ℕ) → IsKept old H → new.meanings ≡ old.meanings → new.held ≡ old.held
+    (old new : Keeping) (H : List Event) (w t : ℕ) → IsKept old H → new.meanings ≡ old.meanings
     → new.rows ≡ old.rows ++ Some (record { worker = w; places = [] }) ∷ [] → Moves old new H (record { worker = w; kind = Begin t })
 
--- with one more entry and one more that is held at x, and one more place in t's row: an operation
+-- with one more entry at x, and one more place in t's row: an operation
 abbrev pub OpMoves : Type 0
 OpMoves =
-    (old new : Keeping) (H : List Event) (w t x op : ℕ) (row : Row) (m : Meaning) (held : List Held) → IsKept old H → IsOpenRow old t row
-    → slice_get old.meanings x ≡ Some m → slice_get old.held x ≡ Some held
-    → new.meanings ≡ set old.meanings x (applied m t op) → new.held ≡ set old.held x (held ++ (record { by = t; op = op }) ∷ [])
+    (old new : Keeping) (H : List Event) (w t x op : ℕ) (row : Row) (m : Meaning) → IsKept old H → IsOpenRow old t row
+    → slice_get old.meanings x ≡ Some m → new.meanings ≡ set old.meanings x (applied m t op)
     → new.rows ≡ set old.rows t (Some (at_too x row)) → Moves old new H (record { worker = w; kind = Op t x op })
 
 -- the event of an end of t
@@ -48,22 +45,18 @@ abbrev pub end_event : End → ℕ → EventKind
 end_event end.Commit t = Commit t
 end_event end.Abort t = Abort t
 
--- with this end of t at each object where t has operations, nothing held there by t any more, and no row of t
+-- with this end of t at each object where t has operations, and no row of t
 abbrev pub EndMoves : Type 0
 EndMoves =
-    (how : End) (old new : Keeping) (H : List Event) (w t : ℕ) (row : Row) (before now : List Locks) → IsKept old H → IsOpenRow old t row
-    → old.held ≡ held_of before → new.held ≡ held_of now
+    (how : End) (old new : Keeping) (H : List Event) (w t : ℕ) (row : Row) → IsKept old H → IsOpenRow old t row
     → ChangesAt row.places (λ x m n. IsEnd how m t n) old.meanings new.meanings
-    → ChangesAt row.places (λ x a b. b.held ≡ without t a.held) before now
     → new.rows ≡ set old.rows t None → Moves old new H (record { worker = w; kind = end_event how t })
 
--- with as many entries struck at each object as are among the last n places of t, and as many given up of what it holds there: a rollback
+-- with as many entries struck at each object as are among the last n places of t: a rollback
 abbrev pub RollbackMoves : Type 0
 RollbackMoves =
-    (old new : Keeping) (H : List Event) (w t n : ℕ) (row : Row) (before now : List Locks) → IsKept old H → IsOpenRow old t row
-    → old.held ≡ held_of before → new.held ≡ held_of now
+    (old new : Keeping) (H : List Event) (w t n : ℕ) (row : Row) → IsKept old H → IsOpenRow old t row
     → ChangesAt (last_places n row.places) (λ x m k. IsStrike m t (count_at x (last_places n row.places)) k) old.meanings new.meanings
-    → ChangesAt (last_places n row.places) (λ x a b. b.held ≡ without_last t (count_at x (last_places n row.places)) a.held) before now
     → new.rows ≡ set old.rows t (Some (without_places n row)) → Moves old new H (record { worker = w; kind = Rollback t n })
 
 -- ---- any event

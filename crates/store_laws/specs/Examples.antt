@@ -10,7 +10,6 @@ use Rattle.serial_order.specs.declared.command.Command.{Command}
 use Rattle.serial_order.specs.declared.command.Command.TheVariants as command
 use Rattle.serial_order.specs.declared.refusal.Refusal.{Refusal}
 use Rattle.serial_order.specs.declared.refusal.Refusal.TheVariants.{NotOpen, NoMemory}
-use Rattle.op_locks.specs.declared.held.Held.{Held}
 use Rattle.store_laws.specs.Stored.{Stored}
 use Rattle.store_laws.specs.Asked.{Asked}
 use Rattle.open_transactions.specs.Transactions.{Row}
@@ -20,11 +19,11 @@ use Rattle.store_laws.specs.Kept.{Keeping}
 
 -- the counter, update in place
 abbrev pub undo_counter : Checked
-undo_counter = record { kind = Undo; file = counter_file }
+undo_counter = (record { kind = Undo; file = counter_file })
 
 -- the counter, deferred update
 abbrev pub deferred_counter : Checked
-deferred_counter = record { kind = Intentions; file = counter_file }
+deferred_counter = (record { kind = Intentions; file = counter_file })
 
 -- the checker says yes for both
 abbrev pub AreAccepted : Type 0
@@ -34,10 +33,6 @@ AreAccepted = IsChecked undo_counter × IsChecked deferred_counter
 abbrev pub by_seven : List ℕ → Row
 by_seven places = record { worker = 7; places = places }
 
--- transaction t holds operation k
-abbrev pub hold : ℕ → ℕ → Held
-hold t k = record { by = t; op = k }
-
 -- ---- one transaction counts up at the second of two counters, and commits
 
 abbrev pub one_up : List Event
@@ -46,7 +41,7 @@ one_up =
 
 -- before it
 abbrev pub new_counters : Keeping
-new_counters = record { meanings = object.counter_at Undo 0 [] ∷ object.counter_at Intentions 0 [] ∷ []; held = [] ∷ [] ∷ []; rows = [] }
+new_counters = record { meanings = object.counter_at Undo 0 [] ∷ object.counter_at Intentions 0 [] ∷ []; rows = [] }
 
 -- when it began
 abbrev pub begun : Keeping
@@ -56,7 +51,6 @@ begun = record new_counters { rows = Some (by_seven []) ∷ [] }
 abbrev pub counted : Keeping
 counted = record {
   meanings = object.counter_at Undo 0 [] ∷ object.counter_at Intentions 0 (object.held 0 0 ∷ []) ∷ [];
-  held = [] ∷ (hold 0 0 ∷ []) ∷ [];
   rows = Some (by_seven (1 ∷ [])) ∷ [];
 }
 
@@ -64,7 +58,6 @@ counted = record {
 abbrev pub committed : Keeping
 committed = record {
   meanings = object.counter_at Undo 0 [] ∷ object.counter_at Intentions 1 [] ∷ [];
-  held = [] ∷ [] ∷ [];
   rows = None ∷ [];
 }
 

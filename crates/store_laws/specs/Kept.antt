@@ -11,34 +11,22 @@ use Rattle.serial_order.specs.Machine.{IsRun}
 use Rattle.serial_order.specs.Stand.{StandsFor}
 use Rattle.serial_order.specs.Replay.{open_count}
 use Rattle.serial_order.specs.After.{beginners}
-use Rattle.serial_order.specs.Held.{held_at}
 use Rattle.serial_order.specs.declared.entry.Entry.{Entry}
-use Rattle.op_locks.specs.Locks.{Locks}
-use Rattle.op_locks.specs.declared.held.Held.{Held}
 use Rattle.open_transactions.specs.Transactions.{Row}
 use Rattle.store_laws.specs.Stored.{types_of}
 
 -- ---- what is kept
 
--- the objects' meanings, what is held at each, and a row for each transaction that began: none where it ended
+-- the objects' meanings, and a row for each transaction that began: none where it ended
 pub record Keeping : Type 0 where
   pub meanings : List Meaning
-  pub held : List (List Held)
   pub rows : List (Option Row)
 
--- what these lock lists hold
-abbrev pub held_of : List Locks → List (List Held)
-held_of locks = map (λ (l : Locks). l.held) locks
-
--- what is kept by objects of these meanings, these lock lists and these rows
-abbrev pub keeping : List Meaning → List Locks → List (Option Row) → Keeping
-keeping meanings locks rows = record { meanings = meanings; held = held_of locks; rows = rows }
+-- what is kept by objects of these meanings and these rows
+abbrev pub keeping : List Meaning → List (Option Row) → Keeping
+keeping meanings rows = record { meanings = meanings; rows = rows }
 
 -- ---- how it agrees with the history
-
--- the operation, as it is held
-abbrev pub as_held : Entry → Held
-as_held e = record { by = e.by; op = e.op }
 
 abbrev pub objects_of : List Meaning → List Object
 objects_of ms = map object_of (types_of ms)
@@ -59,13 +47,10 @@ pub record IsRow (row : Option Row) (t : ℕ) (H : List Event) : Type 0 where
   pub worker : (r : Row) → row ≡ Some r → slice_get (beginners H) t ≡ Some r.worker
   pub places : (r : Row) → row ≡ Some r → r.places ≡ places_of t (seen H)
 
--- all of it: the history is a run, each object represents it, each lock list is what open transactions hold there, and each row is
--- what the history says of its transaction
+-- all of it: the history is a run, each object represents it, and each row is what the history says of its transaction
 pub record IsKept (k : Keeping) (H : List Event) : Type 0 where
   pub run : IsRun (objects_of k.meanings) H
   pub objects : (x : ℕ) (m : Meaning) → slice_get k.meanings x ≡ Some m → IsObject m x H
-  pub lists : length k.held ≡ length k.meanings
-  pub held : (x : ℕ) (l : List Held) → slice_get k.held x ≡ Some l → l ≡ map as_held (held_at x (seen H))
   pub begun : length k.rows ≡ (seen H).begun
   pub transactions : (t : ℕ) (row : Option Row) → slice_get k.rows t ≡ Some row → IsRow row t H
 

@@ -1,5 +1,5 @@
 -- What an event does to what a store keeps.
-use Rattle.std.specs.Prelude.{◌≡◌, ℕ, ◌-◌, ◌<◌, List, [], ◌∷◌, ◌++◌, length, map, take, set, Option, Some, None, slice_get}
+use Rattle.std.specs.Prelude.{◌≡◌, ℕ, ◌-◌, ◌<◌, List, [], ◌∷◌, ◌++◌, length, take, set, Option, Some, None, slice_get}
 use Rattle.object_trait.specs.Meaning.{Meaning}
 use Rattle.object_trait.specs.declared.event.Event.{Event}
 use Rattle.object_trait.specs.declared.event.EventKind.{EventKind}
@@ -7,10 +7,8 @@ use Rattle.object_trait.specs.declared.event.EventKind.TheVariants.{Begin, Op, C
 use Rattle.serial_order.specs.History.{seen}
 use Rattle.serial_order.specs.Machine.{MayFollow}
 use Rattle.serial_order.specs.Stand.{Changes}
-use Rattle.serial_order.specs.Held.{held_after}
-use Rattle.op_locks.specs.declared.held.Held.{Held}
 use Rattle.open_transactions.specs.Transactions.{Row}
-use Rattle.store_laws.specs.Kept.{Keeping, as_held, objects_of, IsKept}
+use Rattle.store_laws.specs.Kept.{Keeping, objects_of, IsKept}
 
 -- ---- the rows of transactions
 
@@ -39,12 +37,10 @@ RowsMove w _ old new = new ≡ old
 
 -- ---- all that is kept
 
--- what the event after the history H does to it: to each object, to what is held at each, and to the rows
+-- what the event after the history H does to it: to each object, and to the rows
 pub record Moves (old new : Keeping) (H : List Event) (e : Event) : Type 0 where
   pub as_many : length new.meanings ≡ length old.meanings
   pub objects : (x : ℕ) (m n : Meaning) → slice_get old.meanings x ≡ Some m → slice_get new.meanings x ≡ Some n → Changes x (seen H) e.kind m n
-  pub lists : length new.held ≡ length old.held
-  pub held : (x : ℕ) (l : List Held) → slice_get new.held x ≡ Some l → l ≡ map as_held (held_after x (seen H) e.kind)
   pub rows : RowsMove e.worker e.kind old.rows new.rows
 
 -- by an event that may follow, what is kept goes on agreeing with the history. Its length leaves room in logs, which are no longer

@@ -2,8 +2,8 @@
 //! calls the laws on which it depends.
 
 ghost use Rattle.store_laws.specs.Moves.{StaysKept};
-ghost use Rattle.store_laws.specs.Words.{EndsAsHeld, StrikesAsHeld, BlocksAsHeld, AnswersAsDefined};
-ghost use Rattle.store_laws.specs.Before.{NewIsKept, RowsSayWhoIsOpen, RowsAreCounted, PlacesAreCounted, RowsAreFew, PlacesAreFew, PlacesAreInside, HeldAreOperations, HasWhatIsStruck};
+ghost use Rattle.store_laws.specs.Words.{AnswersAsDefined};
+ghost use Rattle.store_laws.specs.Before.{NewIsKept, RowsSayWhoIsOpen, RowsAreCounted, PlacesAreCounted, RowsAreFew, PlacesAreFew, PlacesAreInside, HasWhatIsStruck};
 ghost use Rattle.store_laws.specs.Asked.{AskedIsReplayed, StepIsAsked, AnswerIsDefined};
 ghost use Rattle.store_laws.specs.Events.{QuietMoves, BeginMoves, OpMoves, EndMoves, RollbackMoves, TypesStay, RoomAfter};
 
@@ -12,13 +12,13 @@ use object_trait::{
     untouched_stays,
 };
 use serial_order::{
-    allows_alike, beginners_after, blocker_is_held, command_appends, fresh_stands, held_after,
-    logs_are_counted, machine_may_apply, opens_after, operations_in_run, own_after, run_goes_on,
-    seen_after, stands_as_read, stands_on, transactions_in_run,
+    allows_alike, beginners_after, command_appends, fresh_stands, logs_are_counted,
+    machine_may_apply, opens_after, operations_in_run, own_after, run_goes_on, seen_after,
+    stands_as_read, stands_on, stopper_is_blocker, transactions_in_run,
 };
 
 /// By an event that may follow, what a store keeps goes on agreeing with its history: that it is a
-/// run, what each object represents, what is held at each, and the row of each transaction.
+/// run, what each object represents, and the row of each transaction.
 pub fn stays_kept()
     ensures { StaysKept }
 {
@@ -32,41 +32,17 @@ pub fn stays_kept()
     logs_are_counted();
     seen_after();
     transactions_in_run();
-    held_after();
     opens_after();
     own_after();
     beginners_after();
 }
 
-/// As they are held, the operations of others than a transaction are what others hold.
-#[tactic(auto, using(crate::proofs::Words::ends_as_held))]
-pub fn ends_as_held()
-    ensures { EndsAsHeld }
-{}
-
-/// As they are held, all but the last operations of a transaction are all but the last of what it
-/// holds.
-#[tactic(auto, using(crate::proofs::Words::strikes_as_held))]
-pub fn strikes_as_held()
-    ensures { StrikesAsHeld }
-{}
-
-/// What keeps a transaction from an operation, by the history, is what keeps it by the list of what
-/// is held.
-#[tactic(auto, using(crate::proofs::Words::blocks_as_held))]
-pub fn blocks_as_held()
-    ensures { BlocksAsHeld }
-{
-    blocker_is_held();
-}
-
-/// Where an object represents the history and what is held there agrees with it, a call is answered
-/// as the history defines it.
+/// Where an object represents the history a call is answered as the history defines it.
 pub fn answers_as_defined()
     ensures { AnswersAsDefined }
 {
     allows_alike();
-    blocks_as_held();
+    stopper_is_blocker();
 }
 
 /// What a new store keeps agrees with the empty history.
@@ -119,16 +95,8 @@ pub fn places_are_inside()
     operations_in_run();
 }
 
-/// What is held at an object are operations of its table.
-#[tactic(auto, using(crate::proofs::Places::held_are_operations))]
-pub fn held_are_operations()
-    ensures { HeldAreOperations }
-{
-    operations_in_run();
-}
-
-/// Wherever its last operations are, an open transaction has as many open entries, and holds as many
-/// operations, as a rollback strikes there.
+/// Wherever its last operations are, an open transaction has as many open entries as a rollback
+/// strikes there.
 #[tactic(auto, using(crate::proofs::Places::has_what_is_struck))]
 pub fn has_what_is_struck()
     ensures { HasWhatIsStruck }
@@ -148,29 +116,25 @@ pub fn begin_moves()
     ensures { BeginMoves }
 {}
 
-/// An operation is one more entry at its object, one more that is held there, and one more place in
-/// its transaction's row.
+/// An operation is one more entry at its object, and one more place in its transaction's row.
 pub fn op_moves()
     ensures { OpMoves }
 {}
 
-/// A commit commits, and an abort aborts, at each object where its transaction has operations, and
-/// gives up what it holds there. At any other object nothing changes, which is such an end too.
+/// A commit commits, and an abort aborts, at each object where its transaction has operations. At any
+/// other object nothing changes, which is such an end too.
 pub fn end_moves()
     ensures { EndMoves }
 {
     untouched_stays();
     logs_are_counted();
-    ends_as_held();
 }
 
-/// A rollback strikes, and gives up, the last operations of its transaction: at each object as many as
-/// are among them.
+/// A rollback strikes the last operations of its transaction: at each object as many as are among
+/// them.
 pub fn rollback_moves()
     ensures { RollbackMoves }
-{
-    strikes_as_held();
-}
+{}
 
 /// An event leaves the types of the objects.
 pub fn types_stay()

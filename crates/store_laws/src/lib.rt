@@ -5,11 +5,10 @@
 mod laws;
 
 pub use laws::{
-    answer_is_defined, answers_as_defined, asked_is_replayed, begin_moves, blocks_as_held,
-    end_moves, ends_as_held, has_what_is_struck, held_are_operations, new_is_kept, op_moves,
-    places_are_counted, places_are_few, places_are_inside, quiet_moves, rollback_moves, room_after,
-    rows_are_counted, rows_are_few, rows_say_who_is_open, stays_kept, step_is_asked,
-    strikes_as_held, types_stay,
+    answer_is_defined, answers_as_defined, asked_is_replayed, begin_moves, end_moves,
+    has_what_is_struck, new_is_kept, op_moves, places_are_counted, places_are_few,
+    places_are_inside, quiet_moves, rollback_moves, room_after, rows_are_counted, rows_are_few,
+    rows_say_who_is_open, stays_kept, step_is_asked, types_stay,
 };
 
 pub mod worked;

@@ -1,3 +1,3 @@
-pub mod Places
+pub mod Blocking
 pub mod Replaying
 pub mod UpdateInPlace

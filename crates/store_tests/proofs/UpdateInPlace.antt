@@ -4,7 +4,7 @@ use Rattle.std.specs.List.{list_any}
 use Rattle.std.specs.Option.{option_to_list}
 use Rattle.std.proofs.lemmas.Bool.{false≢true, true≢false, cases_Bool}
 use Rattle.type_table.specs.declared.kind.Kind.{Kind}
-use Rattle.type_table.specs.declared.kind.Kind.TheVariants.{Undo, Intentions}
+use Rattle.type_table.specs.declared.kind.Kind.TheVariants.{Undo, Intentions, Escrow}
 use Rattle.object_trait.specs.Object.{Object}
 use Rattle.object_trait.specs.Strike.{keep_first}
 use Rattle.object_trait.specs.Meaning.{Meaning, object, is_open_of}
@@ -17,6 +17,7 @@ use Rattle.object_trait.specs.declared.log_entry.LogEntry.{LogEntry}
 unsettled_commit : (kind : Kind) → kind ≡ Undo → (o : Object) (base : ℕ) (log : List LogEntry) (t : ℕ) (new_log : List LogEntry) → new_log ≡ map (marked t) log → IsCommitBy kind o base log t base new_log
 unsettled_commit Undo e o base log t new_log same = record { moved = []; front = sym same; done = tt; reached = refl }
 unsettled_commit Intentions e o base log t new_log same = absurd (cc)
+unsettled_commit Escrow e o base log t new_log same = absurd (cc)
 
 -- is what a commit leaves
 pub commit-unsettled : (m : Meaning) (t : ℕ) (new_log : List LogEntry) → m.checked.kind ≡ Undo → new_log ≡ map (marked t) m.log → IsCommit m t (record m { log = new_log })
@@ -27,6 +28,7 @@ unsettled_strike : (kind : Kind) → kind ≡ Undo → (o : Object) (base : ℕ)
     IsStrikeBy kind o base log t n base new_log
 unsettled_strike Undo e o base log t n new_log same = record { moved = []; front = sym same; done = tt; reached = refl }
 unsettled_strike Intentions e o base log t n new_log same = absurd (cc)
+unsettled_strike Escrow e o base log t n new_log same = absurd (cc)
 
 -- is what a strike leaves
 pub strike-unsettled : (m : Meaning) (t n : ℕ) (new_log : List LogEntry) → m.checked.kind ≡ Undo → new_log ≡ keep_first (is_open_of t) n m.log → Keeps m t n (record m { log = new_log })

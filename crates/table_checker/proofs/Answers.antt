@@ -1,21 +1,27 @@
 -- Each file has one answer.
-use Rattle.std.proofs.Common.{◌≡◌, ℕ, ◌+◌, ◌*◌, ◌<◌, ◌≤◌, ◌⊎◌, ◌&&◌, Bool, true, false, List, length, Option, Some, None, Result, Ok, Err, inl, inr, refl, sym, ap, ◌∙◌, arith, rules}
+use Rattle.std.proofs.Common.{◌≡◌, ℕ, ◌+◌, ◌-◌, ◌*◌, ◌<◌, ◌≤◌, ◌⊎◌, ◌&&◌, Bool, true, false, List, length, Option, Some, None, Result, Ok, Err, inl, inr, refl, sym, ap, subst, ◌∙◌, arith, rules}
 use Rattle.std.proofs.lemmas.Bool.{cases_lt, false≢true}
 use Rattle.equi_cert.specs.Fault.{is_fault, leads_outside, IsFirstFault}
 use Rattle.equi_cert.specs.Simulation.{IsSimulation}
 use Rattle.equi_cert.specs.Relation.{relates}
 use Rattle.type_table.specs.Table.{Table, next}
 use Rattle.type_table.specs.declared.kind.Kind.{Kind}
+use Rattle.type_table.specs.declared.kind.Kind.TheVariants as kinds
+use Rattle.type_table.specs.declared.table_kind.TableKind.{TableKind}
+use Rattle.type_table.specs.declared.table_kind.TableKind.TheVariants as tabled
+use Rattle.escrow_laws.specs.Bounds.{amounts_of, bounds_of}
+use Rattle.escrow_laws.specs.Faults.{IsNumericFault, IsFirstNumericFault}
+use Rattle.escrow_laws.specs.Laws.{BoundsAreNumeric, NumericIsFaultless}
 use Rattle.type_text.specs.TypeFile.{conflicts_of}
 use Rattle.type_text.specs.declared.type_file.TypeFile.{TypeFile}
 use Rattle.table_checker.specs.Answer.{IsAnswer, OneAnswer}
-use Rattle.table_checker.specs.Checked.{Checked, IsChecked, condition_of}
+use Rattle.table_checker.specs.Checked.{Checked, IsCheckedBy, IsCommuting, IsNumericType, condition_of}
 use Rattle.table_checker.specs.Condition.{number_of, fails_at, IsFirstFailure}
 use Rattle.table_checker.specs.Reach.{leaves_at, IsFirstLeave}
-use Rattle.table_checker.specs.Refusal.{IsFirstReason}
+use Rattle.table_checker.specs.Refusal.{IsFirstReason, IsFirstOfCommuting, IsFirstOfNumeric}
 use Rattle.table_checker.specs.declared.condition.Condition.{Condition}
 use Rattle.table_checker.specs.declared.refusal.CheckRefusal.{CheckRefusal}
-use Rattle.table_checker.specs.declared.refusal.CheckRefusal.TheVariants.{InitialOutside, NotClosed, NotSimulation, NotCommuting}
+use Rattle.table_checker.specs.declared.refusal.CheckRefusal.TheVariants.{InitialOutside, NotClosed, NotSimulation, NotCommuting, NotNumeric}
 use Rattle.table_checker.proofs.Numbers.{row_not_behind}
 
 -- what is true isn't false
@@ -97,39 +103,87 @@ no_fault T related s t k simulation fault = split (related s t) refl
 -- ---- one answer
 
 -- no first reason holds of a file that passes
-none_of_passed : (kind : Kind) (file : TypeFile) (r : CheckRefusal) → IsChecked (record { kind = kind; file = file }) → IsFirstReason kind file r → ⊥
-none_of_passed kind file InitialOutside passed reason = both _ passed.certified.begins_inside reason
-none_of_passed kind file (NotClosed s k) passed reason = both _ reason.1.leaves (passed.certified.never_leaves s k reason.1.state reason.1.operation)
-none_of_passed kind file (NotSimulation s t k) passed reason = no_fault file.table (relates file.relation) s t k passed.certified.simulation reason.2.fails
-none_of_passed kind file (NotCommuting p q s) passed reason = both _ reason.1.fails (passed.passes p q s reason.1.inside)
+none_of_commuting : (kind : TableKind) (file : TypeFile) (r : CheckRefusal) → IsCommuting kind file → IsFirstOfCommuting kind file r → ⊥
+none_of_commuting kind file InitialOutside passed reason = both _ passed.certified.begins_inside reason
+none_of_commuting kind file (NotClosed s k) passed reason = both _ reason.1.leaves (passed.certified.never_leaves s k reason.1.state reason.1.operation)
+none_of_commuting kind file (NotSimulation s t k) passed reason = no_fault file.table (relates file.relation) s t k passed.certified.simulation reason.2.fails
+none_of_commuting kind file (NotCommuting p q s) passed reason = both _ reason.1.fails (passed.passes p q s reason.1.inside)
+none_of_commuting kind file (NotNumeric k s) passed reason = reason
 
 -- two first reasons are equal
-one_reason : (kind : Kind) (file : TypeFile) (a b : CheckRefusal) → IsFirstReason kind file a → IsFirstReason kind file b → a ≡ b
-one_reason kind file InitialOutside InitialOutside x y = refl
-one_reason kind file InitialOutside (NotClosed s k) x y = both _ y.0 x
-one_reason kind file InitialOutside (NotSimulation s t k) x y = both _ y.0 x
-one_reason kind file InitialOutside (NotCommuting p q s) x y = both _ y.0.begins_inside x
-one_reason kind file (NotClosed s k) InitialOutside x y = both _ x.0 y
-one_reason kind file (NotClosed s k) (NotClosed r c) x y =
+one_of_commuting : (kind : TableKind) (file : TypeFile) (a b : CheckRefusal) → IsFirstOfCommuting kind file a → IsFirstOfCommuting kind file b → a ≡ b
+one_of_commuting kind file InitialOutside InitialOutside x y = refl
+one_of_commuting kind file InitialOutside (NotClosed s k) x y = both _ y.0 x
+one_of_commuting kind file InitialOutside (NotSimulation s t k) x y = both _ y.0 x
+one_of_commuting kind file InitialOutside (NotCommuting p q s) x y = both _ y.0.begins_inside x
+one_of_commuting kind file (NotClosed s k) InitialOutside x y = both _ x.0 y
+one_of_commuting kind file (NotClosed s k) (NotClosed r c) x y =
     let same = first_leave file.table file.reach s k r c x.1 y.1 in
     rw (same.0, same.1) refl
-one_reason kind file (NotClosed s k) (NotSimulation a b c) x y = both _ x.1.leaves (y.1 s k x.1.state x.1.operation)
-one_reason kind file (NotClosed s k) (NotCommuting a b c) x y = both _ x.1.leaves (y.0.never_leaves s k x.1.state x.1.operation)
-one_reason kind file (NotSimulation s t k) InitialOutside x y = both _ x.0 y
-one_reason kind file (NotSimulation s t k) (NotClosed a b) x y = both _ y.1.leaves (x.1 a b y.1.state y.1.operation)
-one_reason kind file (NotSimulation s t k) (NotSimulation a b c) x y =
+one_of_commuting kind file (NotClosed s k) (NotSimulation a b c) x y = both _ x.1.leaves (y.1 s k x.1.state x.1.operation)
+one_of_commuting kind file (NotClosed s k) (NotCommuting a b c) x y = both _ x.1.leaves (y.0.never_leaves s k x.1.state x.1.operation)
+one_of_commuting kind file (NotSimulation s t k) InitialOutside x y = both _ x.0 y
+one_of_commuting kind file (NotSimulation s t k) (NotClosed a b) x y = both _ y.1.leaves (x.1 a b y.1.state y.1.operation)
+one_of_commuting kind file (NotSimulation s t k) (NotSimulation a b c) x y =
     let same = first_fault file.table (relates file.relation) s t k a b c x.2 y.2 in
     rw (same.0, same.1, same.2) refl
-one_reason kind file (NotSimulation s t k) (NotCommuting a b c) x y = absurd (no_fault file.table (relates file.relation) s t k y.0.simulation x.2.fails)
-one_reason kind file (NotCommuting p q s) InitialOutside x y = both _ x.0.begins_inside y
-one_reason kind file (NotCommuting p q s) (NotClosed a b) x y = both _ y.1.leaves (x.0.never_leaves a b y.1.state y.1.operation)
-one_reason kind file (NotCommuting p q s) (NotSimulation a b c) x y = absurd (no_fault file.table (relates file.relation) a b c x.0.simulation y.2.fails)
-one_reason kind file (NotCommuting p q s) (NotCommuting a b c) x y =
+one_of_commuting kind file (NotSimulation s t k) (NotCommuting a b c) x y = absurd (no_fault file.table (relates file.relation) s t k y.0.simulation x.2.fails)
+one_of_commuting kind file (NotCommuting p q s) InitialOutside x y = both _ x.0.begins_inside y
+one_of_commuting kind file (NotCommuting p q s) (NotClosed a b) x y = both _ y.1.leaves (x.0.never_leaves a b y.1.state y.1.operation)
+one_of_commuting kind file (NotCommuting p q s) (NotSimulation a b c) x y = absurd (no_fault file.table (relates file.relation) a b c x.0.simulation y.2.fails)
+one_of_commuting kind file (NotCommuting p q s) (NotCommuting a b c) x y =
     let same = first_failure (condition_of kind) file (conflicts_of kind file) p q s a b c x.1 y.1 in
     rw (same.0, same.1, same.2) refl
+one_of_commuting kind file InitialOutside (NotNumeric c r) x y = absurd y
+one_of_commuting kind file (NotClosed s k) (NotNumeric c r) x y = absurd y
+one_of_commuting kind file (NotSimulation s t k) (NotNumeric c r) x y = absurd y
+one_of_commuting kind file (NotCommuting p q s) (NotNumeric c r) x y = absurd y
+one_of_commuting kind file (NotNumeric k s) b x y = absurd x
 
-pub one_answer : OneAnswer
-one_answer kind file (Ok a) (Ok b) x y = ap (λ c. Ok c) (x.0 ∙ sym y.0)
-one_answer kind file (Ok a) (Err b) x y = absurd (none_of_passed kind file b.1 x.1 y.1)
-one_answer kind file (Err a) (Ok b) x y = absurd (none_of_passed kind file a.1 y.1 x.1)
-one_answer kind file (Err (f, a)) (Err (g, b)) x y = rw (x.0, y.0, one_reason kind file a b x.1 y.1) refl
+-- no first fault is that of a numeric type
+none_of_numeric : BoundsAreNumeric → NumericIsFaultless → (T : Table) (r : CheckRefusal) → IsNumericType T → IsFirstOfNumeric T r → ⊥
+none_of_numeric numeric faultless T InitialOutside passed reason = reason
+none_of_numeric numeric faultless T (NotClosed s k) passed reason = reason
+none_of_numeric numeric faultless T (NotSimulation s t k) passed reason = reason
+none_of_numeric numeric faultless T (NotCommuting p q s) passed reason = reason
+none_of_numeric numeric faultless T (NotNumeric k s) passed reason =
+    faultless T (amounts_of (bounds_of T)) (numeric T (T.states - 1) (bounds_of T) passed.bounds) k s reason.fails
+
+-- and two are equal
+one_fault : (T : Table) (k s c r : ℕ) → IsFirstNumericFault T k s → IsFirstNumericFault T c r → (k ≡ c) × (s ≡ r)
+one_fault T k s c r a b =
+    let ops : k ≡ c = by_order k c (λ less. b.least_operation k s less a.fails) (λ more. a.least_operation c r more b.fails) in
+    let here = subst (λ x. IsNumericFault T x r) (sym ops) b.fails in
+    let there = subst (λ x. IsNumericFault T x s) ops a.fails in
+    (ops, by_order s r (λ less. b.least_state s less there) (λ more. a.least_state r more here))
+
+one_of_numeric : (T : Table) (a b : CheckRefusal) → IsFirstOfNumeric T a → IsFirstOfNumeric T b → a ≡ b
+one_of_numeric T InitialOutside b x y = absurd x
+one_of_numeric T (NotClosed s k) b x y = absurd x
+one_of_numeric T (NotSimulation s t k) b x y = absurd x
+one_of_numeric T (NotCommuting p q s) b x y = absurd x
+one_of_numeric T (NotNumeric k s) InitialOutside x y = absurd y
+one_of_numeric T (NotNumeric k s) (NotClosed a b) x y = absurd y
+one_of_numeric T (NotNumeric k s) (NotSimulation a b c) x y = absurd y
+one_of_numeric T (NotNumeric k s) (NotCommuting a b c) x y = absurd y
+one_of_numeric T (NotNumeric k s) (NotNumeric c r) x y =
+    let same = one_fault T k s c r x y in
+    rw (same.0, same.1) refl
+
+-- ---- each kind
+
+none_of_passed : BoundsAreNumeric → NumericIsFaultless → (kind : Kind) (file : TypeFile) (r : CheckRefusal) → IsCheckedBy kind file → IsFirstReason kind file r → ⊥
+none_of_passed numeric faultless kinds.Undo file r passed reason = none_of_commuting tabled.Undo file r passed reason
+none_of_passed numeric faultless kinds.Intentions file r passed reason = none_of_commuting tabled.Intentions file r passed reason
+none_of_passed numeric faultless kinds.Escrow file r passed reason = none_of_numeric numeric faultless file.table r passed reason
+
+one_reason : (kind : Kind) (file : TypeFile) (a b : CheckRefusal) → IsFirstReason kind file a → IsFirstReason kind file b → a ≡ b
+one_reason kinds.Undo file a b x y = one_of_commuting tabled.Undo file a b x y
+one_reason kinds.Intentions file a b x y = one_of_commuting tabled.Intentions file a b x y
+one_reason kinds.Escrow file a b x y = one_of_numeric file.table a b x y
+
+pub one_answer : BoundsAreNumeric → NumericIsFaultless → OneAnswer
+one_answer numeric faultless kind file (Ok a) (Ok b) x y = ap (λ c. Ok c) (x.0 ∙ sym y.0)
+one_answer numeric faultless kind file (Ok a) (Err b) x y = absurd (none_of_passed numeric faultless kind file b.1 x.1 y.1)
+one_answer numeric faultless kind file (Err a) (Ok b) x y = absurd (none_of_passed numeric faultless kind file a.1 y.1 x.1)
+one_answer numeric faultless kind file (Err (f, a)) (Err (g, b)) x y = rw (x.0, y.0, one_reason kind file a b x.1 y.1) refl

@@ -1,6 +1,6 @@
 -- From the finite condition to all lists of operations.
-use Rattle.std.proofs.Common.{◌≡◌, ℕ, Bool, true, false, not, ◌&&◌, ◌||◌, List, [], ◌∷◌, Option, Some, None, IsSome, is_some, refl, sym, ◌∙◌}
-use Rattle.std.proofs.lemmas.Bool.{false≢true, not-false}
+use Rattle.std.proofs.Common.{◌≡◌, ℕ, ◌-◌, nat_lt, Bool, true, false, not, ◌&&◌, ◌||◌, List, [], ◌∷◌, Option, Some, None, IsSome, is_some, refl, sym, ◌∙◌}
+use Rattle.std.proofs.lemmas.Bool.{false≢true, not-false, lt-ltb}
 use Rattle.equi_cert.specs.Laws.{EndsLook}
 use Rattle.equi_cert.specs.Relation.{relates}
 use Rattle.equi_cert.specs.Simulation.{IsSimulation}
@@ -9,16 +9,20 @@ use Rattle.type_table.specs.Run.{next_of, run, IsLegal, Looks}
 use Rattle.type_table.specs.Laws.{StepsWithin}
 use Rattle.type_table.specs.StateSet.{has, IsClosed}
 use Rattle.type_table.specs.ConflictTable.{conflicts}
-use Rattle.type_table.specs.Commute.{CommuteForward, CommutesBackward, CommutesBackwardBothWays, Commutes, CommutesStrongly}
+use Rattle.type_table.specs.Commute.{CommuteForward, CommutesBackward, CommutesBackwardBothWays, Commutes, CommutesStrongly, Covers, CoversStrongly}
 use Rattle.type_table.specs.declared.kind.Kind.{Kind}
-use Rattle.type_table.specs.declared.kind.Kind.TheVariants.{Undo, Intentions}
+use Rattle.type_table.specs.declared.kind.Kind.TheVariants as kinds
+use Rattle.type_table.specs.declared.table_kind.TableKind.{TableKind}
+use Rattle.type_table.specs.declared.table_kind.TableKind.TheVariants.{Undo, Intentions}
 use Rattle.type_table.proofs.Legal.{some_state, is_there}
+use Rattle.escrow_laws.specs.Bounds.{bounds_of}
+use Rattle.escrow_laws.specs.Laws.{BoundsAreNumeric}
 use Rattle.type_text.specs.declared.type_file.TypeFile.{TypeFile}
 use Rattle.table_checker.specs.Condition.{ends_relate, end_of, passes, passes_forward, passes_backward, passes_both_ways, AreInside, PassesEverywhere}
 use Rattle.table_checker.specs.Reach.{is_outside, NeverLeaves}
-use Rattle.table_checker.specs.Checked.{condition_of, strong_condition_of}
+use Rattle.table_checker.specs.Checked.{IsCheckedBy, IsCommuting, IsStrongBy, condition_of, strong_condition_of}
 use Rattle.type_text.specs.TypeFile.{conflicts_of}
-use Rattle.table_checker.specs.Laws.{YesCovers, StrongYesCovers}
+use Rattle.table_checker.specs.Laws.{CoversType, CoversTypeStrongly, YesCovers, StrongYesCovers}
 use Rattle.table_checker.specs.declared.condition.Condition.{Condition}
 use Rattle.table_checker.specs.declared.condition.Condition.TheVariants.{Forward, Backward, BackwardBothWays}
 
@@ -143,29 +147,56 @@ both_ways_commute within ends file rows table simulation all p q free = λ s mem
 -- ---- kinds
 
 -- each pair outside the table commutes, as the kind asks
-commutes : StepsWithin → EndsLook → (kind : Kind) (file : TypeFile) → IsTable file.table → IsSimulation file.table (relates file.relation) →
+commutes : StepsWithin → EndsLook → (kind : TableKind) (file : TypeFile) → IsTable file.table → IsSimulation file.table (relates file.relation) →
     PassesEverywhere (condition_of kind) file (conflicts_of kind file) → (p q : ℕ) → conflicts (conflicts_of kind file) p q ≡ false → Commutes kind file.table (has file.reach) p q
 commutes within ends Undo file table simulation all = backward_commutes within ends file file.undo table simulation all
 commutes within ends Intentions file table simulation all = forward_commutes within ends file file.intentions table simulation all
 
 -- and as the stronger claim asks
-commutes_strongly : StepsWithin → EndsLook → (kind : Kind) (file : TypeFile) → IsTable file.table → IsSimulation file.table (relates file.relation) →
+commutes_strongly : StepsWithin → EndsLook → (kind : TableKind) (file : TypeFile) → IsTable file.table → IsSimulation file.table (relates file.relation) →
     PassesEverywhere (strong_condition_of kind) file (conflicts_of kind file) → (p q : ℕ) → conflicts (conflicts_of kind file) p q ≡ false → CommutesStrongly kind file.table (has file.reach) p q
 commutes_strongly within ends Undo file table simulation all = both_ways_commute within ends file file.undo table simulation all
 commutes_strongly within ends Intentions file table simulation all = forward_commutes within ends file file.intentions table simulation all
 
--- a yes gives covering
-pub yes-covers : StepsWithin → EndsLook → YesCovers
-yes-covers within ends = λ c h. record {
+-- what was tested covers
+covers : StepsWithin → EndsLook → (kind : TableKind) (file : TypeFile) → IsCommuting kind file → Covers kind file.table (has file.reach) (conflicts (conflicts_of kind file))
+covers within ends kind file h = record {
   begins_inside = h.certified.begins_inside;
-  closed = closed within c.file.table c.file.reach h.table h.certified.never_leaves;
-  commute = commutes within ends c.kind c.file h.table h.certified.simulation h.passes;
+  closed = closed within file.table file.reach h.table h.certified.never_leaves;
+  commute = commutes within ends kind file h.table h.certified.simulation h.passes;
 }
 
--- a strong yes gives strong covering
-pub strong_yes-covers : StepsWithin → EndsLook → StrongYesCovers
-strong_yes-covers within ends = λ c h strong. record {
+-- and strongly
+covers_strongly : StepsWithin → EndsLook → (kind : TableKind) (file : TypeFile) → IsCommuting kind file → PassesEverywhere (strong_condition_of kind) file (conflicts_of kind file)
+    → CoversStrongly kind file.table (has file.reach) (conflicts (conflicts_of kind file))
+covers_strongly within ends kind file h strong = record {
   begins_inside = h.certified.begins_inside;
-  closed = closed within c.file.table c.file.reach h.table h.certified.never_leaves;
-  commute = commutes_strongly within ends c.kind c.file h.table h.certified.simulation strong;
+  closed = closed within file.table file.reach h.table h.certified.never_leaves;
+  commute = commutes_strongly within ends kind file h.table h.certified.simulation strong;
 }
+
+-- no step leaves the set of all states
+all-closed : StepsWithin → (T : Table) → IsTable T → IsClosed T (λ s. nat_lt s T.states)
+all-closed within T table = λ s k t member step. lt-ltb t T.states (within T s k t table step).2
+
+-- a yes gives covering
+covers_by : StepsWithin → EndsLook → BoundsAreNumeric → (kind : Kind) (file : TypeFile) → IsCheckedBy kind file → CoversType kind file
+covers_by within ends numeric kinds.Undo file h = covers within ends Undo file h
+covers_by within ends numeric kinds.Intentions file h = covers within ends Intentions file h
+covers_by within ends numeric kinds.Escrow file h = record {
+  begins_inside = lt-ltb file.table.initial file.table.states h.table.initial_inside;
+  closed = all-closed within file.table h.table;
+  numeric = numeric file.table (file.table.states - 1) (bounds_of file.table) h.bounds;
+}
+
+pub yes-covers : StepsWithin → EndsLook → BoundsAreNumeric → YesCovers
+yes-covers within ends numeric = λ c h. covers_by within ends numeric c.kind c.file h
+
+-- a strong yes gives strong covering
+strongly_by : StepsWithin → EndsLook → BoundsAreNumeric → (kind : Kind) (file : TypeFile) → IsCheckedBy kind file → IsStrongBy kind file → CoversTypeStrongly kind file
+strongly_by within ends numeric kinds.Undo file h strong = covers_strongly within ends Undo file h strong
+strongly_by within ends numeric kinds.Intentions file h strong = covers_strongly within ends Intentions file h strong
+strongly_by within ends numeric kinds.Escrow file h strong = covers_by within ends numeric kinds.Escrow file h
+
+pub strong_yes-covers : StepsWithin → EndsLook → BoundsAreNumeric → StrongYesCovers
+strong_yes-covers within ends numeric = λ c h strong. strongly_by within ends numeric c.kind c.file h strong

@@ -1,12 +1,13 @@
 -- Which triples fail.
-use Rattle.std.proofs.Common.{◌≡◌, ℕ, ◌<◌, Bool, true, false, not, ◌&&◌, List, length, refl, sym, ◌∙◌, ◌↔◌, inl, inr, Option, Some, None, is_some, MatchOption}
+use Rattle.std.proofs.Common.{◌≡◌, ℕ, ◌<◌, Bool, true, false, not, ◌&&◌, List, length, refl, sym, subst, ◌∙◌, ◌↔◌, inl, inr, Option, Some, None, is_some, MatchOption}
 use Rattle.std.proofs.lemmas.Bool.{false≢true}
 use Rattle.type_table.specs.ConflictTable.{conflicts}
+use Rattle.type_table.specs.declared.kind.Kind.{Kind}
 use Rattle.type_table.specs.declared.kind.Kind.TheVariants.{Undo}
 use Rattle.type_text.specs.declared.type_file.TypeFile.{TypeFile}
 use Rattle.table_checker.specs.Condition.{fails_in_set, fails_at, PassesEverywhere, IsFirstFailure}
 use Rattle.table_checker.specs.Scan.{IsFirstHeld}
-use Rattle.table_checker.specs.Checked.{Checked, IsStrong}
+use Rattle.table_checker.specs.Checked.{Checked, IsStrong, IsStrongBy}
 use Rattle.table_checker.specs.declared.condition.Condition.{Condition}
 use Rattle.table_checker.specs.declared.condition.Condition.TheVariants.{BackwardBothWays}
 use Rattle.table_checker.proofs.Numbers.{before_cases}
@@ -58,4 +59,4 @@ first-failure condition file rows p q s p_in earlier h = record {
 
 -- a yes for update in place is strong just where each pair meets the two-way condition
 pub strong-undo : (c : Checked) (b : Bool) → c.kind ≡ Undo → (b ≡ true) ↔ PassesEverywhere BackwardBothWays c.file c.file.undo → (b ≡ true) ↔ IsStrong c
-strong-undo c b e h = rw e h
+strong-undo c b e h = subst (λ (kind : Kind). (b ≡ true) ↔ IsStrongBy kind c.file) (sym e) h

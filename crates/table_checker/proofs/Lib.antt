@@ -5,3 +5,4 @@ pub mod Covering
 pub mod Examples
 pub mod Answers
 pub mod BeginsAt
+pub mod Yeses

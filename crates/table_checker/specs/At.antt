@@ -1,16 +1,22 @@
 -- A checked type that begins at another state.
-use Rattle.std.specs.Prelude.{◌≡◌, ℕ, true}
-use Rattle.type_table.specs.StateSet.{has}
+use Rattle.std.specs.Prelude.{◌≡◌, ℕ, Bool, true}
 use Rattle.type_text.specs.TypeFile.{file_at}
-use Rattle.table_checker.specs.Checked.{Checked, IsChecked, IsStrong}
+use Rattle.table_checker.specs.Checked.{Checked, IsChecked, IsStrong, set_by}
 
 -- the type as it was checked, beginning at s
 abbrev pub checked_at : Checked → ℕ → Checked
 checked_at c s = record c { file = file_at c.file s }
 
--- at a state of its set it is checked too
+-- it may begin at s, which is one of the states that were looked at
+abbrev pub is_inside : Checked → ℕ → Bool
+is_inside c s = set_by c.kind c.file s
+
+abbrev pub IsInside : Checked → ℕ → Type 0
+IsInside c s = is_inside c s ≡ true
+
+-- where it may begin it is checked too
 abbrev pub AtIsChecked : Type 0
-AtIsChecked = (c : Checked) (s : ℕ) → IsChecked c → has c.file.reach s ≡ true → IsChecked (checked_at c s)
+AtIsChecked = (c : Checked) (s : ℕ) → IsChecked c → IsInside c s → IsChecked (checked_at c s)
 
 -- and strongly where it was
 abbrev pub AtIsStrong : Type 0

@@ -1,4 +1,5 @@
 ghost use Rattle.std.specs.Prelude.{◌≡◌, length, MatchOption, OnOk};
+ghost use Rattle.type_table.specs.Kind.{of_table};
 ghost use Rattle.type_table.specs.StateSet.{has};
 ghost use Rattle.type_text.specs.TypeFile.{conflicts_of};
 ghost use Rattle.table_checker.specs.Answer.{IsAnswer};
@@ -14,13 +15,17 @@ use crate::reach::{Leave, first_leave};
 use crate::refusal::CheckRefusal;
 use crate::scan::{Triple, first_failure};
 use equi_cert::{CertFault, check_simulation};
+use escrow_laws::{NumericFault, numeric};
 use std::thread::Threads;
-use type_table::{Kind, StateSet, TypeTable};
+use type_table::{Kind, StateSet, TableKind, TypeTable};
 use type_text::TypeFile;
 
-/// Checks that the file's conflict table for a kind is enough: that the file's set of states holds
-/// the initial state and is closed under steps, that its relation is a simulation, and that each
-/// pair outside the table meets the kind's condition at each state of the set. It takes no memory.
+/// Checks that a file is good for a kind of recovery. It takes no memory.
+///
+/// For update in place and deferred update, that the file's conflict table for the kind is enough: that
+/// its set of states holds the initial state and is closed under steps, that its relation is a
+/// simulation, and that each pair outside the table meets the kind's condition at each state of the
+/// set. For escrow, that the type is numeric.
 ///
 /// # Errors
 ///
@@ -30,11 +35,11 @@ pub fn check(file: TypeFile, kind: Kind) -> Result<CheckedType, (TypeFile, Check
     // What holds at each state of the set holds over all lists of operations.
     ensures covers { OnOk result (CoversType kind file) }
 {
-    if let Some(refusal) = certificate_refusal(&file) {
-        return Err((file, refusal));
+    yes_covers();
+    match kind.table_kind() {
+        Some(kind) => check_commuting(file, kind),
+        None => check_numeric(file),
     }
-    let failure = first_failure(condition_of(kind), &file, file.conflicts(kind));
-    answer_of(kind, file, failure)
 }
 
 /// Answers what `check` answers, and looks at pairs and states by all processors.
@@ -51,6 +56,32 @@ pub fn check_parallel(
     // What holds at each state of the set holds over all lists of operations.
     ensures covers { OnOk result (CoversType kind file) }
 {
+    yes_covers();
+    match kind.table_kind() {
+        Some(kind) => check_commuting_parallel(rt, file, kind),
+        None => check_numeric(file),
+    }
+}
+
+/// The check of a conflict table.
+fn check_commuting(file: TypeFile, kind: TableKind) -> Result<CheckedType, (TypeFile, CheckRefusal)>
+    ensures { IsAnswer (of_table kind) file result }
+{
+    if let Some(refusal) = certificate_refusal(&file) {
+        return Err((file, refusal));
+    }
+    let failure = first_failure(condition_of(kind), &file, file.conflicts(kind));
+    answer_of(kind, file, failure)
+}
+
+/// The same by all processors.
+fn check_commuting_parallel(
+    rt: &(impl Threads + Sync),
+    file: TypeFile,
+    kind: TableKind,
+) -> Result<CheckedType, (TypeFile, CheckRefusal)>
+    ensures { IsAnswer (of_table kind) file result }
+{
     if let Some(refusal) = certificate_refusal(&file) {
         return Err((file, refusal));
     }
@@ -60,7 +91,7 @@ pub fn check_parallel(
 
 /// The answer to a file whose set and relation are certified, by the first triple that fails.
 fn answer_of(
-    kind: Kind,
+    kind: TableKind,
     file: TypeFile,
     failure: Option<Triple>,
 ) -> Result<CheckedType, (TypeFile, CheckRefusal)>
@@ -68,13 +99,27 @@ fn answer_of(
     requires searched { MatchOption failure
         (PassesEverywhere (condition_of kind) file (conflicts_of kind file))
         (λ f. IsFirstFailure (condition_of kind) file (conflicts_of kind file) f.p f.q f.s) }
-    ensures exact { IsAnswer kind file result }
-    ensures covers { OnOk result (CoversType kind file) }
+    ensures { IsAnswer (of_table kind) file result }
 {
-    yes_covers();
     match failure {
-        None => Ok(CheckedType::new(kind, file)),
+        None => Ok(CheckedType::commuting(kind, file)),
         Some(Triple { p, q, s }) => Err((file, CheckRefusal::NotCommuting { p, q, s })),
+    }
+}
+
+/// The check whether the type is numeric.
+fn check_numeric(file: TypeFile) -> Result<CheckedType, (TypeFile, CheckRefusal)>
+    ensures { IsAnswer Kind.Escrow file result }
+{
+    match numeric(&file.table) {
+        Ok(bounds) => Ok(CheckedType::numeric(file, bounds)),
+        Err(NumericFault { operation, state }) => {
+            let refusal = CheckRefusal::NotNumeric {
+                k: operation,
+                s: state,
+            };
+            Err((file, refusal))
+        }
     }
 }
 

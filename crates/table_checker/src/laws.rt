@@ -6,14 +6,16 @@ ghost use Rattle.table_checker.specs.Answer.{OneAnswer};
 ghost use Rattle.table_checker.specs.Laws.{YesCovers, StrongYesCovers};
 
 use equi_cert::ends_look;
+use escrow_laws::{bounds_are_numeric, numeric_is_faultless};
 use type_table::steps_within;
 
-/// A yes gives covering over all lists of operations.
+/// A yes gives covering over all lists of operations, or that the type is numeric.
 pub fn yes_covers()
     ensures { YesCovers }
 {
     steps_within();
     ends_look();
+    bounds_are_numeric();
 }
 
 /// A strong yes gives strong covering over all lists of operations.
@@ -22,16 +24,19 @@ pub fn strong_yes_covers()
 {
     steps_within();
     ends_look();
+    bounds_are_numeric();
 }
 
 /// Each file has one answer for each kind: two first reasons are equal, and none holds of a file that
 /// passes. So `check` and `check_parallel` answer the same.
-#[tactic(auto, using(crate::proofs::Answers::one_answer))]
 pub fn one_answer()
     ensures { OneAnswer }
-{}
+{
+    bounds_are_numeric();
+    numeric_is_faultless();
+}
 
-/// A checked type is one at any state of its set.
+/// A checked type is one at any state at which it may begin.
 #[tactic(auto, using(crate::proofs::BeginsAt::at_is_checked))]
 pub fn at_is_checked()
     ensures { AtIsChecked }

@@ -18,4 +18,9 @@ pub enum CheckRefusal {
     /// the set, and the pair's condition fails at s.
     #[error("NotCommuting {p} {q} {s}")]
     NotCommuting { p: u8, q: u8, s: u16 },
+    /// For escrow: operation k is at fault in state s. It is illegal there, and legal in a lower and in a
+    /// higher state; or it is legal there, and moves it otherwise than it moves the least state in which
+    /// it is legal.
+    #[error("NotNumeric {k} {s}")]
+    NotNumeric { k: u8, s: u16 },
 }

@@ -13,7 +13,7 @@ ghost use Rattle.table_checker.specs.Examples.{counter_file, one_way_file, idle_
 
 use crate::condition::Condition;
 use crate::laws::yes_covers;
-use type_table::Kind;
+use type_table::TableKind;
 
 pub fn two_ups_fail_where_one_fits()
     ensures room { fails_at Condition.Forward counter_file no_pairs 0 0 0 ≡ false }
@@ -91,7 +91,7 @@ pub fn counter_passes_with_both_pairs()
 {}
 
 pub fn counter_with_both_pairs_is_covered()
-    ensures { Covers Kind.Intentions counter (has counter_file.reach) (conflicts forward_pairs) }
+    ensures { Covers TableKind.Intentions counter (has counter_file.reach) (conflicts forward_pairs) }
 {
     yes_covers();
 }

@@ -6,12 +6,12 @@ ghost use Rattle.table_checker.specs.Checked.{condition_of};
 ghost use Rattle.table_maker.specs.MadeConflicts.{FailsSomewhere, AddsFailing, AreMadeConflicts};
 
 use table_checker::{Condition, condition_of, first_failing_state};
-use type_table::{ConflictTable, Kind};
+use type_table::{ConflictTable, TableKind};
 use type_text::TypeFile;
 
 /// The pairs of operations whose condition for a kind of recovery fails at some state of the file's
 /// set.
-pub fn made_conflicts(kind: Kind, file: &TypeFile) -> ConflictTable
+pub fn made_conflicts(kind: TableKind, file: &TypeFile) -> ConflictTable
     ensures { AreMadeConflicts (condition_of kind) file.now result }
 {
     let condition = condition_of(kind);

@@ -8,7 +8,7 @@ use crate::made_conflicts::made_conflicts;
 use crate::made_relation::made_relation;
 use crate::make_error::MakeError;
 use std::alloc::{AllocError, Global};
-use type_table::{ConflictTable, Kind, StateSet, TypeTable};
+use type_table::{ConflictTable, StateSet, TableKind, TypeTable};
 use type_text::TypeFile;
 
 /// The file of a table and a set of its states that isn't empty, with the relation of
@@ -27,8 +27,8 @@ pub fn make_tables(alloc: Global, table: &TypeTable, set: StateSet) -> Result<Ty
     ensures memory { IfErr result (λ error. error ≡ NoMemory) }
 {
     let mut file = bare_file(alloc, table, set)?;
-    file.undo = made_conflicts(Kind::Undo, &file);
-    file.intentions = made_conflicts(Kind::Intentions, &file);
+    file.undo = made_conflicts(TableKind::Undo, &file);
+    file.intentions = made_conflicts(TableKind::Intentions, &file);
     Ok(file)
 }
 

@@ -3,6 +3,7 @@ pub mod Cells
 pub mod Elements
 pub mod Ends
 pub mod Examples
+pub mod Least
 pub mod Legal
 pub mod Lists
 pub mod Padding

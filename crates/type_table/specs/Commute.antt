@@ -3,8 +3,8 @@ use Rattle.std.specs.Prelude.{◌≡◌, ℕ, Bool, true, false, [], ◌∷◌, 
 use Rattle.type_table.specs.Table.{Table, next}
 use Rattle.type_table.specs.Run.{run, IsLegal, Looks, AreEqui}
 use Rattle.type_table.specs.StateSet.{IsClosed}
-use Rattle.type_table.specs.declared.kind.Kind.{Kind}
-use Rattle.type_table.specs.declared.kind.Kind.TheVariants.{Undo, Intentions}
+use Rattle.type_table.specs.declared.table_kind.TableKind.{TableKind}
+use Rattle.type_table.specs.declared.table_kind.TableKind.TheVariants.{Undo, Intentions}
 
 -- forward: wherever both p and q are legal, each order is legal and the two ends are equieffective
 abbrev pub CommuteForward : Table → (ℕ → Bool) → ℕ → ℕ → Type 0
@@ -25,22 +25,22 @@ CommutesBackwardBothWays T set p q =
     → IsLegal T (Some s) (p ∷ q ∷ []) × AreEqui T (run T (Some s) (q ∷ p ∷ [])) (run T (Some s) (p ∷ q ∷ []))
 
 -- what a kind of recovery needs of a pair that doesn't conflict
-abbrev pub Commutes : Kind → Table → (ℕ → Bool) → ℕ → ℕ → Type 0
+abbrev pub Commutes : TableKind → Table → (ℕ → Bool) → ℕ → ℕ → Type 0
 Commutes Undo = CommutesBackward
 Commutes Intentions = CommuteForward
 
 -- the same, and what the stronger claim on kept states needs
-abbrev pub CommutesStrongly : Kind → Table → (ℕ → Bool) → ℕ → ℕ → Type 0
+abbrev pub CommutesStrongly : TableKind → Table → (ℕ → Bool) → ℕ → ℕ → Type 0
 CommutesStrongly Undo = CommutesBackwardBothWays
 CommutesStrongly Intentions = CommuteForward
 
 -- a conflict table is enough for a kind: in a closed set with the initial state, each pair outside the table commutes
-pub record Covers (kind : Kind) (T : Table) (set : ℕ → Bool) (conflicting : ℕ → ℕ → Bool) : Type 0 where
+pub record Covers (kind : TableKind) (T : Table) (set : ℕ → Bool) (conflicting : ℕ → ℕ → Bool) : Type 0 where
   pub begins_inside : set T.initial ≡ true
   pub closed : IsClosed T set
   pub commute : (p q : ℕ) → conflicting p q ≡ false → Commutes kind T set p q
 
-pub record CoversStrongly (kind : Kind) (T : Table) (set : ℕ → Bool) (conflicting : ℕ → ℕ → Bool) : Type 0 where
+pub record CoversStrongly (kind : TableKind) (T : Table) (set : ℕ → Bool) (conflicting : ℕ → ℕ → Bool) : Type 0 where
   pub begins_inside : set T.initial ≡ true
   pub closed : IsClosed T set
   pub commute : (p q : ℕ) → conflicting p q ≡ false → CommutesStrongly kind T set p q

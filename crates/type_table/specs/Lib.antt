@@ -4,6 +4,7 @@ pub mod Kind
 pub mod Padded
 pub mod Op
 pub mod Counts
+pub mod Least
 pub mod Table
 pub mod Run
 pub mod StateSet

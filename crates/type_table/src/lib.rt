@@ -11,6 +11,7 @@ mod op;
 mod state_set;
 mod table;
 mod table_error;
+mod table_kind;
 
 pub use conflict_table::ConflictTable;
 pub use kind::Kind;
@@ -28,5 +29,6 @@ pub use op::Op;
 pub use state_set::StateSet;
 pub use table::TypeTable;
 pub use table_error::TableError;
+pub use table_kind::TableKind;
 
 pub mod worked;

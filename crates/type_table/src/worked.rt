@@ -9,8 +9,8 @@ ghost use Rattle.type_table.specs.ConflictTable.{conflicts};
 ghost use Rattle.type_table.specs.Commute.{CommuteForward, CommutesBackward, CommutesBackwardBothWays, Covers};
 ghost use Rattle.type_table.specs.Examples.{ok_op, counter, three_states, forward_pairs, backward_pairs, idle, only_initial, one_way, five_states};
 
-use crate::kind::Kind;
 use crate::table_error::TableError;
+use crate::table_kind::TableKind;
 
 pub fn counter_steps()
     ensures up { next counter 0 0 ≡ Some 1 }
@@ -72,9 +72,9 @@ pub fn up_does_not_commute_backward_with_down()
 {}
 
 pub fn counter_is_covered()
-    ensures forward { Covers Kind.Intentions counter three_states (conflicts forward_pairs) }
-    ensures needed { Covers Kind.Intentions counter three_states (λ _ _. false) → ⊥ }
-    ensures backward { Covers Kind.Undo counter three_states (conflicts backward_pairs) }
+    ensures forward { Covers TableKind.Intentions counter three_states (conflicts forward_pairs) }
+    ensures needed { Covers TableKind.Intentions counter three_states (λ _ _. false) → ⊥ }
+    ensures backward { Covers TableKind.Undo counter three_states (conflicts backward_pairs) }
 {}
 
 pub fn idle_operations_commute_in_the_closed_set()

@@ -9,8 +9,8 @@ use Rattle.std.proofs.lemmas.List.Sums.{sum_by-cons}
 use Rattle.std.proofs.lemmas.Option.{slice_get_within, slice_get-get_or, get_or_from_slice_get}
 use Rattle.type_table.specs.Op.{is_same_op}
 use Rattle.type_table.specs.declared.op.Op.{Op}
-use Rattle.type_table.specs.declared.kind.Kind.{Kind}
-use Rattle.type_table.specs.declared.kind.Kind.TheVariants.{Undo, Intentions}
+use Rattle.type_table.specs.declared.table_kind.TableKind.{TableKind}
+use Rattle.type_table.specs.declared.table_kind.TableKind.TheVariants.{Undo, Intentions}
 use Rattle.line_text.specs.LineTests.{pair_below, is_single, is_needed}
 use Rattle.line_text.specs.Accepted.{AreInOrder, HasKeys, HasPassed}
 use Rattle.type_text.specs.declared.type_line.TypeLine.{TypeLine}
@@ -19,7 +19,7 @@ use Rattle.type_text.specs.TypeLines.{type_rules, rank_of, conflict_rank, states
 
 -- ---- lines by their ranks
 
-other_rank : (kind : Kind) (n : ℕ) → conflict_rank kind ≡ n → n < 5 → ⊥
+other_rank : (kind : TableKind) (n : ℕ) → conflict_rank kind ≡ n → n < 5 → ⊥
 other_rank Undo n e h = omega (arith, e)
 other_rank Intentions n e h = omega (arith, e)
 
@@ -168,7 +168,7 @@ step_inside lines order s k t h =
     )
 
 -- so are those of a `conflict` line
-conflict_inside : (lines : List TypeLine) → AreInOrder type_rules lines → (kind : Kind) (p q : ℕ) → Contains lines (Conflict kind p q) → (p < length (ops_of lines)) × (q < length (ops_of lines))
+conflict_inside : (lines : List TypeLine) → AreInOrder type_rules lines → (kind : TableKind) (p q : ℕ) → Contains lines (Conflict kind p q) → (p < length (ops_of lines)) × (q < length (ops_of lines))
 conflict_inside lines order kind p q h =
     let found = passed_in lines order (Conflict kind p q) h in
     let ops = op_count (take found.0 lines) in

@@ -8,7 +8,7 @@ use Rattle.type_table.specs.Table.{next}
 use Rattle.type_table.specs.Laws.{StepsWithin}
 use Rattle.type_table.specs.StateSet.{has}
 use Rattle.type_table.specs.ConflictTable.{conflicts}
-use Rattle.type_table.specs.declared.kind.Kind.{Kind}
+use Rattle.type_table.specs.declared.table_kind.TableKind.{TableKind}
 use Rattle.equi_cert.specs.Relation.{relates}
 use Rattle.type_text.specs.TypeFile.{conflicts_of}
 use Rattle.type_text.specs.declared.type_file.TypeFile.{TypeFile}
@@ -101,7 +101,7 @@ module _ (file : TypeFile) (known : IsTypeFile file) where
   }
 
   -- a `conflict` line of two operations
-  conflict_entry : (kind : Kind) (p q : ℕ) → p < length file.table.ops → q < length file.table.ops → IsEntry file (conflict_rank kind) p q (Conflict kind p q)
+  conflict_entry : (kind : TableKind) (p q : ℕ) → p < length file.table.ops → q < length file.table.ops → IsEntry file (conflict_rank kind) p q (Conflict kind p q)
   conflict_entry kind p q p_in q_in = record {
     ranked = refl;
     key = refl;

@@ -10,8 +10,8 @@ use Rattle.type_table.specs.Table.{next}
 use Rattle.type_table.specs.Laws.{StepsWithin}
 use Rattle.type_table.specs.StateSet.{has}
 use Rattle.type_table.specs.ConflictTable.{row, conflicts, IsSquare}
-use Rattle.type_table.specs.declared.kind.Kind.{Kind}
-use Rattle.type_table.specs.declared.kind.Kind.TheVariants.{Undo, Intentions}
+use Rattle.type_table.specs.declared.table_kind.TableKind.{TableKind}
+use Rattle.type_table.specs.declared.table_kind.TableKind.TheVariants.{Undo, Intentions}
 use Rattle.equi_cert.specs.Relation.{relates}
 use Rattle.type_text.specs.declared.type_file.TypeFile.{TypeFile}
 use Rattle.type_text.specs.declared.type_line.TypeLine.{TypeLine}
@@ -204,7 +204,7 @@ module _ (within : StepsWithin) (file : TypeFile) (known : IsTypeFile file) wher
   ]
 
   -- the `conflict` lines of a kind are the pairs of its table
-  conflict_lines : (kind : Kind) → IsSquare (length file.table.ops) (conflicts_of kind file) → (p q : ℕ) → (conflicts (conflicts_of kind file) p q ≡ true) ↔ Contains (canonical_lines file) (Conflict kind p q)
+  conflict_lines : (kind : TableKind) → IsSquare (length file.table.ops) (conflicts_of kind file) → (p q : ℕ) → (conflicts (conflicts_of kind file) p q ≡ true) ↔ Contains (canonical_lines file) (Conflict kind p q)
   conflict_lines kind square p q = (
     λ h.
         let inside = pair_within (length file.table.ops) (conflicts_of kind file) p q square h in

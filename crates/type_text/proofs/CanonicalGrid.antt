@@ -9,7 +9,7 @@ use Rattle.line_text.specs.Rules.{count_at, has_stood, last_item}
 use Rattle.line_text.specs.LineTests.{is_late, lacks, is_full, is_single, ascends, keys_ascend}
 use Rattle.line_text.specs.Accepted.{HasPassed}
 use Rattle.type_table.specs.Laws.{StepsWithin}
-use Rattle.type_table.specs.declared.kind.Kind.TheVariants.{Undo, Intentions}
+use Rattle.type_table.specs.declared.table_kind.TableKind.TheVariants.{Undo, Intentions}
 use Rattle.type_text.specs.declared.type_file.TypeFile.{TypeFile}
 use Rattle.type_text.specs.declared.type_line.TypeLine.{TypeLine}
 use Rattle.type_text.specs.declared.entries.Entries.{Entries}

@@ -4,10 +4,10 @@ use Rattle.std.specs.Prelude.{codes}
 use Rattle.std.specs.Fmt.{decimal}
 use Rattle.std.specs.List.{AllByRecursion}
 use Rattle.type_table.specs.Name.{is_name}
-use Rattle.type_table.specs.declared.kind.Kind.{Kind}
-use Rattle.type_table.specs.declared.kind.Kind.TheVariants.{Undo, Intentions}
+use Rattle.type_table.specs.declared.table_kind.TableKind.{TableKind}
+use Rattle.type_table.specs.declared.table_kind.TableKind.TheVariants.{Undo, Intentions}
 use Rattle.type_table.specs.declared.op.Op.{Op}
-use Rattle.line_text.specs.Shapes.{exactly, number_at, name_at, kind_at, is_key}
+use Rattle.line_text.specs.Shapes.{exactly, number_at, name_at, table_kind_at, is_key}
 use Rattle.line_text.specs.Spelling.{IsWord, Spells, NumberIsReadAgain, NameIsWord}
 use Rattle.line_text.proofs.Items.{keyword, length-spaced}
 use Rattle.type_text.specs.declared.type_line.TypeLine.{TypeLine}
@@ -119,8 +119,8 @@ module _ (numbers : (n : ℕ) → n < 10 ^ 7 → NumberIsReadAgain n) (names : (
       }
 
   -- those of a `conflict` line
-  conflict_spells : (kind : Kind) (p q : ℕ) → p < 10 ^ 7 → q < 10 ^ 7 → Spells type_rules (Conflict kind p q) (words_of (Conflict kind p q))
-  unfolding line_of conflict_of exactly number_at kind_at is_key
+  conflict_spells : (kind : TableKind) (p q : ℕ) → p < 10 ^ 7 → q < 10 ^ 7 → Spells type_rules (Conflict kind p q) (words_of (Conflict kind p q))
+  unfolding line_of conflict_of exactly number_at table_kind_at is_key
   conflict_spells Undo p q p_small q_small =
       let first = numbers p p_small in
       let second = numbers q q_small in

@@ -8,7 +8,7 @@ use Rattle.std.proofs.lemmas.List.Elements.{Contains-append_left, Contains-appen
 use Rattle.std.proofs.lemmas.List.Folds.{list_all_at, list_any-append, list_all-append}
 use Rattle.std.proofs.lemmas.Option.{slice_get-map, slice_get_within}
 use Rattle.type_table.specs.declared.op.Op.{Op}
-use Rattle.type_table.specs.declared.kind.Kind.TheVariants.{Undo, Intentions}
+use Rattle.type_table.specs.declared.table_kind.TableKind.TheVariants.{Undo, Intentions}
 use Rattle.line_text.specs.Rules.{last_item}
 use Rattle.line_text.specs.LineTests.{is_late}
 use Rattle.type_text.specs.TypeLines.{type_rules, rank_of, op_in, ops_of, states_in, states_of, is_twin, AreTypeLines}

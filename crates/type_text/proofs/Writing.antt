@@ -8,7 +8,7 @@ use Rattle.std.specs.List.{flat_map, range_with_len}
 use Rattle.std.specs.Result.{IsErrAnd}
 use Rattle.line_text.specs.Spelling.{spaced, text_of}
 use Rattle.type_table.specs.declared.op.Op.{Op}
-use Rattle.type_table.specs.declared.kind.Kind.TheVariants.{Undo, Intentions}
+use Rattle.type_table.specs.declared.table_kind.TableKind.TheVariants.{Undo, Intentions}
 use Rattle.type_table.proofs.Elements.{range-more}
 use Rattle.outputs.specs.Out.{Puts, PutsItems, PutsJoin}
 use Rattle.type_text.specs.Canonical.{words_of, lines_of_entries, canonical_lines, canonical_text}

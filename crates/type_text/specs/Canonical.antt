@@ -4,11 +4,11 @@ use Rattle.std.specs.Fmt.{decimal}
 use Rattle.std.specs.List.{flat_map, list_all, range_with_len}
 use Rattle.std.specs.Option.{option_map, option_to_list}
 use Rattle.type_table.specs.Name.{is_name}
-use Rattle.type_table.specs.Kind.{kind_word}
+use Rattle.type_table.specs.Kind.{table_kind_word}
 use Rattle.type_table.specs.Table.{Table, IsTable, next}
 use Rattle.type_table.specs.StateSet.{has}
 use Rattle.type_table.specs.ConflictTable.{conflicts, IsSquare}
-use Rattle.type_table.specs.declared.kind.Kind.TheVariants.{Undo, Intentions}
+use Rattle.type_table.specs.declared.table_kind.TableKind.TheVariants.{Undo, Intentions}
 use Rattle.type_table.specs.declared.op.Op.{Op}
 use Rattle.equi_cert.specs.Relation.{relates, IsRelation}
 use Rattle.line_text.specs.Spelling.{text_of}
@@ -32,7 +32,7 @@ words_of (Operation op) = codes "op" ∷ op.call ∷ op.reply ∷ []
 words_of (Step s k t) = codes "step" ∷ decimal s ∷ decimal k ∷ decimal t ∷ []
 words_of (Reach s) = codes "reach" ∷ decimal s ∷ []
 words_of (Equi s t) = codes "equi" ∷ decimal s ∷ decimal t ∷ []
-words_of (Conflict kind p q) = codes "conflict" ∷ kind_word kind ∷ decimal p ∷ decimal q ∷ []
+words_of (Conflict kind p q) = codes "conflict" ∷ table_kind_word kind ∷ decimal p ∷ decimal q ∷ []
 words_of End = codes "end" ∷ []
 
 -- ---- a section of entries: a grid of cells, of which each is an entry of the file or isn't

@@ -2,7 +2,7 @@
 use Rattle.std.specs.Prelude.{◌≡◌, ℕ, List, [], ◌∷◌, ◌++◌, slice_set, Ok, Err, codes}
 use Rattle.std.specs.List.{flat_map}
 use Rattle.type_table.specs.Examples.{ok_op}
-use Rattle.type_table.specs.declared.kind.Kind.TheVariants.{Undo, Intentions}
+use Rattle.type_table.specs.declared.table_kind.TableKind.TheVariants.{Undo, Intentions}
 use Rattle.line_text.specs.Outcome.{fault_on, outcome_of}
 use Rattle.line_text.specs.declared.fault.FaultKind.{FaultKind}
 use Rattle.type_text.specs.declared.type_line.TypeLine.{TypeLine}

@@ -4,8 +4,8 @@ use Rattle.type_table.specs.Table.{Table, next, table_at}
 use Rattle.type_table.specs.StateSet.{has}
 use Rattle.equi_cert.specs.Relation.{relates}
 use Rattle.type_table.specs.ConflictTable.{conflicts}
-use Rattle.type_table.specs.declared.kind.Kind.{Kind}
-use Rattle.type_table.specs.declared.kind.Kind.TheVariants.{Undo, Intentions}
+use Rattle.type_table.specs.declared.table_kind.TableKind.{TableKind}
+use Rattle.type_table.specs.declared.table_kind.TableKind.TheVariants.{Undo, Intentions}
 use Rattle.line_text.specs.Outcome.{outcome_of, IsReached as IsReachedLine}
 use Rattle.line_text.specs.Text.{lines_of}
 use Rattle.line_text.specs.declared.fault.TextFault.{TextFault}
@@ -40,7 +40,7 @@ abbrev pub file_at : TypeFile → ℕ → TypeFile
 file_at file s = record file { table = table_at file.table s }
 
 -- the file's conflict table for a kind
-abbrev pub conflicts_of : Kind → TypeFile → List (List Bool)
+abbrev pub conflicts_of : TableKind → TypeFile → List (List Bool)
 conflicts_of Undo file = file.undo
 conflicts_of Intentions file = file.intentions
 

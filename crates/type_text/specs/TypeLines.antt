@@ -3,11 +3,11 @@ use Rattle.std.specs.Prelude.{◌≡◌, ℕ, ◌<◌, ◌≤◌, Bool, true, fa
 use Rattle.type_table.specs.Limits.{most_states, most_ops}
 use Rattle.std.specs.List.{filter_map, list_any}
 use Rattle.type_table.specs.Op.{is_same_op}
-use Rattle.type_table.specs.declared.kind.Kind.{Kind}
-use Rattle.type_table.specs.declared.kind.Kind.TheVariants.{Undo, Intentions}
+use Rattle.type_table.specs.declared.table_kind.TableKind.{TableKind}
+use Rattle.type_table.specs.declared.table_kind.TableKind.TheVariants.{Undo, Intentions}
 use Rattle.type_table.specs.declared.op.Op.{Op}
 use Rattle.line_text.specs.Rules.{Rules}
-use Rattle.line_text.specs.Shapes.{◌>>=◌, exactly, name_at, number_at, kind_at, is_key}
+use Rattle.line_text.specs.Shapes.{◌>>=◌, exactly, name_at, number_at, table_kind_at, is_key}
 use Rattle.line_text.specs.declared.fault.FaultKind.{FaultKind}
 use Rattle.line_text.specs.declared.fault.FaultKind.TheVariants.{UnknownWord}
 use Rattle.line_text.specs.declared.section.Section.{Section}
@@ -65,7 +65,7 @@ equi_of words = do
 unfoldable pub conflict_of : List (List ℕ) → Result TypeLine FaultKind
 conflict_of words = do
   done ← exactly words 4
-  kind ← kind_at words 1
+  kind ← table_kind_at words 1
   p ← number_at words 2
   q ← number_at words 3
   Ok (Conflict kind p q)
@@ -116,7 +116,7 @@ equi_rank = 6
 abbrev pub end_rank : ℕ
 end_rank = 9
 
-abbrev pub conflict_rank : Kind → ℕ
+abbrev pub conflict_rank : TableKind → ℕ
 conflict_rank Undo = 7
 conflict_rank Intentions = 8
 
@@ -218,4 +218,4 @@ pub record AreTypeLines (lines : List TypeLine) : Type 0 where
   pub steps_once : (s k t u : ℕ) → Contains lines (Step s k t) → Contains lines (Step s k u) → t ≡ u
   pub reach_inside : (s : ℕ) → Contains lines (Reach s) → s < states_of lines
   pub equi_inside : (s t : ℕ) → Contains lines (Equi s t) → (s < states_of lines) × (t < states_of lines)
-  pub conflicts_inside : (kind : Kind) (p q : ℕ) → Contains lines (Conflict kind p q) → (p < length (ops_of lines)) × (q < length (ops_of lines))
+  pub conflicts_inside : (kind : TableKind) (p q : ℕ) → Contains lines (Conflict kind p q) → (p < length (ops_of lines)) × (q < length (ops_of lines))

@@ -21,7 +21,7 @@ use crate::type_lines::TypeLines;
 use equi_cert::Relation;
 use indexmap::IndexSet;
 use std::alloc::{AllocError, Global};
-use type_table::{ConflictTable, Kind, Name, Op, StateSet, TypeTable};
+use type_table::{ConflictTable, Name, Op, StateSet, TableKind, TypeTable};
 
 /// The file that the lines describe.
 pub fn file_of(alloc: Global, lines: &TypeLines) -> Result<TypeFile, AllocError>
@@ -33,8 +33,8 @@ pub fn file_of(alloc: Global, lines: &TypeLines) -> Result<TypeFile, AllocError>
     let states = table.states();
     let reach = reach_of(&lines.rows, states);
     let relation = relation_of(alloc, &lines.rows, states)?;
-    let undo = conflicts_of(Kind::Undo, ops, &lines.rows);
-    let intentions = conflicts_of(Kind::Intentions, ops, &lines.rows);
+    let undo = conflicts_of(TableKind::Undo, ops, &lines.rows);
+    let intentions = conflicts_of(TableKind::Intentions, ops, &lines.rows);
     Ok(TypeFile {
         table,
         reach,
@@ -237,7 +237,7 @@ fn add_equi(relation: &mut Relation, line: TypeLine)
 }
 
 /// The conflict table of a kind.
-fn conflicts_of(kind: Kind, ops: u8, rows: &[Row]) -> ConflictTable
+fn conflicts_of(kind: TableKind, ops: u8, rows: &[Row]) -> ConflictTable
     requires inside { (p q : ℕ) → Contains (lines_of_rows rows.now) (TypeLine.Conflict kind p q) → (p < ops) × (q < ops) }
     requires fit { ops ≤ 64 }
     ensures fits { length result ≡ ops }
@@ -251,7 +251,7 @@ fn conflicts_of(kind: Kind, ops: u8, rows: &[Row]) -> ConflictTable
 }
 
 /// Adds the pair of a `conflict` line of this kind.
-fn add_conflict(table: &mut ConflictTable, kind: Kind, line: TypeLine)
+fn add_conflict(table: &mut ConflictTable, kind: TableKind, line: TypeLine)
     requires fits { length table.old ≤ 64 }
     requires inside { (p q : ℕ) → line ≡ TypeLine.Conflict kind p q → (p < length table.old) × (q < length table.old) }
     ensures fits { length table.new ≡ length table.old }

@@ -1,4 +1,4 @@
-use type_table::Kind;
+use type_table::TableKind;
 
 /// A section of a type file's text whose lines are the entries of a grid.
 #[derive(Clone, Copy, Debug, PartialEq, Eq)]
@@ -10,5 +10,5 @@ pub enum Entries {
     /// `equi` lines, by the pair of states.
     Pairs,
     /// `conflict` lines of a kind, by requested and held operation.
-    Conflicts(Kind),
+    Conflicts(TableKind),
 }

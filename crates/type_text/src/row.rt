@@ -2,7 +2,7 @@ ghost use Rattle.std.specs.Prelude.{◌≡◌, true, MatchResult};
 ghost use Rattle.type_text.specs.Rows.{line_of_row, is_head};
 
 use crate::type_line::TypeLine;
-use type_table::Kind;
+use type_table::TableKind;
 
 /// A line without a name behind those of the head, which has a fourth of the size of a `TypeLine`.
 #[derive(Clone, Copy)]
@@ -10,7 +10,7 @@ pub enum Row {
     Step { s: u32, k: u32, t: u32 },
     Reach(u32),
     Equi { s: u32, t: u32 },
-    Conflict { kind: Kind, p: u32, q: u32 },
+    Conflict { kind: TableKind, p: u32, q: u32 },
     End,
 }
 

@@ -6,9 +6,9 @@ ghost use Rattle.type_text.specs.TypeLines.{type_rules, line_of, type_name_of, s
 
 use crate::type_line::TypeLine;
 use crate::type_lines::TypeLines;
-use line_text::{FaultKind, Grammar, Section, exactly, is_key, kind_at, name_at, number_at};
+use line_text::{FaultKind, Grammar, Section, exactly, is_key, name_at, number_at, table_kind_at};
 use std::alloc::{AllocError, Global};
-use type_table::{Kind, MOST_OPS, MOST_STATES, Op};
+use type_table::{MOST_OPS, MOST_STATES, Op, TableKind};
 
 const ONE_LINE: Section = Section {
     is_single: true,
@@ -115,8 +115,8 @@ impl Grammar for TypeGrammar {
             TypeLine::Reach(_) => REACH_RANK,
             TypeLine::Equi { .. } => EQUI_RANK,
             TypeLine::Conflict { kind, .. } => match kind {
-                Kind::Undo => UNDO_RANK,
-                Kind::Intentions => INTENTIONS_RANK,
+                TableKind::Undo => UNDO_RANK,
+                TableKind::Intentions => INTENTIONS_RANK,
             },
             TypeLine::End => END_RANK,
         }
@@ -230,7 +230,7 @@ fn conflict_of(words: &[&[u8]]) -> Result<TypeLine, FaultKind>
     ensures { result ≡ conflict_of (map (λ w. w.now) words.now) }
 {
     exactly(words, 4)?;
-    let kind = kind_at(words, 1)?;
+    let kind = table_kind_at(words, 1)?;
     let p = number_at(words, 2)?;
     let q = number_at(words, 3)?;
     Ok(TypeLine::Conflict { kind, p, q })

@@ -1,4 +1,4 @@
-use type_table::{Kind, Name, Op};
+use type_table::{Name, Op, TableKind};
 
 /// What a line of a type file says.
 #[derive(Clone, Copy, PartialEq, Eq)]
@@ -18,7 +18,7 @@ pub enum TypeLine {
     /// `equi S T`
     Equi { s: u32, t: u32 },
     /// `conflict KIND P Q`
-    Conflict { kind: Kind, p: u32, q: u32 },
+    Conflict { kind: TableKind, p: u32, q: u32 },
     /// `end`
     End,
 }

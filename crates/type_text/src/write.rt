@@ -16,15 +16,15 @@ use crate::type_file::TypeFile;
 use crate::type_line::TypeLine;
 use itoa::Buffer;
 use outputs::{Out, OutFault, items_in_turn, put_line, texts_in_turn};
-use type_table::{Kind, Op, StateSet, TypeTable};
+use type_table::{Op, StateSet, TableKind, TypeTable};
 
 /// The sections of entries in the order of a text.
 const SECTIONS: [Entries; 5] = [
     Entries::Steps,
     Entries::Members,
     Entries::Pairs,
-    Entries::Conflicts(Kind::Undo),
-    Entries::Conflicts(Kind::Intentions),
+    Entries::Conflicts(TableKind::Undo),
+    Entries::Conflicts(TableKind::Intentions),
 ];
 
 /// Writes the canonical text of a file: a line for each entry with one space between words, the
@@ -245,7 +245,7 @@ fn write_line<W: Out>(out: &mut W, line: TypeLine) -> Result<(), OutFault>
 }
 
 /// Writes the line of a conflicting pair.
-fn write_conflict<W: Out>(out: &mut W, kind: Kind, p: u32, q: u32) -> Result<(), OutFault>
+fn write_conflict<W: Out>(out: &mut W, kind: TableKind, p: u32, q: u32) -> Result<(), OutFault>
     requires { W.fault out.old ≡ None }
     ensures { Puts (W.taken out.old) (W.taken out.new) (W.fault out.new) (spaced (words_of (Conflict kind p q)) ++ 10 ∷ []) result }
 {

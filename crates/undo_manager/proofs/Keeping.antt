@@ -113,15 +113,15 @@ settled-kept ends c base state log counts left sound =
 
 -- ---- a new manager
 
-pub fresh-kept : CheckedIsCovered → FreshIsSound → (c : Checked) (initial : ℕ) → c.kind ≡ Undo → IsChecked c → initial ≡ c.file.table.initial → IsKept c initial initial [] []
-fresh-kept covers sound c initial undo checked e =
+pub fresh-kept : CheckedIsCovered → FreshIsSound → (c : Checked) (initial : ℕ) → c.kind ≡ Undo → IsTable c.file.table → IsChecked c → initial ≡ c.file.table.initial → IsKept c initial initial [] []
+fresh-kept covers sound c initial undo table checked e =
     let covered = (covers c checked).0 in
     record {
       in_place = undo;
-      table = checked.table;
+      table = table;
       covered = covered;
-      base_fits = rw e checked.table.initial_inside;
-      state_fits = rw e checked.table.initial_inside;
+      base_fits = rw e table.initial_inside;
+      state_fits = rw e table.initial_inside;
       room = omega arith;
       steps = refl;
       sound = sound_out c.kind undo (object_of c) initial [] (sound (meaning_of c initial []) covered (record { base = e; log = refl }));

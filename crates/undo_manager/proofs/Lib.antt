@@ -1,3 +1,5 @@
+pub mod Accepted
+pub mod Blocking
 pub mod Lists
 pub mod Running
 pub mod Settling
@@ -6,6 +8,7 @@ pub mod Recounting
 pub mod Passing
 pub mod Rerunning
 pub mod Marking
+pub mod Holding
 pub mod InPlace
 pub mod Keeping
 pub mod Committing

@@ -73,7 +73,7 @@ strike-legal along none parts legal c base state log counts t m place kept passe
 -- ---- after it
 
 -- the entries of a log that was run again
-rerun-entries : KeepsNone LogEntry → KeepsParts LogEntry → (c : Checked) (t m place : ℕ) (log : List UndoEntry) (start : ℕ) (new : List UndoEntry) (end : ℕ) →
+pub rerun-entries : KeepsNone LogEntry → KeepsParts LogEntry → (c : Checked) (t m place : ℕ) (log : List UndoEntry) (start : ℕ) (new : List UndoEntry) (end : ℕ) →
     IsRerun c.file.table t place log start new end → opens t (drop place log) ≡ m → entries new ≡ keep_first (is_open_of t) (opens t log - m) (entries log)
 rerun-entries none parts c t m place log start new end r passed =
     ap entries r.items ∙ (entries-append (take place log) r.rest ∙ (ap (λ l. entries (take place log) ++ l) r.left ∙ sym (strike-log none parts t m place log passed)))

@@ -3,3 +3,4 @@ pub mod Opened
 pub mod Kept
 pub mod Rerun
 pub mod Examples
+pub mod Held

@@ -1,6 +1,6 @@
 //! What a log goes through at a further operation, at a commit, and where it is settled.
 
-ghost use Rattle.std.specs.Prelude.{◌≡◌, ◌+◌, ◌≤◌, ◌<◌, ◌++◌, ◌∷◌, [], length, map, drop, OnOk, OnErr};
+ghost use Rattle.std.specs.Prelude.{◌≡◌, ◌+◌, ◌≤◌, ◌<◌, ◌++◌, ◌∷◌, [], ℕ, length, map, drop, OnOk, OnErr, ◌==◌, ◌&&◌, false, not, All};
 ghost use Rattle.object_trait.specs.Meaning.{open_of};
 ghost use Rattle.undo_manager.specs.Log.{entries, unsettled, marked_one, start_of};
 ghost use Rattle.undo_manager.specs.Opened.{count_of, AreListed, IsRecounted};

@@ -16,7 +16,7 @@ use object_trait::{
 use std::alloc::{AllocError, Global};
 use std::sync::Arc;
 use table_checker::CheckedType;
-use type_table::{ends_within, runs_along, steps_within};
+use type_table::{Op, TableKind, ends_within, runs_along, steps_within};
 
 impl UndoManager {
     /// The number of t's open entries.
@@ -30,16 +30,24 @@ impl UndoManager {
 impl Recovery for UndoManager {
     ghost meaning = { λ m. m };
 
-    fn checked(&self) -> &CheckedType {
-        &self.checked
+    fn ops(&self) -> &[Op] {
+        // (read for its clause that the type was accepted)
+        let _file = self.checked.file();
+        self.checked.table().ops()
     }
 
-    fn state(&self) -> u16 {
-        self.state
+    fn state(&self) -> u32 {
+        u32::from(self.state)
     }
 
     fn legal(&self, _t: u32, k: u8) -> bool {
         self.checked.table().next(self.state, k).is_some()
+    }
+
+    fn blocker(&self, t: u32, k: u8) -> Option<u32> {
+        steps_within();
+        self.held
+            .blocker(self.checked.conflicts(TableKind::Undo), t, k)
     }
 
     fn apply(&mut self, t: u32, k: u8) -> Result<(), AllocError> {
@@ -52,8 +60,10 @@ impl Recovery for UndoManager {
             done: false,
         };
         let before = self.state;
+        self.held.reserve()?;
         append(&mut self.log, &mut self.opened, UndoEntry { entry, before })?;
         self.state = state;
+        self.held.hold(t, k);
         Ok(())
     }
 
@@ -64,6 +74,7 @@ impl Recovery for UndoManager {
         mark(&mut self.log, t, count);
         leave_count(&mut self.opened, t, 0);
         self.base = settle(&mut self.log, self.state);
+        self.held.release(t);
     }
 
     fn abort(&mut self, t: u32) {
@@ -86,6 +97,7 @@ impl Recovery for UndoManager {
         self.state = rerun(self.checked.table(), &mut self.log, place, t, start);
         leave_count(&mut self.opened, t, left);
         self.base = settle(&mut self.log, self.state);
+        self.held.release_last(t, m);
     }
 
     fn open_count(&self) -> u32 {
@@ -99,6 +111,10 @@ impl Recovery for UndoManager {
 }
 
 impl Renew for UndoManager {
+    fn checked(&self) -> &CheckedType {
+        &self.checked
+    }
+
     fn renewed(&self, alloc: Global, checked: Arc<CheckedType>) -> UndoManager {
         // (read for what is known of this object, that its type is for update in place)
         let _state = self.state;

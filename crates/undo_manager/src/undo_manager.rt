@@ -5,6 +5,7 @@ ghost use Rattle.undo_manager.specs.Log.{BeginsOpen};
 use crate::opened::Opened;
 use crate::undo_entry::UndoEntry;
 use object_trait::{WrongKind, checked_is_covered, fresh_is_sound};
+use op_locks::OpLocks;
 use std::alloc::Global;
 use std::marker::Model;
 use std::sync::Arc;
@@ -25,6 +26,8 @@ pub struct UndoManager {
     pub(crate) state: u16,
     /// What was done since the base, oldest first.
     pub(crate) log: Vec<UndoEntry>,
+    /// What open transactions hold: the operation of each open entry.
+    pub(crate) held: OpLocks,
     /// The transactions with open entries.
     pub(crate) opened: Vec<Opened>,
 }
@@ -32,13 +35,15 @@ pub struct UndoManager {
 impl Model for UndoManager {
     ghost use Rattle.object_trait.specs.Meaning.{Meaning};
     ghost use Rattle.undo_manager.specs.Log.{entries};
+    ghost use Rattle.std.specs.Prelude.{◌≡◌};
+    ghost use Rattle.undo_manager.specs.Held.{held_in};
     ghost use Rattle.undo_manager.specs.Kept.{IsKept};
 
     ghost Value = { Meaning };
 
     ghost view = { λ a. record { checked = a.checked.value; base = a.base; log = entries a.log.items } };
 
-    ghost invariant = { λ a. IsKept a.checked.value a.base a.state a.log.items a.opened.items };
+    ghost invariant = { λ a. IsKept (a.checked.value) a.base a.state a.log.items a.opened.items × (a.held.held ≡ held_in (entries a.log.items)) };
 }
 
 impl UndoManager {
@@ -57,7 +62,7 @@ impl UndoManager {
     {
         match checked.kind() {
             Kind::Undo => Ok(UndoManager::fresh(alloc, checked)),
-            Kind::Intentions => Err((checked, WrongKind)),
+            Kind::Intentions | Kind::Escrow => Err((checked, WrongKind)),
         }
     }
 
@@ -75,6 +80,7 @@ impl UndoManager {
             base: initial,
             state: initial,
             log: Vec::new(alloc),
+            held: OpLocks::new(alloc),
             opened: Vec::new(alloc),
         }
     }

@@ -8,7 +8,8 @@ use Rattle.object_trait.specs.Object.{Object}
 use Rattle.object_trait.specs.declared.event.Event.{Event}
 use Rattle.object_trait.specs.declared.event.EventKind.{EventKind}
 use Rattle.object_trait.specs.declared.event.EventKind.TheVariants.{Op}
-use Rattle.serial_order.specs.Answer.{found_or, first_below, blocker, is_reply, is_free_reply, busy_with, refused, answered, event_of_call}
+use Rattle.type_table.specs.Least.{found_or, first_below}
+use Rattle.serial_order.specs.Answer.{blocker, is_reply, is_free_reply, busy_with, refused, answered, event_of_call}
 use Rattle.serial_order.specs.History.{Seen, seen, is_open}
 use Rattle.serial_order.specs.Replay.{call_at, is_full, call_event, appended}
 use Rattle.serial_order.specs.View.{is_legal_for, is_of_call}

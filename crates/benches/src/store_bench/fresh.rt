@@ -1,6 +1,7 @@
 //! Objects as they are made.
 
 use anyhow::{Error, Result};
+use escrow_manager::EscrowManager;
 use intentions_manager::IntentionsManager;
 use object_trait::Recovery;
 use objects::Object;
@@ -26,6 +27,15 @@ impl Fresh for UndoManager {
 impl Fresh for IntentionsManager {
     fn fresh(alloc: Global, checked: &Arc<CheckedType>) -> Result<IntentionsManager> {
         match IntentionsManager::new(alloc, checked.clone()?) {
+            Ok(object) => Ok(object),
+            Err((_, wrong)) => Err(Error::from(wrong)),
+        }
+    }
+}
+
+impl Fresh for EscrowManager {
+    fn fresh(alloc: Global, checked: &Arc<CheckedType>) -> Result<EscrowManager> {
+        match EscrowManager::new(alloc, checked.clone()?) {
             Ok(object) => Ok(object),
             Err((_, wrong)) => Err(Error::from(wrong)),
         }

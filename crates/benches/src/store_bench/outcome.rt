@@ -63,8 +63,8 @@ impl Outcome {
     }
 
     /// Takes a state that is kept in.
-    fn keep(&mut self, state: u16) {
-        self.kept = folded(self.kept, u32::from(state));
+    fn keep(&mut self, state: u32) {
+        self.kept = folded(self.kept, state);
     }
 }
 

@@ -79,7 +79,7 @@ fn round<R: Clock + AllocGlobal, M: Fresh>(
     let time = since(rt, start);
     let events = outcome.take(store);
     let follow = match what {
-        What::Run => Ok(u128::MAX),
+        What::Run | What::Objects => Ok(u128::MAX),
         What::Follow => follow_once::<R, M>(rt, checked, objects, &events),
     };
     drop(events);

@@ -169,7 +169,7 @@ pub fn opened_but<S: Alter + Drop>(
 }
 
 /// That so many events came, and that both objects have this state; the store is let go.
-pub fn has<S: Alter + Drop>(rt: &impl Abort, store: Durable<S>, events: u32, state: u16) {
+pub fn has<S: Alter + Drop>(rt: &impl Abort, store: Durable<S>, events: u32, state: u32) {
     let seen = store.store();
     let told = (seen.event_count(), seen.kept(0), seen.kept(1));
     let _ = store.into_trees();

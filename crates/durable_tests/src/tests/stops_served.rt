@@ -22,7 +22,7 @@ const LINES: &[u8] =
 #[derive(Clone, Copy)]
 struct Found {
     told: usize,
-    kept: Option<u16>,
+    kept: Option<u32>,
 }
 
 /// How many commits were told.
@@ -60,7 +60,7 @@ fn commits_told<S: Alter + Drop>(
 }
 
 /// The state in which the first object is found.
-fn kept_in<S: Alter + Drop>(rt: &(impl Abort + AllocGlobal), trees: S) -> Option<u16>
+fn kept_in<S: Alter + Drop>(rt: &(impl Abort + AllocGlobal), trees: S) -> Option<u32>
     requires { IsClean (S.Store.view trees) → IsTrue (S.Store.view trees).is_numbered }
 {
     let store = open(rt.alloc(), trees, &[]).ok();
@@ -110,7 +110,7 @@ fn a_commit_that_was_told_is_found(rt: HostRuntime) {
     let mut stops = [0u32; 3];
     for calls in 0..1_000 {
         if let Some(found) = found_after(&rt, calls) {
-            let kept = usize::from(found.kept.expect(&rt, "no object"));
+            let kept = found.kept.expect(&rt, "no object") as usize;
             assert!(rt; found.told <= kept && kept <= 2);
             stops[kept] = stops[kept].saturating_add(1);
         }

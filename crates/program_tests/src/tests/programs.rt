@@ -7,6 +7,7 @@ mod audits;
 mod checks;
 mod database_processes;
 mod deferred;
+mod escrow;
 mod faults;
 mod first_faults;
 mod in_place;
@@ -248,10 +249,11 @@ fn all_play<R: Abort + AllocGlobal + Clock + Threads + Wait + Sync>(rt: &R, case
 }
 
 /// The cases of runs and audits.
-fn all_cases() -> [&'static [Case<'static>]; 6] {
+fn all_cases() -> [&'static [Case<'static>]; 7] {
     [
         &in_place::CASES,
         &deferred::CASES,
+        &escrow::CASES,
         &rollbacks::CASES,
         &faults::CASES,
         &first_faults::CASES,

@@ -6,9 +6,9 @@ pub mod replayed;
 
 use object_trait::{
     Event, EventKind, LogEntry, checked_is_covered, fresh_is_sound, keeps_first, keeps_none,
-    keeps_others, keeps_parts, opens_commute, parts_sort, sorts_equi, sorts_look,
-    sound_after_apply, sound_after_commit, sound_after_strike, struck_log_is_legal, struck_part,
-    untouched_shows_the_same, untouched_stays,
+    keeps_others, keeps_parts, opens_are_counted, opens_commute, parts_sort, sorts_equi,
+    sorts_look, sound_after_apply, sound_after_commit, sound_after_strike, struck_log_is_legal,
+    struck_part, untouched_shows_the_same, untouched_stays,
 };
 use std::test::Fail;
 use test_support::printed::are_debugged;
@@ -53,4 +53,5 @@ fn laws_are_called() {
     sound_after_strike();
     untouched_stays();
     untouched_shows_the_same();
+    opens_are_counted();
 }

@@ -6,7 +6,7 @@ mod scenes;
 use self::driven::apply_next;
 use self::scenes::{DEFERRED, IN_PLACE, plays};
 use intentions_manager::IntentionsManager;
-use object_trait::Recovery;
+use object_trait::{Recovery, Renew};
 use reference_store::checked_types::checked_of;
 use std::alloc::AllocError;
 use std::process::Abort;
@@ -33,7 +33,7 @@ pub fn deferred(rt: &(impl Abort + AllocGlobal), text: &str) -> IntentionsManage
 }
 
 /// That an object is as it is made of the counter.
-fn is_made<R: Recovery>(rt: &impl Abort, object: &R, kind: Kind) {
+fn is_made<R: Renew>(rt: &impl Abort, object: &R, kind: Kind) {
     let checked = object.checked();
     assert!(rt; object.is_fresh());
     assert!(rt; (checked.kind(), checked.table().states()) == (kind, 3));
@@ -139,7 +139,7 @@ fn count_up_and_down(rt: &(impl Abort + AllocGlobal), object: &mut UndoManager) 
         apply_alone(rt, object, t, k).expect(rt, "no memory");
         assert!(rt; object.log_len() == 1);
         object.commit(t);
-        assert!(rt; (object.log_len(), object.state()) == (0, 1 - u16::from(k)));
+        assert!(rt; (object.log_len(), object.state()) == (0, 1 - u32::from(k)));
     }
 }
 

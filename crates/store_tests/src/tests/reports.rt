@@ -10,7 +10,7 @@ mod memory;
 use crate::tests::stores::scripts::{Happened, are_events};
 use history_audit::{Audit, AuditFault, audit};
 use jobs_text::{Job, JobsFile, read_jobs};
-use object_trait::{Event, EventKind, Recovery};
+use object_trait::{Event, EventKind, Recovery, Renew};
 use objects::Object;
 use std::alloc::{AllocError, Global};
 use std::process::Abort;
@@ -145,7 +145,7 @@ fn audit_of(rt: &(impl Abort + AllocGlobal), done: &Done) -> Audit {
 pub fn are_at<R: Recovery>(rt: &impl Abort, objects: &[R], states: &[u16]) {
     assert!(rt; states.len() == objects.len());
     for (object, state) in objects.iter().zip(states) {
-        assert!(rt; object.state() == *state);
+        assert!(rt; object.state() == u32::from(*state));
     }
 }
 

@@ -9,8 +9,8 @@ use table_checker::{
 use table_maker::MakeError;
 use test_support::printed::are_printed;
 use test_support::texts::changed;
-use test_support::type_texts::{COUNTER, IDLE};
-use type_table::{ConflictTable, Kind};
+use test_support::type_texts::{COUNTER, IDLE, ONE_WAY};
+use type_table::{ConflictTable, Kind, TableKind};
 use type_text::TypeFile;
 
 /// Whether these are the conflicts of two operations, of which each conflicts with itself alone.
@@ -24,7 +24,9 @@ fn are_of_two_alone(conflicts: &ConflictTable) -> bool {
 
 /// That this is the counter, accepted for deferred update.
 fn is_counter<R: Abort + AllocGlobal>(rt: &R, checked: &CheckedType) {
-    assert!(rt; is_strong_counter(checked) && are_of_two_alone(checked.conflicts()));
+    assert!(rt;
+        is_strong_counter(checked) && are_of_two_alone(checked.conflicts(TableKind::Intentions))
+    );
     is_written(rt, checked.file(), COUNTER.as_bytes());
 }
 
@@ -75,6 +77,26 @@ fn counter_refused_in_parallel_comes_back(rt: HostRuntime) {
     let checked = check_parallel(&rt, file_of(&rt, &text), Kind::Undo);
     let wanted = CheckRefusal::NotCommuting { p: 0, q: 1, s: 2 };
     comes_back(&rt, &text, checked, wanted);
+}
+
+/// The counter without a conflict is refused for deferred update, and is accepted for escrow, which has no
+/// conflict table.
+#[test]
+fn a_number_needs_no_conflict(rt: HostRuntime) {
+    let text = with_conflict(&rt, b"");
+    assert!(rt; check(file_of(&rt, &text), Kind::Intentions).is_err());
+    let counter = accepted(&rt, &text, Kind::Escrow);
+    assert!(rt; counter.kind() == Kind::Escrow && counter.is_strong());
+    assert!(rt; counter.bounds().as_slice().len() == 2);
+}
+
+/// `q` of this type is legal in states 0 and 2, and not in state 1. (`p` is legal in 0 and 1, and moves both by
+/// two.)
+#[test]
+fn a_type_that_is_no_number_comes_back(rt: HostRuntime) {
+    let wanted = CheckRefusal::NotNumeric { k: 1, s: 1 };
+    let checked = check_parallel(&rt, file_of(&rt, ONE_WAY.as_bytes()), Kind::Escrow);
+    comes_back(&rt, ONE_WAY.as_bytes(), checked, wanted);
 }
 
 /// The type of a text, accepted for a kind of recovery.
@@ -148,7 +170,7 @@ fn types_are_compared_where_they_begin(rt: HostRuntime) {
 }
 
 /// Refusals, and how they are printed.
-static REFUSALS: [(CheckRefusal, &str); 4] = [
+static REFUSALS: [(CheckRefusal, &str); 5] = [
     (CheckRefusal::InitialOutside, "InitialOutside"),
     (
         CheckRefusal::NotClosed { s: 1023, k: 7 },
@@ -166,6 +188,7 @@ static REFUSALS: [(CheckRefusal, &str); 4] = [
         },
         "NotCommuting 0 63 1023",
     ),
+    (CheckRefusal::NotNumeric { k: 63, s: 0 }, "NotNumeric 63 0"),
 ];
 
 /// Faults of making, and how they are printed.

@@ -1,7 +1,7 @@
 //! Which types are numeric: their operations with bounds, or the first fault.
 
 use crate::tests::types::{COUNTER, Parts, good_table};
-use escrow_laws::{Bounded, NumericError, NumericFault, first_fault, numeric};
+use escrow_laws::{Bounded, NumericFault, first_fault, numeric};
 use std::process::Abort;
 
 /// A counter from 0 to 5: 1 is given, 2 are taken, or there aren't 2; and an operation that is legal
@@ -119,7 +119,7 @@ static OF_FIVE: [Bounded; 4] = [
 fn has_bounds(rt: &(impl Abort + AllocGlobal), parts: &Parts, bounds: &[Bounded]) {
     let table = good_table(rt, "numbers", parts);
     assert!(rt; first_fault(&table).is_none());
-    let ops = numeric(rt.alloc(), &table).expect(rt, "no bounds");
+    let ops = numeric(&table).expect(rt, "no bounds");
     assert!(rt; ops.as_slice() == bounds);
 }
 
@@ -134,8 +134,7 @@ fn has_fault(rt: &(impl Abort + AllocGlobal), parts: &Parts, operation: u8, stat
     let table = good_table(rt, "numbers", parts);
     let fault = NumericFault { operation, state };
     assert!(rt; first_fault(&table) == Some(fault));
-    let error = numeric(rt.alloc(), &table).err();
-    assert!(rt; error == Some(NumericError::NotNumeric(fault)));
+    assert!(rt; numeric(&table).err() == Some(fault));
 }
 
 #[test]

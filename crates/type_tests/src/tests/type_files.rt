@@ -31,7 +31,7 @@ static COUNTER: [&[u8]; 14] = [
 ];
 
 /// What is put in place of a line of the counter's text, with the fault that the text then has.
-static FAULTS: [(usize, &[u8], usize, FaultKind); 47] = [
+static FAULTS: [(usize, &[u8], usize, FaultKind); 48] = [
     // A byte that isn't a text's.
     (1, b"\x80ype counter\n", 1, FaultKind::NotAscii),
     (4, b"op inc:1 ok\x80", 4, FaultKind::NotAscii),
@@ -51,6 +51,7 @@ static FAULTS: [(usize, &[u8], usize, FaultKind); 47] = [
     (9, b"step 2 1 1\nreach 0 0\n", 10, FaultKind::UnknownWord),
     (9, b"step 2 1 1\nequi 0\n", 10, FaultKind::UnknownWord),
     (10, b"conflict redo 0 01\n", 10, FaultKind::UnknownWord),
+    (10, b"conflict escrow 0 1\n", 10, FaultKind::UnknownWord),
     (14, b"end 1\n", 14, FaultKind::UnknownWord),
     // Numbers.
     (2, b"states 00000003\n", 2, FaultKind::BadNumber),

@@ -4,7 +4,7 @@ use std::collections::HashSet;
 use std::process::Abort;
 use std::test::Fail;
 use test_support::printed::are_printed;
-use type_table::{ConflictTable, Kind, Name, Op, StateSet, TableError, TypeTable};
+use type_table::{ConflictTable, Kind, Name, Op, StateSet, TableError, TableKind, TypeTable};
 
 /// The parts of a table: how many states, the first of them, the operations, and a step for each state
 /// and operation.
@@ -331,7 +331,16 @@ fn conflicts_have_a_direction(rt: HostRuntime) {
     conflict_as_told(&rt, &table.copy(), &PAIRS);
 }
 
-static KINDS: [(Kind, &str); 2] = [(Kind::Undo, "undo"), (Kind::Intentions, "intentions")];
+static KINDS: [(Kind, &str); 3] = [
+    (Kind::Undo, "undo"),
+    (Kind::Intentions, "intentions"),
+    (Kind::Escrow, "escrow"),
+];
+
+static TABLE_KINDS: [(TableKind, &str); 2] = [
+    (TableKind::Undo, "undo"),
+    (TableKind::Intentions, "intentions"),
+];
 
 static ERRORS: [(TableError, &str); 4] = [
     (TableError::BadCount, "BadCount"),
@@ -343,5 +352,6 @@ static ERRORS: [(TableError, &str); 4] = [
 #[test]
 fn words_are_printed(rt: HostRuntime) -> Result<(), Fail> {
     are_printed(rt.alloc(), &KINDS)?;
+    are_printed(rt.alloc(), &TABLE_KINDS)?;
     are_printed(rt.alloc(), &ERRORS)
 }

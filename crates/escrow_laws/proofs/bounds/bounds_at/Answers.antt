@@ -1,10 +1,10 @@
-use Rattle.std.proofs.Common.{refl, subst, sym}
+use Rattle.std.proofs.Common.{subst, sym}
 use Rattle.escrow_laws.specs.Search.{IsBounded}
 use Rattle.escrow_laws.proofs.Searching.{nowhere-bounded, stretch-bounded}
 use Rattle.escrow_laws.proofs.bounds.bounds_at.Goals as goal
 
 pub returns-in-None : goal.returns-in-None
-returns-in-None c = nowhere-bounded c.args.table.now c.args.k _ c.in-None.ensures refl refl refl refl
+returns-in-None c = nowhere-bounded c.args.table.now c.args.k c.in-None.ensures
 
 pub returns-in-Some : goal.returns-in-Some
 returns-in-Some c =

@@ -3,4 +3,4 @@ use Rattle.object_calls.proofs.Ended.{IsEnded}
 use Rattle.object_calls.proofs.end.end_at.Given as goal
 
 abbrev pub invariant-loop-place : goal.invariant-loop-place
-invariant-loop-place g l = IsEnded g.R.Recovery.meaning (λ m n. IsEnd l.how m l.t n) l.t l.places l.place-index l.fn.objects.items l.objects.items l.fn.locks.items l.locks.items l.visited
+invariant-loop-place g l = IsEnded g.R.Recovery.meaning (λ m n. IsEnd l.how m l.t n) l.places l.place-index l.fn.objects.items l.objects.items l.visited

@@ -18,5 +18,5 @@ loop-checked-preserved c =
       types =
           objects_types c.loop-checked.objects.items c.push_reserved.new.self.items c.new.result (map arc_value (take i types)) (arc_value item) c.push_reserved.ensures.items
           c.loop-checked.invariant.types (c.new.ensures.checked ∙ c.in_ok-clone.ensures.cases)
-          ∙ sym (map_push arc_value (take i types) item) ∙ sym (ap (map arc_value) more);
+          ∙ sym (map_push arc_value (take i types) item) ∙ sym (ap (λ xs. map arc_value xs) more);
     }

@@ -9,5 +9,5 @@ invariant-loop-checked l = record {
   room : length l.types ≤ vec_capacity l.objects;
   count : vec_len l.objects ≡ l.checked-index;
   fresh : AreNew l.objects.items;
-  types : checked_types l.objects.items ≡ map arc_value (take l.checked-index l.types);
+  types : checked_types l.objects.items ≡ (map arc_value (take l.checked-index l.types));
 }

@@ -10,8 +10,8 @@ use std::sync::Wait;
 use std::thread::Threads;
 use table_checker::{CheckRefusal, CheckedType, check, check_parallel};
 use test_support::type_texts::{
-    ACCOUNT, COMMENTED, COUNTER, IDLE, MADE_EVERYWHERE, MADE_IDLE, MADE_ONE_WAY, ONE_WAY,
-    SEMIQUEUE, SPACED, TWIN,
+    ACCOUNT, COMMENTED, COUNTER, IDLE, MADE_EVERYWHERE, MADE_IDLE, MADE_ONE_WAY, NUMBER_OF_FIVE,
+    ONE_WAY, SEMIQUEUE, SPACED, TWIN,
 };
 use type_table::Kind;
 use type_text::{TypeFile, read_type};
@@ -23,6 +23,8 @@ const ONE_WAY_YES: &str = "yes one-way\n";
 const INTENTIONS: Kind = Kind::Intentions;
 
 const UNDO: Kind = Kind::Undo;
+
+const ESCROW: Kind = Kind::Escrow;
 
 /// A kind, a text with one part in place of another, and the line that is written. Each line was
 /// worked out by hand from the definitions.
@@ -255,6 +257,53 @@ static IDLES: [Verdict; 14] = [
     ),
 ];
 
+/// Those for escrow: which lines of set, relation and conflicts there are makes no difference.
+static NUMBERS: [Verdict; 14] = [
+    (ESCROW, COUNTER, "", "", STRONG),
+    (
+        ESCROW,
+        COUNTER,
+        "conflict undo 0 1\nconflict undo 1 0\nconflict intentions 0 0\nconflict intentions 1 1\n",
+        "",
+        STRONG,
+    ),
+    (
+        ESCROW,
+        COUNTER,
+        "conflict undo 0 1",
+        "reach 2\nequi 0 1\nconflict undo 0 1",
+        STRONG,
+    ),
+    (ESCROW, ACCOUNT, "", "", STRONG),
+    (ESCROW, NUMBER_OF_FIVE, "", "", STRONG),
+    // A give that isn't legal at 0, or at 4, is so between two others, and one that isn't at 1 has a gap.
+    (ESCROW, NUMBER_OF_FIVE, "step 0 0 1\n", "", STRONG),
+    (
+        ESCROW,
+        NUMBER_OF_FIVE,
+        "step 1 0 2\n",
+        "",
+        "no NotNumeric 0 1\n",
+    ),
+    (ESCROW, NUMBER_OF_FIVE, "step 4 0 5\n", "", STRONG),
+    // Three are taken of 5, and two elsewhere.
+    (
+        ESCROW,
+        NUMBER_OF_FIVE,
+        "step 5 1 3",
+        "step 5 1 2",
+        "no NotNumeric 1 5\n",
+    ),
+    // At 2 there isn't room for another a, and at 3 there is.
+    (ESCROW, SEMIQUEUE, "", "", "no NotNumeric 0 2\n"),
+    // At 1, p is illegal, and at 0 and 2 it is legal; and so q of the one-way type, whose p is legal at 0 and 1.
+    (ESCROW, TWIN, "", "", "no NotNumeric 0 1\n"),
+    (ESCROW, ONE_WAY, "", "", "no NotNumeric 1 1\n"),
+    // p leads from 0 to 0 and from 1 to 2.
+    (ESCROW, IDLE, "", "", "no NotNumeric 0 1\n"),
+    (ESCROW, IDLE, "reach 0", "reach 1", "no NotNumeric 0 1\n"),
+];
+
 /// That a check of this text writes this line, and that one thread and all processors come to the
 /// same verdict of it for each kind.
 fn answers<R: Abort + AllocGlobal + Clock + Threads + Wait + Sync>(
@@ -267,6 +316,7 @@ fn answers<R: Abort + AllocGlobal + Clock + Threads + Wait + Sync>(
     writes(rt, &words, text, line.as_bytes(), status_of(line));
     agree(rt, UNDO, text);
     agree(rt, INTENTIONS, text);
+    agree(rt, ESCROW, text);
 }
 
 /// The status of a check that writes this line.
@@ -315,6 +365,7 @@ fn answers_each_verdict(rt: HostRuntime) {
     answers_all(&rt, &ONE_WAYS);
     answers_all(&rt, &TWINS);
     answers_all(&rt, &IDLES);
+    answers_all(&rt, &NUMBERS);
 }
 
 /// That a check of this text writes these lines, for each kind.

@@ -1,5 +1,5 @@
 use Rattle.std.proofs.Common.{[], ◌∷◌, map}
-use Rattle.type_table.specs.declared.kind.Kind.TheVariants.{Undo, Intentions}
+use Rattle.type_table.specs.declared.table_kind.TableKind.TheVariants.{Undo, Intentions}
 use Rattle.serial_order.specs.Examples.{lock_history, deferred_history, two_objects_history}
 use Rattle.serial_order.proofs.Counter.{counter_at, counters-checked}
 use Rattle.serial_order.proofs.worked.the_headline_speaks_of_these_runs.Goals as goal

@@ -1,11 +1,5 @@
-use Rattle.op_locks.specs.Locks.{Locks}
 use Rattle.store.proofs.Executed.{on-err, seen-at, unseen-at, executed}
 use Rattle.store.proofs.executing.execute.Goals as goal
-
-pub returns-in_err-reserve_place-clause-locks : goal.returns-in_err-reserve_place-clause-locks
-returns-in_err-reserve_place-clause-locks g c =
-    on-err c.from_residual-in_err-reserve_place.result
-    (unseen-at (λ (l : Locks). l.held) c.args.locks.now.items c.args.x c.index_mut-list.result.now c.reserve.new.self c.index_mut-list.ensures.value c.reserve.ensures.list)
 
 pub apply-requires : goal.apply-requires
 apply-requires g c =
@@ -17,14 +11,8 @@ returns-in_err-apply-clause-objects g c =
     on-err c.from_residual-in_err-apply.result
     (unseen-at g.R.Recovery.meaning c.args.objects.now.items c.args.x c.index_mut.result.now c.apply.new.self c.index_mut.ensures.value c.in_err-apply.ensures.unchanged)
 
-pub returns-in_err-apply-clause-locks : goal.returns-in_err-apply-clause-locks
-returns-in_err-apply-clause-locks g c =
-    on-err c.from_residual-in_err-apply.result
-    (unseen-at (λ (l : Locks). l.held) c.args.locks.now.items c.args.x c.index_mut-list.result.now c.reserve.new.self c.index_mut-list.ensures.value c.reserve.ensures.list)
-
 pub returns-clause-done : goal.returns-clause-done
 returns-clause-done g c =
-    executed g.R.Recovery.meaning c.args.objects.now.items c.args.locks.now.items c.args.transactions.now.rows c.reserve_place.new.self.rows c.push_place.new.self.rows
-    c.args.t c.args.x c.args.k c.index_mut.result.now c.apply.new.self c.index_mut-list.result.now c.reserve.new.self c.hold.new.self
-    c.requires.inside c.requires.as_many c.index_mut.ensures.value c.index_mut-list.ensures.value
-    c.in_ok-apply.ensures.applied c.reserve.ensures.list c.hold.ensures.list c.reserve_place.ensures.rows c.push_place.ensures
+    executed g.R.Recovery.meaning c.args.objects.now.items c.args.transactions.now.rows c.reserve_place.new.self.rows c.push_place.new.self.rows
+    c.args.t c.args.x c.args.k c.index_mut.result.now c.apply.new.self c.requires.inside c.index_mut.ensures.value
+    c.in_ok-apply.ensures.applied c.reserve_place.ensures.rows c.push_place.ensures

@@ -3,4 +3,4 @@ use Rattle.store_laws.proofs.laws.rollback_moves.Goals as goal
 
 -- what a rollback changes
 pub returns : goal.returns
-returns c = rollback_moves c.strikes_as_held.ensures
+returns c = rollback_moves

@@ -1,7 +1,8 @@
 //! An object in a box, by each call.
 
-ghost use Rattle.std.specs.Prelude.{◌≡◌, length};
+ghost use Rattle.std.specs.Prelude.{◌≡◌, ◌<◌, true, length};
 ghost use Rattle.object_trait.specs.Meaning.{open_of};
+ghost use Rattle.object_trait.specs.Steps.{IsLegalFor};
 
 use crate::tests::any_objects::one_entry::OneEntry;
 use object_trait::{AnyObject, Recovery};
@@ -24,7 +25,7 @@ pub fn made(rt: &(impl Abort + AllocGlobal)) -> OneEntry {
 /// made.
 #[derive(Clone, Copy, PartialEq, Eq)]
 struct Seen {
-    state: u16,
+    state: u32,
     open: u32,
     fresh: bool,
 }
@@ -38,15 +39,27 @@ fn look_at<R: Recovery>(object: &R) -> Seen {
 }
 
 /// Whether operation k, if it is one, is legal for transaction t.
-fn is_legal<R: Recovery>(object: &R, t: u32, k: u8) -> bool {
-    k < object.checked().table().op_count() && object.legal(t, k)
+fn is_legal<R: Recovery>(object: &R, t: u32, k: u8) -> bool
+    ensures operation { result ≡ true → k < length (R.meaning object.now).checked.file.table.ops }
+    ensures legal { result ≡ true → IsLegalFor (R.meaning object.now) t k }
+{
+    usize::from(k) < object.ops().len() && object.legal(t, k)
+}
+
+/// Who keeps transaction t from operation k, if that is one and legal for it.
+fn blocker<R: Recovery>(object: &R, t: u32, k: u8) -> Option<u32> {
+    if is_legal(object, t, k) {
+        object.blocker(t, k)
+    } else {
+        None
+    }
 }
 
 /// Executes operation k for transaction t at an object that is as it was made.
 fn apply_first<R: Recovery>(rt: &impl Abort, object: &mut R, t: u32, k: u8)
     ensures { length (open_of t (R.meaning object.new).log) ≡ 1 }
 {
-    assert!(rt; k < object.checked().table().op_count());
+    assert!(rt; usize::from(k) < object.ops().len());
     assert!(rt; object.legal(t, k));
     assert!(rt; object.is_fresh());
     object.apply(t, k).expect(rt, "no memory");
@@ -81,7 +94,9 @@ fn aborts<R: Recovery>(rt: &impl Abort, object: &mut R) {
     assert!(rt; is_legal(object, 1, 0) & !is_legal(object, 1, 1));
     apply_first(rt, object, 1, 0);
     shows(rt, object, COUNTED);
-    assert!(rt; is_legal(object, 2, 1));
+    assert!(rt; is_legal(object, 2, 0) & is_legal(object, 2, 1) & is_legal(object, 1, 1));
+    assert!(rt; blocker(object, 2, 1) == Some(1));
+    assert!(rt; blocker(object, 2, 0).is_none() & blocker(object, 1, 1).is_none());
     object.strike(1, 0);
     object.abort(2);
     object.commit(2);
@@ -106,7 +121,7 @@ fn commits<R: Recovery>(rt: &impl Abort, object: &mut R) {
 
 /// That the calls of an object do as they say, one after another.
 fn is_called<R: Recovery>(rt: &impl Abort, object: &mut R) {
-    assert!(rt; object.checked().kind() == Kind::Undo);
+    assert!(rt; object.ops().len() == 2);
     aborts(rt, object);
     strikes(rt, object);
     commits(rt, object);

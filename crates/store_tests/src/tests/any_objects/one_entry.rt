@@ -1,8 +1,9 @@
 //! An object of update in place whose log has room for one entry. It settles nothing.
 
-ghost use Rattle.std.specs.Prelude.{◌≡◌, ◌<◌, Some, None};
+ghost use Rattle.std.specs.Prelude.{◌≡◌, ◌<◌, ◌==◌, ◌&&◌, not, Some, None};
 ghost use Rattle.std.specs.List.{list_any};
 ghost use Rattle.std.specs.Option.{option_to_list};
+ghost use Rattle.type_table.specs.ConflictTable.{conflicts};
 ghost use Rattle.type_table.specs.Run.{run};
 ghost use Rattle.type_table.specs.declared.kind.Kind.TheVariants.{Undo};
 ghost use Rattle.object_trait.specs.Meaning.{ops_of, is_open_of};
@@ -12,6 +13,7 @@ ghost use Rattle.object_trait.specs.Examples.{of_one_entry};
 use object_trait::{LogEntry, Recovery};
 use std::alloc::AllocError;
 use table_checker::CheckedType;
+use type_table::{ConflictTable, Op, TableKind};
 
 /// Its checked type, the entry, and the state after it.
 #[derive(Drop)]
@@ -68,19 +70,42 @@ pub fn marked(entry: LogEntry, t: u32) -> LogEntry
     }
 }
 
-impl Recovery for OneEntry {
-    ghost meaning = { λ o. of_one_entry o.checked o.entry };
+/// Whether operation k, requested, conflicts with operation q, held: none does that the table doesn't
+/// have.
+fn conflict(table: &ConflictTable, k: u8, q: u8) -> bool
+    ensures { result ≡ conflicts table.now k q }
+{
+    k < table.ops() && q < table.ops() && table.conflicts(k, q)
+}
 
-    fn checked(&self) -> &CheckedType {
-        &self.checked
+/// Whether an entry keeps t from operation k: it is an open one of another transaction, with which k
+/// conflicts.
+pub fn stops(entry: LogEntry, table: &ConflictTable, t: u32, k: u8) -> bool
+    ensures { result ≡ (not entry.done && (not (entry.by == t) && conflicts table.now k entry.op)) }
+{
+    !entry.done && entry.by != t && conflict(table, k, entry.op)
+}
+
+impl Recovery for OneEntry {
+    ghost meaning = { λ o. of_one_entry (o.checked) o.entry };
+
+    fn ops(&self) -> &[Op] {
+        // (read for its clause that the type was accepted)
+        let _file = self.checked.file();
+        self.checked.table().ops()
     }
 
-    fn state(&self) -> u16 {
-        self.state
+    fn state(&self) -> u32 {
+        u32::from(self.state)
     }
 
     fn legal(&self, _t: u32, k: u8) -> bool {
         self.checked.table().next(self.state, k).is_some()
+    }
+
+    fn blocker(&self, t: u32, k: u8) -> Option<u32> {
+        let entry = self.entry?;
+        stops(entry, self.checked.conflicts(TableKind::Undo), t, k).then_some(entry.by)
     }
 
     fn apply(&mut self, t: u32, k: u8) -> Result<(), AllocError> {

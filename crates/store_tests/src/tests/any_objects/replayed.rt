@@ -1,8 +1,10 @@
 //! An object of update in place that keeps what was done as a list of entries, and runs it anew from the
 //! start whenever a state is asked for. It settles nothing.
 
-ghost use Rattle.std.specs.Prelude.{◌≡◌, ◌≤◌, ◌<◌, ◌==◌, ◌||◌, not, Some, IsSome, length, map};
-ghost use Rattle.std.specs.List.{list_any};
+ghost use Rattle.std.specs.Prelude.{◌≡◌, ◌≤◌, ◌<◌, ◌==◌, ◌&&◌, ◌||◌, not, Some, IsSome, length, map};
+ghost use Rattle.std.specs.List.{find, list_any};
+ghost use Rattle.std.specs.Option.{option_map};
+ghost use Rattle.type_table.specs.ConflictTable.{conflicts};
 ghost use Rattle.type_table.specs.Table.{IsTable, next};
 ghost use Rattle.type_table.specs.Run.{run, IsLegal};
 ghost use Rattle.type_table.specs.declared.kind.Kind.TheVariants.{Undo};
@@ -10,7 +12,7 @@ ghost use Rattle.object_trait.specs.Meaning.{is_open_of, open_of, ops_of};
 ghost use Rattle.object_trait.specs.Steps.{marked, open_transactions};
 ghost use Rattle.object_trait.specs.Strike.{keep_first};
 
-use super::one_entry::marked;
+use super::one_entry::{marked, stops};
 use object_trait::{
     LogEntry, Recovery, checked_is_covered, fresh_is_sound, sound_after_apply, sound_after_commit,
     sound_after_strike,
@@ -18,7 +20,7 @@ use object_trait::{
 use std::alloc::{AllocError, Global};
 use std::marker::Model;
 use table_checker::CheckedType;
-use type_table::{TypeTable, steps_within};
+use type_table::{ConflictTable, Op, TableKind, TypeTable, steps_within};
 
 /// Its checked type, and all that was done at it.
 #[derive(Drop)]
@@ -138,6 +140,19 @@ fn open_in(log: &[LogEntry]) -> u32
     }
 }
 
+/// Whose open entry is the first, of those of other transactions than t, with which operation k
+/// conflicts.
+fn first_conflict(log: &Vec<LogEntry>, table: &ConflictTable, t: u32, k: u8) -> Option<u32>
+    ensures { result ≡ option_map (λ e. e.by) (find (λ e. not e.done && (not (e.by == t) && conflicts table.now k e.op)) log.now.items) }
+{
+    for entry in log {
+        if stops(*entry, table, t, k) {
+            return Some(entry.by);
+        }
+    }
+    None
+}
+
 /// Makes t's entries done.
 fn mark(log: &mut Vec<LogEntry>, t: u32)
     ensures { log.new.items ≡ map (marked t) log.old.items }
@@ -171,16 +186,22 @@ fn keep_first(log: &mut Vec<LogEntry>, t: u32, n: usize)
 impl Recovery for Replayed {
     ghost meaning = { λ m. m };
 
-    fn checked(&self) -> &CheckedType {
-        &self.checked
+    fn ops(&self) -> &[Op] {
+        // (read for its clause that the type was accepted)
+        let _file = self.checked.file();
+        self.checked.table().ops()
     }
 
-    fn state(&self) -> u16 {
-        self.reached()
+    fn state(&self) -> u32 {
+        u32::from(self.reached())
     }
 
     fn legal(&self, _t: u32, k: u8) -> bool {
         self.checked.table().next(self.reached(), k).is_some()
+    }
+
+    fn blocker(&self, t: u32, k: u8) -> Option<u32> {
+        first_conflict(&self.log, self.checked.conflicts(TableKind::Undo), t, k)
     }
 
     fn apply(&mut self, t: u32, k: u8) -> Result<(), AllocError> {

@@ -1,51 +1,25 @@
 //! Operations at an object whose log is known.
 
-ghost use Rattle.std.specs.Prelude.{◌≡◌, ℕ, true, false, length, Some, slice_get};
-ghost use Rattle.type_table.specs.ConflictTable.{conflicts};
+ghost use Rattle.std.specs.Prelude.{◌≡◌, true, length};
 ghost use Rattle.object_trait.specs.Meaning.{open_of};
-ghost use Rattle.object_trait.specs.Steps.{IsOfAnotherOpen, MayApply};
-ghost use Rattle.object_trait.specs.declared.log_entry.LogEntry.{LogEntry};
+ghost use Rattle.object_trait.specs.Steps.{MayApply};
 
 use object_trait::{LogEntry, Recovery};
 use std::alloc::AllocError;
 use std::process::Abort;
-use type_table::ConflictTable;
 
 /// More entries than any log of these tests has.
 const MOST_ENTRIES: usize = 1000;
-
-/// Whether this entry leaves operation k to t: it is t's own, or k doesn't conflict with its operation.
-fn leaves(table: &ConflictTable, entry: LogEntry, t: u32, k: u8) -> bool
-    ensures { result ≡ true → IsOfAnotherOpen t entry → conflicts table.now k entry.op ≡ false }
-{
-    if entry.by == t {
-        return true;
-    }
-    k < table.ops() && entry.op < table.ops() && !table.conflicts(k, entry.op)
-}
-
-/// Whether each entry leaves operation k to t.
-fn is_free(table: &ConflictTable, log: &[LogEntry], t: u32, k: u8) -> bool
-    ensures { result ≡ true → (i : ℕ) (e : LogEntry) → slice_get log.now i ≡ Some e → IsOfAnotherOpen t e → conflicts table.now k e.op ≡ false }
-{
-    for entry in log {
-        if !leaves(table, *entry, t, k) {
-            return false;
-        }
-    }
-    true
-}
 
 /// Whether t may execute operation k at an object with this log.
 fn may_apply<R: Recovery>(object: &R, log: &Vec<LogEntry>, t: u32, k: u8) -> bool
     requires { (R.meaning object.now).log ≡ log.now.items }
     ensures { result ≡ true → MayApply (R.meaning object.now) t k }
 {
-    let checked = object.checked();
-    if k >= checked.table().op_count() || log.len() >= MOST_ENTRIES {
+    if usize::from(k) >= object.ops().len() || log.len() >= MOST_ENTRIES {
         return false;
     }
-    object.legal(t, k) && is_free(checked.conflicts(), log, t, k)
+    object.legal(t, k) && object.blocker(t, k).is_none()
 }
 
 /// Executes operation k for t at an object with this log, and adds its entry to the log.

@@ -17,16 +17,16 @@ pub enum End {
 }
 
 /// An operation of a transaction, and the object's state after it.
-type Applied = (u32, u8, u16);
+type Applied = (u32, u8, u32);
 
 /// How many operations of a transaction are struck, and the object's state after that.
-type Struck = (u32, u32, u16);
+type Struck = (u32, u32, u32);
 
 /// Whether an operation is then legal for a transaction.
 type Legal = (u32, u8, bool);
 
 /// The end of a transaction, and the object's state and the number of open transactions after it.
-type Ended = (End, u16, u32);
+type Ended = (End, u32, u32);
 
 /// What happens at one object, in this order.
 pub struct Scene {
@@ -162,7 +162,7 @@ fn apply_all<R: Recovery>(
 /// That these operations are legal, or not.
 fn are_legal<R: Recovery>(rt: &impl Abort, object: &R, rows: &[Legal]) {
     for (t, k, legal) in rows {
-        assert!(rt; *k < object.checked().table().op_count());
+        assert!(rt; usize::from(*k) < object.ops().len());
         assert!(rt; object.legal(*t, *k) == *legal);
     }
 }

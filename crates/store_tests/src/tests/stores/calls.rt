@@ -39,7 +39,9 @@ fn are_found(rt: &impl Abort, calls: &CallTable, rows: &[(&str, u8, Option<Call>
 #[test]
 fn calls_are_found(rt: HostRuntime) -> Result<(), Fail> {
     let checked = checked_of(rt.alloc(), SEMIQUEUE, Kind::Undo).expect(&rt, "no type");
-    let calls = CallTable::new(rt.alloc(), checked.table()).expect(&rt, "no memory");
+    let ops = checked.table().ops();
+    assert!(rt; ops.len() <= 64);
+    let calls = CallTable::new(rt.alloc(), ops).expect(&rt, "no memory");
     are_found(&rt, &calls, &CALLS);
     are_debugged(rt.alloc(), &[(ENQ_B, "Call { first: 1, operations: 2 }")])
 }

@@ -89,7 +89,7 @@ fn counter(rt: &(impl Abort + AllocGlobal)) -> Store<Object> {
 }
 
 /// What a store shows at a glance.
-fn glance<R: Recovery>(store: &Store<R>) -> (u32, Option<u16>) {
+fn glance<R: Recovery>(store: &Store<R>) -> (u32, Option<u32>) {
     (store.event_count(), store.kept(0))
 }
 

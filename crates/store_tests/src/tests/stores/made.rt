@@ -2,7 +2,7 @@
 
 use super::scripts::{is_closed, store_of};
 use crate::tests::managers::driven::apply_next;
-use object_trait::Recovery;
+use object_trait::{Recovery, Renew};
 use objects::Object;
 use reference_store::checked_types::checked_of;
 use std::alloc::Global;
@@ -29,40 +29,35 @@ fn refusals_are_printed(rt: HostRuntime) -> Result<(), Fail> {
     are_debugged(rt.alloc(), &REFUSALS)
 }
 
+/// The kinds of objects, in turn.
+static KINDS: [Kind; 3] = [Kind::Undo, Kind::Intentions, Kind::Escrow];
+
 /// The kind of the object at this place.
 fn kind_at(x: usize) -> Kind {
-    if x % 3 == 0 {
-        Kind::Undo
-    } else {
-        Kind::Intentions
-    }
+    KINDS[x % 3]
 }
 
-/// So many new objects of these two types.
-fn made_of(
-    rt: &(impl Abort + AllocGlobal),
-    undo: &Arc<CheckedType>,
-    intentions: &Arc<CheckedType>,
-    count: usize,
-) -> Vec<Object> {
+/// The counter, checked for each kind.
+fn counters(rt: &(impl Abort + AllocGlobal)) -> Vec<Arc<CheckedType>> {
+    let mut types = Vec::new(rt.alloc());
+    for kind in &KINDS {
+        let checked = checked_of(rt.alloc(), COUNTER, *kind).expect(rt, "no type");
+        types.push(checked).ok().expect(rt, "no room");
+    }
+    types
+}
+
+/// So many new objects.
+fn made(rt: &(impl Abort + AllocGlobal), count: usize) -> Vec<Object> {
+    let types = counters(rt);
     let mut objects = Vec::new(rt.alloc());
     for x in 0..count {
-        let checked = match kind_at(x) {
-            Kind::Undo => undo,
-            Kind::Intentions => intentions,
-        };
+        let checked = types.get(x % 3).expect(rt, "no type");
         let copy = Arc::try_clone(checked).expect(rt, "too many");
         let object = Object::new(rt.alloc(), copy);
         objects.push(object).ok().expect(rt, "no room");
     }
     objects
-}
-
-/// So many new objects.
-fn made(rt: &(impl Abort + AllocGlobal), count: usize) -> Vec<Object> {
-    let undo = checked_of(rt.alloc(), COUNTER, Kind::Undo).expect(rt, "no type");
-    let intentions = checked_of(rt.alloc(), COUNTER, Kind::Intentions).expect(rt, "no type");
-    made_of(rt, &undo, &intentions, count)
 }
 
 /// Executes an operation at an object that is as it was made.

@@ -14,11 +14,13 @@ use std::process::Abort;
 use std::sync::Arc;
 use store::{Store, replay};
 use table_checker::CheckedType;
-use test_support::type_texts::{COUNTER_FROM_ONE, COUNTER_OF_FOUR, ONE_WAY, SEMIQUEUE, TWIN};
+use test_support::type_texts::{
+    ACCOUNT, COUNTER_FROM_ONE, COUNTER_OF_FOUR, NUMBER_OF_FIVE, ONE_WAY, SEMIQUEUE, TWIN,
+};
 use type_table::{Kind, TypeTable};
 
 /// How many seeds there are.
-const SEEDS: u64 = 10;
+const SEEDS: u64 = 6;
 
 /// How many stores there are for each seed.
 const STORES: usize = 10;
@@ -63,15 +65,38 @@ static DEFERRED: [Sort; 4] = [
     ),
 ];
 
-/// The sorts of the four objects of a store: two with update in place, and two deferred ones between
-/// and behind them.
-fn sorts_of(store: usize) -> [&'static Sort; 4] {
+/// The sorts of objects in escrow.
+static IN_ESCROW: [Sort; 3] = [
+    (
+        Kind::Escrow,
+        NUMBER_OF_FIVE,
+        ["give:1", "take:2", "take:2", "take"],
+    ),
+    (
+        Kind::Escrow,
+        ACCOUNT,
+        ["deposit:1", "withdraw:1", "balance", "deposit"],
+    ),
+    (
+        Kind::Escrow,
+        COUNTER_OF_FOUR,
+        ["inc:1", "dec:1", "dec:1", "no"],
+    ),
+];
+
+/// How many objects a store has.
+const OBJECTS: usize = 6;
+
+/// The sorts of the objects of a store: two of each kind of recovery.
+fn sorts_of(store: usize) -> [&'static Sort; OBJECTS] {
     let following = store.wrapping_add(1);
     [
         &IN_PLACE[store % 3],
         &DEFERRED[store % 4],
         &IN_PLACE[following % 3],
         &DEFERRED[following % 4],
+        &IN_ESCROW[store % 3],
+        &IN_ESCROW[following % 3],
     ]
 }
 
@@ -80,7 +105,7 @@ fn sorts_of(store: usize) -> [&'static Sort; 4] {
 #[derive(Drop)]
 struct Dice {
     words: Lcg64Xsh32,
-    sorts: [&'static Sort; 4],
+    sorts: [&'static Sort; OBJECTS],
     forgets: bool,
 }
 
@@ -115,10 +140,10 @@ impl Dice {
 
     /// A call of t, by name or by number.
     fn call(&mut self, t: u32) -> Ask {
-        // one of 33 is of an object that isn't there
-        let x = match self.below(33) {
-            32 => 4,
-            n => n % 4,
+        // one of 37 is of an object that isn't there
+        let x = match self.below(37) {
+            36 => 6,
+            n => n % 6,
         };
         let names: [&'static str; 4] = match self.sorts.get(x as usize) {
             Some(sort) => sort.2,
@@ -185,9 +210,9 @@ fn objects_of(rt: &(impl Abort + AllocGlobal), types: &[Arc<CheckedType>]) -> Ve
     objects
 }
 
-/// That objects with update in place keep what the lists say.
+/// That objects with update in place and in escrow keep what the lists say.
 fn keep_alike<R: Recovery>(rt: &impl Abort, store: &Store<R>, reference: &Reference) {
-    for x in [0, 2, 4] {
+    for x in [0, 2, 4, 5, 6] {
         assert!(rt; store.kept(x) == reference.kept(x));
     }
 }
@@ -208,7 +233,7 @@ fn answer_alike<R: Recovery>(
     reference: &mut Reference,
     dice: &mut Dice,
 ) {
-    for _ in 0..COMMANDS {
+    for command in 0..COMMANDS {
         let ask = dice.ask(reference);
         let w = dice.byte(16);
         let wanted = reference.told(w, ask).expect(rt, "no memory");
@@ -216,7 +241,9 @@ fn answer_alike<R: Recovery>(
         let got = outcome(store, w, ask);
         assert!(rt; (got, would) == (wanted, wanted));
         store.forget(dice.forgotten());
-        keep_alike(rt, store, reference);
+        if command % 8 == 0 {
+            keep_alike(rt, store, reference);
+        }
     }
 }
 
@@ -248,7 +275,7 @@ fn is_audited_alike(
     let tables = tables_of(rt.alloc(), types).expect(rt, "no memory");
     let audit = audit(rt.alloc(), reference.events(), &tables).expect(rt, "no audit");
     are_commits(rt, &audit.order, reference.events());
-    for x in 0..5 {
+    for x in 0..7 {
         let state = audit.finals.get(x as usize).copied();
         assert!(rt; state == reference.serial_state(x));
     }

@@ -238,7 +238,7 @@ fn are_serial(rt: &impl Abort, objects: &[Object], audits: &[Audit]) {
     let last = audits.last().expect(rt, "no epoch");
     assert!(rt; last.finals.len() == objects.len());
     for (object, state) in objects.iter().zip(&last.finals).take(2) {
-        assert!(rt; object.state() == *state);
+        assert!(rt; object.state() == u32::from(*state));
     }
 }
 

@@ -60,7 +60,7 @@ pub fn outcome<R: Recovery>(store: &mut Store<R>, w: u8, ask: Ask) -> Told {
 
 /// What a caller sees of a store at a glance: how long its history is, and what the first two objects
 /// keep.
-fn glance<R: Recovery>(store: &Store<R>) -> (usize, Option<u16>, Option<u16>) {
+fn glance<R: Recovery>(store: &Store<R>) -> (usize, Option<u32>, Option<u32>) {
     (store.history().len(), store.kept(0), store.kept(1))
 }
 

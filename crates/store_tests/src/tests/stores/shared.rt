@@ -11,7 +11,7 @@ use std::sync::Arc;
 use store::Store;
 use table_checker::CheckedType;
 use test_support::type_texts::COUNTER;
-use type_table::Kind;
+use type_table::{Kind, Op};
 
 /// An object, and how many owners its type had when the object was made of it, itself among them.
 #[derive(Drop)]
@@ -26,16 +26,20 @@ impl Recovery for Counted {
 
     ghost meaning = { λ c. meaning_of c.object };
 
-    fn checked(&self) -> &CheckedType {
-        self.object.checked()
+    fn ops(&self) -> &[Op] {
+        self.object.ops()
     }
 
-    fn state(&self) -> u16 {
+    fn state(&self) -> u32 {
         self.object.state()
     }
 
     fn legal(&self, t: u32, k: u8) -> bool {
         self.object.legal(t, k)
+    }
+
+    fn blocker(&self, t: u32, k: u8) -> Option<u32> {
+        self.object.blocker(t, k)
     }
 
     fn apply(&mut self, t: u32, k: u8) -> Result<(), AllocError> {
@@ -64,6 +68,10 @@ impl Recovery for Counted {
 }
 
 impl Renew for Counted {
+    fn checked(&self) -> &CheckedType {
+        self.object.checked()
+    }
+
     fn renewed(&self, alloc: Global, checked: Arc<CheckedType>) -> Counted {
         let owners = Arc::strong_count(&checked);
         let object = self.object.renewed(alloc, checked);

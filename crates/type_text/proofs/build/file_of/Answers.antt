@@ -1,5 +1,5 @@
 use Rattle.std.proofs.Common.{◌≡◌, length, inl, inr, refl, ap, arith}
-use Rattle.type_table.specs.declared.kind.Kind.TheVariants.{Undo, Intentions}
+use Rattle.type_table.specs.declared.table_kind.TableKind.TheVariants.{Undo, Intentions}
 use Rattle.type_text.specs.TypeLines.{states_in}
 use Rattle.type_text.specs.declared.type_line.TypeLine.TheVariants.{Reach, Equi, Conflict}
 use Rattle.type_text.proofs.Rows.{rows_among}

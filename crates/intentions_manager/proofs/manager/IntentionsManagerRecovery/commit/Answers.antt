@@ -11,10 +11,10 @@ use Rattle.intentions_manager.proofs.Committing.{CommitLaws, IsCommitted, commit
 use Rattle.intentions_manager.proofs.manager.IntentionsManagerRecovery.commit.Goals as goal
 
 pub place_of_last-from-requires-clause-open : goal.place_of_last-from-requires-clause-open
-place_of_last-from-requires-clause-open c = all-open c.self.invariant
+place_of_last-from-requires-clause-open c = all-open c.self.invariant.0
 
 pub carry_from-requires-clause-open : goal.carry_from-requires-clause-open
-carry_from-requires-clause-open c = all-open c.self.invariant
+carry_from-requires-clause-open c = all-open c.self.invariant.0
 
 pub carry_from-requires-clause-states : goal.carry_from-requires-clause-states
 carry_from-requires-clause-states c =
@@ -22,43 +22,59 @@ carry_from-requires-clause-states c =
     let T : Table = inside.checked.value.file.table in
     let table : c.table.result.now ≡ T = c.table.ensures ∙ ap (λ (x : Checked). x.file.table) c.deref.ensures in
     subst (λ x. All (FitsTable x) c.drop_view.new.views.items) (sym table)
-    (subst (λ V. All (FitsTable T) V) (sym c.drop_view.ensures) (All-filter (λ (v : View). not (eqb v.by c.args.t)) (FitsTable T) inside.views.items c.self.invariant.fit))
+    (subst (λ V. All (FitsTable T) V) (sym c.drop_view.ensures) (All-filter (λ (v : View). not (eqb v.by c.args.t)) (FitsTable T) inside.views.items c.self.invariant.0.fit))
 
--- the laws that are called
-laws : goal.After-carry_from → CommitLaws
-laws c = record {
-  along = c.runs_along.ensures;
-  extends = c.equi_extends.ensures;
-  inside = c.ends_inside.ensures;
-  within = c.ends_within.ensures;
-  opens = c.opens_commute.ensures;
-  none = c.keeps_none.ensures;
-  parts = c.keeps_parts.ensures;
-  first = c.keeps_first.ensures;
-  others = c.keeps_others.ensures;
-  sound_after = c.sound_after_commit.ensures;
-}
-
--- what was done
-done : (c : goal.After-carry_from) → IsCommitted (meant c.self.inside) c.self.inside.views.items c.args.t c.place_of_last-from.result c.seen_at-view.result c.carry_from.new.log.items c.carry_from.new.views.items
-done c =
+pub invariant_of-self : goal.invariant_of-self
+invariant_of-self c =
     let inside = c.self.inside in
     let T : Table = inside.checked.value.file.table in
     let table : c.table.result.now ≡ T = c.table.ensures ∙ ap (λ (x : Checked). x.file.table) c.deref.ensures in
     let part = drop c.place_of_last-from.result inside.log.items in
-    record {
+    let laws : CommitLaws = record {
+      along = c.runs_along.ensures;
+      extends = c.equi_extends.ensures;
+      inside = c.ends_inside.ensures;
+      within = c.ends_within.ensures;
+      opens = c.opens_commute.ensures;
+      none = c.keeps_none.ensures;
+      parts = c.keeps_parts.ensures;
+      first = c.keeps_first.ensures;
+      others = c.keeps_others.ensures;
+      sound_after = c.sound_after_commit.ensures;
+    } in
+    let done : IsCommitted (meant inside) inside.views.items c.args.t c.place_of_last-from.result c.seen_at-view.result c.carry_from.new.log.items c.carry_from.new.views.items = record {
       seen = c.seen_at-view.ensures;
       counted = c.place_of_last-from.ensures.counted;
       cut = c.carry_from.ensures.cut;
       on = c.carry_from.ensures.exact ∙ ap (λ x. carried x c.args.t part c.drop_view.new.views.items) table ∙ ap (carried T c.args.t part) c.drop_view.ensures;
       fit = subst (λ x. All (FitsTable x) c.carry_from.new.views.items) table c.carry_from.ensures.states;
-    }
-
-pub invariant_of-self : goal.invariant_of-self
-invariant_of-self c =
-    committed-kept (laws c) c.self.invariant (done c)
+    } in
+    (committed-kept laws c.self.invariant.0 done, c.word_of-self-inside.ensures)
 
 pub returns : goal.returns
 returns c =
+    let inside = c.self.inside in
+    let T : Table = inside.checked.value.file.table in
+    let table : c.table.result.now ≡ T = c.table.ensures ∙ ap (λ (x : Checked). x.file.table) c.deref.ensures in
+    let part = drop c.place_of_last-from.result inside.log.items in
+    let laws : CommitLaws = record {
+      along = c.runs_along.ensures;
+      extends = c.equi_extends.ensures;
+      inside = c.ends_inside.ensures;
+      within = c.ends_within.ensures;
+      opens = c.opens_commute.ensures;
+      none = c.keeps_none.ensures;
+      parts = c.keeps_parts.ensures;
+      first = c.keeps_first.ensures;
+      others = c.keeps_others.ensures;
+      sound_after = c.sound_after_commit.ensures;
+    } in
+    let done : IsCommitted (meant inside) inside.views.items c.args.t c.place_of_last-from.result c.seen_at-view.result c.carry_from.new.log.items c.carry_from.new.views.items = record {
+      seen = c.seen_at-view.ensures;
+      counted = c.place_of_last-from.ensures.counted;
+      cut = c.carry_from.ensures.cut;
+      on = c.carry_from.ensures.exact ∙ ap (λ x. carried x c.args.t part c.drop_view.new.views.items) table ∙ ap (carried T c.args.t part) c.drop_view.ensures;
+      fit = subst (λ x. All (FitsTable x) c.carry_from.new.views.items) table c.carry_from.ensures.states;
+    } in
     subst (λ (old : Meaning). IsCommit old c.args.t (committed (meant c.self.inside) c.seen_at-view.result c.carry_from.new.log.items)) c.self.view_is
-    (committed-commits (laws c) c.self.invariant (done c))
+    (committed-commits laws c.self.invariant.0 done)

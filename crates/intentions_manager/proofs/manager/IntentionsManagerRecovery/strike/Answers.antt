@@ -14,7 +14,7 @@ use Rattle.intentions_manager.proofs.Rewinding.{StrikeLaws, RewindLaws, with_log
 use Rattle.intentions_manager.proofs.manager.IntentionsManagerRecovery.strike.Goals as goal
 
 pub take_out-requires-clause-open : goal.take_out-requires-clause-open
-take_out-requires-clause-open c = all-open c.self.invariant
+take_out-requires-clause-open c = all-open c.self.invariant.0
 
 -- ---- nothing is left
 
@@ -23,16 +23,16 @@ invariant_of-self c =
     let inside = c.self.inside in
     let t = c.args.t in
     let laws : StrikeLaws = record { first = c.keeps_first.ensures; others = c.keeps_others.ensures; sound_after = c.sound_after_strike.ensures } in
-    let counted = seen-count t c.seen_at-view.result c.self.invariant c.seen_at-view.ensures in
+    let counted = seen-count t c.seen_at-view.result c.self.invariant.0 c.seen_at-view.ensures in
     let nothing : length (open_of t inside.log.items) - c.args.m ≡ 0 = ap (λ n. n - c.args.m) (sym counted) ∙ c.if-count-eq0.true in
-    dropped-kept laws c.drop_view.new.views.items t (length (open_of t inside.log.items) - c.args.m) c.take_out.new.log.items c.self.invariant c.take_out.ensures nothing c.drop_view.ensures
+    (dropped-kept laws c.drop_view.new.views.items t (length (open_of t inside.log.items) - c.args.m) c.take_out.new.log.items c.self.invariant.0 c.take_out.ensures nothing c.drop_view.ensures, c.word_of-self-inside.ensures)
 
 pub returns-then-count-eq0 : goal.returns-then-count-eq0
 returns-then-count-eq0 c =
     let inside = c.self.inside in
     let t = c.args.t in
     subst (λ (old : Meaning). Keeps old t (length (open_of t old.log) - c.args.m) (with_log (meant c.self.inside) c.take_out.new.log.items)) c.self.view_is
-    (struck-keeps t (length (open_of t inside.log.items) - c.args.m) c.take_out.new.log.items c.self.invariant c.take_out.ensures)
+    (struck-keeps t (length (open_of t inside.log.items) - c.args.m) c.take_out.new.log.items c.self.invariant.0 c.take_out.ensures)
 
 -- ---- something is left
 
@@ -41,7 +41,7 @@ place_of_last-from-requires-clause-many c =
     let inside = c.self.inside in
     let t = c.args.t in
     let n = length (open_of t inside.log.items) - c.args.m in
-    let counted = seen-count t c.seen_at-view.result c.self.invariant c.seen_at-view.ensures in
+    let counted = seen-count t c.seen_at-view.result c.self.invariant.0 c.seen_at-view.ensures in
     let many : n ≤ length (open_of t inside.log.items) = omega arith in
     let left : length (open_of t c.take_out.new.log.items) ≡ n = own-count c.keeps_first.ensures t n inside.log.items c.take_out.new.log.items c.take_out.ensures many in
     omega arith
@@ -50,7 +50,7 @@ pub place_of_last-from-requires-clause-open : goal.place_of_last-from-requires-c
 place_of_last-from-requires-clause-open c =
     let inside = c.self.inside in
     let t = c.args.t in
-    opens-left t (length (open_of t inside.log.items) - c.args.m) inside.log.items c.take_out.new.log.items c.take_out.ensures (all-open c.self.invariant)
+    opens-left t (length (open_of t inside.log.items) - c.args.m) inside.log.items c.take_out.new.log.items c.take_out.ensures (all-open c.self.invariant.0)
 
 pub walked-state-requires-clause-operations : goal.walked-state-requires-clause-operations
 walked-state-requires-clause-operations c =
@@ -59,7 +59,7 @@ walked-state-requires-clause-operations c =
     let T : Table = inside.checked.value.file.table in
     let table : c.table.result.now ≡ T = c.table.ensures ∙ ap (λ (x : Checked). x.file.table) c.deref.ensures in
     subst (λ (x : Table). All (λ (e : LogEntry). e.op < length x.ops) c.take_out.new.log.items) (sym table)
-    (ops-left t (length (open_of t inside.log.items) - c.args.m) (length T.ops) inside.log.items c.take_out.new.log.items c.take_out.ensures c.self.invariant.ops_fit)
+    (ops-left t (length (open_of t inside.log.items) - c.args.m) (length T.ops) inside.log.items c.take_out.new.log.items c.take_out.ensures c.self.invariant.0.ops_fit)
 
 pub put_view-requires-clause-room : goal.put_view-requires-clause-room
 put_view-requires-clause-room c =
@@ -80,7 +80,7 @@ invariant_of-self-2 c =
     let n = length (open_of t inside.log.items) - c.args.m in
     let strike : StrikeLaws = record { first = c.keeps_first.ensures; others = c.keeps_others.ensures; sound_after = c.sound_after_strike.ensures } in
     let laws : RewindLaws = record { inside = c.ends_inside.ensures; within = c.ends_within.ensures; strike = strike } in
-    let counted = seen-count t c.seen_at-view.result c.self.invariant c.seen_at-view.ensures in
+    let counted = seen-count t c.seen_at-view.result c.self.invariant.0 c.seen_at-view.ensures in
     let count : c.seen_at-view.result.count - c.args.m ≡ n = ap (λ k. k - c.args.m) counted in
     let some : 0 < n = omega arith in
     let many : n ≤ length (open_of t inside.log.items) = omega arith in
@@ -88,11 +88,11 @@ invariant_of-self-2 c =
     let state : c.walked-state.result ≡ walked T t inside.base (drop from log) = c.walked-state.ensures.exact ∙ ap (λ x. walked x t inside.base (drop from log)) table in
     let put : c.put_view.new.views.items ≡ with_view (record { by = t; state = c.walked-state.result; count = n }) inside.views.items =
     c.put_view.ensures ∙ ap (λ k. with_view (record { by = t; state = c.walked-state.result; count = k }) inside.views.items) count in
-    rewound-kept laws c.put_view.new.views.items t n from c.walked-state.result log c.self.invariant c.take_out.ensures many some (c.place_of_last-from.ensures.counted ∙ count) state put
+    (rewound-kept laws c.put_view.new.views.items t n from c.walked-state.result log c.self.invariant.0 c.take_out.ensures many some (c.place_of_last-from.ensures.counted ∙ count) state put, c.word_of-self-inside.ensures)
 
 pub returns : goal.returns
 returns c =
     let inside = c.self.inside in
     let t = c.args.t in
     subst (λ (old : Meaning). Keeps old t (length (open_of t old.log) - c.args.m) (with_log (meant c.self.inside) c.take_out.new.log.items)) c.self.view_is
-    (struck-keeps t (length (open_of t inside.log.items) - c.args.m) c.take_out.new.log.items c.self.invariant c.take_out.ensures)
+    (struck-keeps t (length (open_of t inside.log.items) - c.args.m) c.take_out.new.log.items c.self.invariant.0 c.take_out.ensures)

@@ -3,4 +3,4 @@ use Rattle.object_trait.specs.Meaning.{Meaning}
 use Rattle.intentions_manager.proofs.manager.IntentionsManagerRenew.renewed.Goals as goal
 
 pub fresh-requires : goal.fresh-requires
-fresh-requires c = c.requires ∙ ap (λ (m : Meaning). m.checked.kind) (sym c.self.view_is) ∙ c.self.invariant.deferred
+fresh-requires c = c.requires ∙ ap (λ (m : Meaning). m.checked.kind) (sym c.self.view_is) ∙ c.self.invariant.0.deferred

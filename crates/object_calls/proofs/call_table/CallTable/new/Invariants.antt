@@ -4,4 +4,4 @@ use Rattle.object_calls.specs.Collected.{AreCallsOf}
 use Rattle.object_calls.proofs.call_table.CallTable.new.Given as goal
 
 abbrev pub invariant-loop-k : goal.invariant-loop-k
-invariant-loop-k l = AreCallsOf (take l.k (names_of l.table.ops)) l.calls.items
+invariant-loop-k l = AreCallsOf (take l.k (names_of l.ops)) l.calls.items

@@ -10,15 +10,15 @@ loop-t-init g c =
     let s = c.args.self.now in
     let inside = c.self.inside in
     let ms = map g.R.Recovery.meaning inside.objects.items in
-    let kept : IsKept (keeping ms inside.locks.items inside.transactions.rows) s.history =
-    kept-shown (keeping ms inside.locks.items inside.transactions.rows) (inside.past.items ++ inside.history.items) inside.max_events inside.forgotten s c.self.view_is c.self.invariant.1.store.kept in
-    closed-none c.rows_say_who_is_open.ensures c.args.those.now ms inside.locks.items inside.transactions.rows s c.oldest-t.result kept c.oldest-t.ensures.ended
+    let kept : IsKept (keeping ms inside.transactions.rows) s.history =
+    kept-shown (keeping ms inside.transactions.rows) (inside.past.items ++ inside.history.items) inside.max_events inside.forgotten s c.self.view_is c.self.invariant.1.store.kept in
+    closed-none c.rows_say_who_is_open.ensures c.args.those.now ms inside.transactions.rows s c.oldest-t.result kept c.oldest-t.ensures.ended
 
 pub loop-t-preserved : goal.loop-t-preserved
 loop-t-preserved g c =
     let s = c.args.self.now in
     let inside = c.self.inside in
-    let k : Keeping = keeping (map g.R.Recovery.meaning inside.objects.items) inside.locks.items inside.transactions.rows in
+    let k : Keeping = keeping (map g.R.Recovery.meaning inside.objects.items) inside.transactions.rows in
     let run : IsRun (objects s) s.history = run-shown k (inside.past.items ++ inside.history.items) inside.max_events inside.forgotten s c.self.view_is c.self.invariant.1.store.kept in
     next-turn c.args.those.now (objects s) s c.loop-t.self c.abort_other.new.self c.loop-t.t
     (closed-each c.run_goes_on.ensures c.seen_after.ensures c.transactions_in_run.ensures c.opens_after.ensures c.beginners_after.ensures c.args.those.now (objects s) s.history run c.loop-t.t)
@@ -28,7 +28,7 @@ pub returns-clause-aborts : goal.returns-clause-aborts
 returns-clause-aborts g c =
     let s = c.args.self.now in
     let inside = c.self.inside in
-    let k : Keeping = keeping (map g.R.Recovery.meaning inside.objects.items) inside.locks.items inside.transactions.rows in
+    let k : Keeping = keeping (map g.R.Recovery.meaning inside.objects.items) inside.transactions.rows in
     let kept : IsKept k s.history = kept-shown k (inside.past.items ++ inside.history.items) inside.max_events inside.forgotten s c.self.view_is c.self.invariant.1.store.kept in
     let many : c.loop-t.t ≡ length inside.transactions.rows = omega (arith, c.loop-t.auto.t-end, c.loop-t-test.false, c.begun-t-end.ensures) in
     c.loop-t.invariant ∙ ap (λ n. closed_below c.args.those.now s n) (many ∙ kept.begun)
@@ -37,7 +37,7 @@ pub returns-clause-left : goal.returns-clause-left
 returns-clause-left g c =
     let s = c.args.self.now in
     let inside = c.self.inside in
-    let k : Keeping = keeping (map g.R.Recovery.meaning inside.objects.items) inside.locks.items inside.transactions.rows in
+    let k : Keeping = keeping (map g.R.Recovery.meaning inside.objects.items) inside.transactions.rows in
     let kept : IsKept k s.history = kept-shown k (inside.past.items ++ inside.history.items) inside.max_events inside.forgotten s c.self.view_is c.self.invariant.1.store.kept in
     let run : IsRun (objects s) s.history = run-shown k (inside.past.items ++ inside.history.items) inside.max_events inside.forgotten s c.self.view_is c.self.invariant.1.store.kept in
     let many : c.loop-t.t ≡ length inside.transactions.rows = omega (arith, c.loop-t.auto.t-end, c.loop-t-test.false, c.begun-t-end.ensures) in

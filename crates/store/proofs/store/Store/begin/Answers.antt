@@ -16,7 +16,7 @@ pub returns-then-opened-ge-MOST_OPEN-clause-step : goal.returns-then-opened-ge-M
 returns-then-opened-ge-MOST_OPEN-clause-step g c =
     let inside = c.self.inside in
     let H = inside.past.items ++ inside.history.items in
-    let k : Keeping = keeping (map g.R.Recovery.meaning inside.objects.items) inside.locks.items inside.transactions.rows in
+    let k : Keeping = keeping (map g.R.Recovery.meaning inside.objects.items) inside.transactions.rows in
     let counts : c.open_count-opened.result ≡ open_count (seen H) = c.open_count-opened.ensures.exact ∙ sym (c.rows_are_counted.ensures k H c.self.invariant.1.store.kept) in
     inl (refused-shown ℕ k H c.args.w inside.max_events inside.forgotten command.Begin TooManyOpen c.args.self.now c.self.view_is
     (begin-many (objects_of k.meanings) inside.max_events H c.open_count-opened.result counts c.if-opened-ge-MOST_OPEN.true))
@@ -26,7 +26,7 @@ returns-then-not-has_room-clause-step g c =
     let inside = c.self.inside in
     let H = inside.past.items ++ inside.history.items in
     let opened = c.open_count-opened.result in
-    let k : Keeping = keeping (map g.R.Recovery.meaning inside.objects.items) inside.locks.items inside.transactions.rows in
+    let k : Keeping = keeping (map g.R.Recovery.meaning inside.objects.items) inside.transactions.rows in
     let counts : opened ≡ open_count (seen H) = c.open_count-opened.ensures.exact ∙ sym (c.rows_are_counted.ensures k H c.self.invariant.1.store.kept) in
     inl (refused-shown ℕ k H c.args.w inside.max_events inside.forgotten command.Begin HistoryFull c.args.self.now c.self.view_is
     (begin-full (objects_of k.meanings) inside.max_events H opened counts c.if-opened-ge-MOST_OPEN.false (past-test inside.past.items c.deref.result.now inside.history.items inside.forgotten opened 2 inside.max_events c.has_room.result false c.self.invariant.0 c.has_room.ensures c.deref.ensures.value c.if-not-has_room.true)))
@@ -36,7 +36,7 @@ returns-then-is_err-clause-step g c =
     let inside = c.self.inside in
     let H = inside.past.items ++ inside.history.items in
     let opened = c.open_count-opened.result in
-    let k : Keeping = keeping (map g.R.Recovery.meaning inside.objects.items) inside.locks.items inside.transactions.rows in
+    let k : Keeping = keeping (map g.R.Recovery.meaning inside.objects.items) inside.transactions.rows in
     let counts : opened ≡ open_count (seen H) = c.open_count-opened.ensures.exact ∙ sym (c.rows_are_counted.ensures k H c.self.invariant.1.store.kept) in
     wanting-shown ℕ k H (inside.past.items ++ c.reserve.new.self.items) c.args.w inside.max_events inside.forgotten command.Begin c.args.self.now c.self.view_is
     (begin-unrefused (objects_of k.meanings) inside.max_events H opened counts c.if-opened-ge-MOST_OPEN.false (past-test inside.past.items c.deref.result.now inside.history.items inside.forgotten opened 2 inside.max_events c.has_room.result true c.self.invariant.0 c.has_room.ensures c.deref.ensures.value c.if-not-has_room.false)) (ap (λ K. inside.past.items ++ K) c.reserve.ensures.items)
@@ -46,7 +46,7 @@ returns-then-is_err-2-clause-step g c =
     let inside = c.self.inside in
     let H = inside.past.items ++ inside.history.items in
     let opened = c.open_count-opened.result in
-    let k : Keeping = keeping (map g.R.Recovery.meaning inside.objects.items) inside.locks.items inside.transactions.rows in
+    let k : Keeping = keeping (map g.R.Recovery.meaning inside.objects.items) inside.transactions.rows in
     let counts : opened ≡ open_count (seen H) = c.open_count-opened.ensures.exact ∙ sym (c.rows_are_counted.ensures k H c.self.invariant.1.store.kept) in
     wanting-shown ℕ k H (inside.past.items ++ c.reserve.new.self.items) c.args.w inside.max_events inside.forgotten command.Begin c.args.self.now c.self.view_is
     (begin-unrefused (objects_of k.meanings) inside.max_events H opened counts c.if-opened-ge-MOST_OPEN.false (past-test inside.past.items c.deref.result.now inside.history.items inside.forgotten opened 2 inside.max_events c.has_room.result true c.self.invariant.0 c.has_room.ensures c.deref.ensures.value c.if-not-has_room.false)) (ap (λ K. inside.past.items ++ K) c.reserve.ensures.items)
@@ -57,7 +57,7 @@ begin-t-requires-clause-fits g c =
     let H = inside.past.items ++ inside.history.items in
     let opened = c.open_count-opened.result in
     let limited = room-is (length H + opened + 2) inside.max_events (past-test inside.past.items c.deref.result.now inside.history.items inside.forgotten opened 2 inside.max_events c.has_room.result true c.self.invariant.0 c.has_room.ensures c.deref.ensures.value c.if-not-has_room.false) in
-    let few = rows-fit c.rows_are_few.ensures (map g.R.Recovery.meaning inside.objects.items) inside.locks.items inside.transactions.rows c.reserve_begin.new.self.rows H inside.max_events
+    let few = rows-fit c.rows_are_few.ensures (map g.R.Recovery.meaning inside.objects.items) inside.transactions.rows c.reserve_begin.new.self.rows H inside.max_events
     c.self.invariant.1.store.kept c.reserve_begin.ensures.rows (omega (arith, limited)) in
     omega (arith, few)
 
@@ -70,7 +70,7 @@ invariant_of-self-2 g c =
     let made : vec_len c.reserve.new.self + (opened + 2) ≤ vec_capacity c.reserve.new.self = succeeded c.reserve.result (sym c.is_err.ensures.value ∙ c.if-is_err.false) c.reserve.ensures.ok in
     let long = past-length inside.past.items inside.history.items inside.forgotten c.self.invariant.0 in (
       c.self.invariant.0,
-      begin-whole c.begin_moves.ensures (map g.R.Recovery.meaning inside.objects.items) inside.locks.items inside.transactions.rows c.begin-t.new.self.rows H (inside.past.items ++ c.push_reserved.new.self.items)
+      begin-whole c.begin_moves.ensures (map g.R.Recovery.meaning inside.objects.items) inside.transactions.rows c.begin-t.new.self.rows H (inside.past.items ++ c.push_reserved.new.self.items)
           c.args.w c.begin-t.result c.self.invariant.1.store.kept (c.begin-t.ensures.number ∙ ap length c.reserve_begin.ensures.rows)
           (c.begin-t.ensures.rows ∙ ap (λ r. r ++ Some (begun_by c.args.w) ∷ []) c.reserve_begin.ensures.rows)
           (past-more inside.past.items inside.history.items c.push_reserved.new.self.items (record { worker = c.args.w; kind = Begin c.begin-t.result })
@@ -85,9 +85,9 @@ returns-clause-step g c =
     let H = inside.past.items ++ inside.history.items in
     let opened = c.open_count-opened.result in
     let ms = map g.R.Recovery.meaning inside.objects.items in
-    let k : Keeping = keeping ms inside.locks.items inside.transactions.rows in
+    let k : Keeping = keeping ms inside.transactions.rows in
     let counts : opened ≡ open_count (seen H) = c.open_count-opened.ensures.exact ∙ sym (c.rows_are_counted.ensures k H c.self.invariant.1.store.kept) in
-    inl (begin-shown c.begin_moves.ensures ms inside.locks.items inside.transactions.rows c.begin-t.new.self.rows H (inside.past.items ++ c.push_reserved.new.self.items)
+    inl (begin-shown c.begin_moves.ensures ms inside.transactions.rows c.begin-t.new.self.rows H (inside.past.items ++ c.push_reserved.new.self.items)
     c.args.w c.begin-t.result c.self.invariant.1.store.kept (c.begin-t.ensures.number ∙ ap length c.reserve_begin.ensures.rows)
     (c.begin-t.ensures.rows ∙ ap (λ r. r ++ Some (begun_by c.args.w) ∷ []) c.reserve_begin.ensures.rows)
     (past-more inside.past.items inside.history.items c.push_reserved.new.self.items (record { worker = c.args.w; kind = Begin c.begin-t.result })

@@ -11,7 +11,7 @@ returns-in_err-call g c =
     let inside = c.self.inside in
     let s = c.args.self.now in
     let its = c.in_ok-calls.calls.now in
-    let known = calls-shown (map g.R.Recovery.meaning inside.objects.items) inside.locks.items inside.transactions.rows (inside.past.items ++ inside.history.items) inside.max_events inside.forgotten s c.self.view_is
+    let known = calls-shown (map g.R.Recovery.meaning inside.objects.items) inside.transactions.rows (inside.past.items ++ inside.history.items) inside.max_events inside.forgotten s c.self.view_is
     inside.calls.items c.self.invariant.1.known in
     let object = its-object s.types inside.calls.items c.deref.result.now known c.deref.ensures.value c.args.x its c.in_ok-calls.ensures.lookup.0 c.in_ok-calls.ensures.lookup.1 in
     c.from_residual-in_err-call.ensures ∙ ap (option_map (λ (k : Call). k.first)) (sym c.in_err-call.was)
@@ -22,7 +22,7 @@ returns g c =
     let inside = c.self.inside in
     let s = c.args.self.now in
     let its = c.in_ok-calls.calls.now in
-    let known = calls-shown (map g.R.Recovery.meaning inside.objects.items) inside.locks.items inside.transactions.rows (inside.past.items ++ inside.history.items) inside.max_events inside.forgotten s c.self.view_is
+    let known = calls-shown (map g.R.Recovery.meaning inside.objects.items) inside.transactions.rows (inside.past.items ++ inside.history.items) inside.max_events inside.forgotten s c.self.view_is
     inside.calls.items c.self.invariant.1.known in
     let object = its-object s.types inside.calls.items c.deref.result.now known c.deref.ensures.value c.args.x its c.in_ok-calls.ensures.lookup.0 c.in_ok-calls.ensures.lookup.1 in
     ap (option_map (λ (k : Call). k.first)) (sym c.in_ok-call.was)

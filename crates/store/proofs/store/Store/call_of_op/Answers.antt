@@ -18,9 +18,9 @@ returns-in_err-op g c =
     let lookup = c.in_ok-object.ensures.lookup in
     let m = meaning c.in_ok-object.object.now in
     let low : c.args.x < length c.deref.result.now = grind (arith, nat_tests, lookup.0) in
-    let there = object-shown (map meaning inside.objects.items) inside.locks.items inside.transactions.rows (inside.past.items ++ inside.history.items) inside.max_events inside.forgotten s c.args.x m
+    let there = object-shown (map meaning inside.objects.items) inside.transactions.rows (inside.past.items ++ inside.history.items) inside.max_events inside.forgotten s c.args.x m
     c.self.view_is (image-in meaning inside.objects.items c.deref.result.now c.args.x c.in_ok-object.object.now c.deref.ensures.value low lookup.1) in
-    let same = c.ops.ensures ∙ ap (λ t. t.ops) (c.table.ensures ∙ ap (λ k. k.file.table) c.checked.ensures) in
+    let same = c.ops.ensures.exact in
     c.from_residual-in_err-op.ensures
     ∙ op-missed (slice_get (objects s) c.args.x) (object m) c.args.k c.from.result c.ops.result.now there same c.from.ensures c.in_err-op.ensures.lookup.0
 
@@ -34,10 +34,10 @@ returns-in_err-call g c =
     let lookup = c.in_ok-object.ensures.lookup in
     let m = meaning c.in_ok-object.object.now in
     let low : c.args.x < length c.deref.result.now = grind (arith, nat_tests, lookup.0) in
-    let there = object-shown ms inside.locks.items inside.transactions.rows H inside.max_events inside.forgotten s c.args.x m
+    let there = object-shown ms inside.transactions.rows H inside.max_events inside.forgotten s c.args.x m
     c.self.view_is (image-in meaning inside.objects.items c.deref.result.now c.args.x c.in_ok-object.object.now c.deref.ensures.value low lookup.1) in
-    let same = c.ops.ensures ∙ ap (λ t. t.ops) (c.table.ensures ∙ ap (λ k. k.file.table) c.checked.ensures) in
-    let known = calls-shown ms inside.locks.items inside.transactions.rows H inside.max_events inside.forgotten s c.self.view_is inside.calls.items c.self.invariant.1.known in
+    let same = c.ops.ensures.exact in
+    let known = calls-shown ms inside.transactions.rows H inside.max_events inside.forgotten s c.self.view_is inside.calls.items c.self.invariant.1.known in
     let found = its-object s.types inside.calls.items inside.calls.items known refl c.args.x c.index.result.now
     (calls-inside s.types inside.calls.items c.args.x (object m) known there) c.index.ensures in
     c.from_residual-in_err-call.ensures ∙ ap (option_map (λ (k : Call). k.first)) (sym c.in_err-call.was)
@@ -54,10 +54,10 @@ returns g c =
     let lookup = c.in_ok-object.ensures.lookup in
     let m = meaning c.in_ok-object.object.now in
     let low : c.args.x < length c.deref.result.now = grind (arith, nat_tests, lookup.0) in
-    let there = object-shown ms inside.locks.items inside.transactions.rows H inside.max_events inside.forgotten s c.args.x m
+    let there = object-shown ms inside.transactions.rows H inside.max_events inside.forgotten s c.args.x m
     c.self.view_is (image-in meaning inside.objects.items c.deref.result.now c.args.x c.in_ok-object.object.now c.deref.ensures.value low lookup.1) in
-    let same = c.ops.ensures ∙ ap (λ t. t.ops) (c.table.ensures ∙ ap (λ k. k.file.table) c.checked.ensures) in
-    let known = calls-shown ms inside.locks.items inside.transactions.rows H inside.max_events inside.forgotten s c.self.view_is inside.calls.items c.self.invariant.1.known in
+    let same = c.ops.ensures.exact in
+    let known = calls-shown ms inside.transactions.rows H inside.max_events inside.forgotten s c.self.view_is inside.calls.items c.self.invariant.1.known in
     let found = its-object s.types inside.calls.items inside.calls.items known refl c.args.x c.index.result.now
     (calls-inside s.types inside.calls.items c.args.x (object m) known there) c.index.ensures in
     ap (option_map (λ (k : Call). k.first)) (sym c.in_ok-call.was)

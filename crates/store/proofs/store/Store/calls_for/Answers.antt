@@ -11,7 +11,7 @@ returns-then-not-is_open-clause-refused g c =
     let s = c.args.self.now in
     let ms = map g.R.Recovery.meaning inside.objects.items in
     let closed : is_open (seen s.history) c.args.t ≡ false =
-    open-shown ms inside.locks.items inside.transactions.rows (inside.past.items ++ inside.history.items) inside.max_events inside.forgotten s c.self.view_is c.rows_say_who_is_open.ensures c.args.t c.self.invariant.1.store.kept
+    open-shown ms inside.transactions.rows (inside.past.items ++ inside.history.items) inside.max_events inside.forgotten s c.self.view_is c.rows_say_who_is_open.ensures c.args.t c.self.invariant.1.store.kept
     ∙ sym c.is_open.ensures ∙ c.if-not-is_open.true in
     closed-refusal s c.args.t c.args.x closed
 
@@ -21,7 +21,7 @@ returns-then-not-is_open-clause-unnumbered g c =
     let s = c.args.self.now in
     let ms = map g.R.Recovery.meaning inside.objects.items in
     let closed : is_open (seen s.history) c.args.t ≡ false =
-    open-shown ms inside.locks.items inside.transactions.rows (inside.past.items ++ inside.history.items) inside.max_events inside.forgotten s c.self.view_is c.rows_say_who_is_open.ensures c.args.t c.self.invariant.1.store.kept
+    open-shown ms inside.transactions.rows (inside.past.items ++ inside.history.items) inside.max_events inside.forgotten s c.self.view_is c.rows_say_who_is_open.ensures c.args.t c.self.invariant.1.store.kept
     ∙ sym c.is_open.ensures ∙ c.if-not-is_open.true in
     sym (closed-unnumbered s c.args.t c.args.x closed)
 
@@ -31,9 +31,9 @@ returns-in_default-clause-refused g c =
     let s = c.args.self.now in
     let ms = map g.R.Recovery.meaning inside.objects.items in
     let going : is_open (seen s.history) c.args.t ≡ true =
-    open-shown ms inside.locks.items inside.transactions.rows (inside.past.items ++ inside.history.items) inside.max_events inside.forgotten s c.self.view_is c.rows_say_who_is_open.ensures c.args.t c.self.invariant.1.store.kept
+    open-shown ms inside.transactions.rows (inside.past.items ++ inside.history.items) inside.max_events inside.forgotten s c.self.view_is c.rows_say_who_is_open.ensures c.args.t c.self.invariant.1.store.kept
     ∙ sym c.is_open.ensures ∙ c.if-not-is_open.false in
-    let known = calls-shown ms inside.locks.items inside.transactions.rows (inside.past.items ++ inside.history.items) inside.max_events inside.forgotten s c.self.view_is inside.calls.items c.self.invariant.1.known in
+    let known = calls-shown ms inside.transactions.rows (inside.past.items ++ inside.history.items) inside.max_events inside.forgotten s c.self.view_is inside.calls.items c.self.invariant.1.known in
     let nowhere : slice_get (objects s) c.args.x ≡ None = no-object s.types inside.calls.items c.deref.result.now known c.deref.ensures.value c.args.x c.in_default.ensures.lookup.0 in
     objectless-refusal s c.args.t c.args.x going nowhere
 
@@ -43,9 +43,9 @@ returns-in_default-clause-unnumbered g c =
     let s = c.args.self.now in
     let ms = map g.R.Recovery.meaning inside.objects.items in
     let going : is_open (seen s.history) c.args.t ≡ true =
-    open-shown ms inside.locks.items inside.transactions.rows (inside.past.items ++ inside.history.items) inside.max_events inside.forgotten s c.self.view_is c.rows_say_who_is_open.ensures c.args.t c.self.invariant.1.store.kept
+    open-shown ms inside.transactions.rows (inside.past.items ++ inside.history.items) inside.max_events inside.forgotten s c.self.view_is c.rows_say_who_is_open.ensures c.args.t c.self.invariant.1.store.kept
     ∙ sym c.is_open.ensures ∙ c.if-not-is_open.false in
-    let known = calls-shown ms inside.locks.items inside.transactions.rows (inside.past.items ++ inside.history.items) inside.max_events inside.forgotten s c.self.view_is inside.calls.items c.self.invariant.1.known in
+    let known = calls-shown ms inside.transactions.rows (inside.past.items ++ inside.history.items) inside.max_events inside.forgotten s c.self.view_is inside.calls.items c.self.invariant.1.known in
     let nowhere : slice_get (objects s) c.args.x ≡ None = no-object s.types inside.calls.items c.deref.result.now known c.deref.ensures.value c.args.x c.in_default.ensures.lookup.0 in
     sym (objectless-unnumbered s c.args.t c.args.x going nowhere)
 
@@ -54,7 +54,7 @@ returns-clause-still_open g c =
     let inside = c.self.inside in
     let s = c.args.self.now in
     let ms = map g.R.Recovery.meaning inside.objects.items in
-    open-shown ms inside.locks.items inside.transactions.rows (inside.past.items ++ inside.history.items) inside.max_events inside.forgotten s c.self.view_is c.rows_say_who_is_open.ensures c.args.t c.self.invariant.1.store.kept
+    open-shown ms inside.transactions.rows (inside.past.items ++ inside.history.items) inside.max_events inside.forgotten s c.self.view_is c.rows_say_who_is_open.ensures c.args.t c.self.invariant.1.store.kept
     ∙ sym c.is_open.ensures ∙ c.if-not-is_open.false
 
 pub returns-clause-calls : goal.returns-clause-calls
@@ -62,5 +62,5 @@ returns-clause-calls g c =
     let inside = c.self.inside in
     let s = c.args.self.now in
     let ms = map g.R.Recovery.meaning inside.objects.items in
-    let known = calls-shown ms inside.locks.items inside.transactions.rows (inside.past.items ++ inside.history.items) inside.max_events inside.forgotten s c.self.view_is inside.calls.items c.self.invariant.1.known in
+    let known = calls-shown ms inside.transactions.rows (inside.past.items ++ inside.history.items) inside.max_events inside.forgotten s c.self.view_is inside.calls.items c.self.invariant.1.known in
     its-object s.types inside.calls.items c.deref.result.now known c.deref.ensures.value c.args.x c.in-Some.calls.now c.in-Some.ensures.lookup.0 c.in-Some.ensures.lookup.1

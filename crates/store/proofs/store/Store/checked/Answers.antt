@@ -15,5 +15,5 @@ returns-clause-checked g c =
     let lookup = c.in_ok-object.ensures.lookup in
     let low : c.args.x < length c.deref.result.now = grind (arith, nat_tests, lookup.0) in
     let there = image-in meaning inside.objects.items c.deref.result.now c.args.x object c.deref.ensures.value low lookup.1 in
-    subst (λ (s : Stored). slice_get s.types c.args.x ≡ Some c.checked.result.now) c.self.view_is
+    subst (λ (s : Stored). slice_get s.types c.args.x ≡ Some (c.checked.result.now)) c.self.view_is
     (slice_get-map (λ (m : Meaning). m.checked) (map meaning inside.objects.items) c.args.x ∙ ap (option_map (λ (m : Meaning). m.checked)) there ∙ ap Some (sym c.checked.ensures))

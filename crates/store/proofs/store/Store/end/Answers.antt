@@ -1,4 +1,4 @@
-use Rattle.std.proofs.Common.{◌≡◌, ℕ, ◌+◌, List, [], ◌∷◌, ◌++◌, false, length, map, vec_capacity, sym, ap, ◌∙◌, arith}
+use Rattle.std.proofs.Common.{◌≡◌, ℕ, ◌+◌, List, [], ◌∷◌, ◌++◌, false, length, map, vec_capacity, sym, ap, ◌∙◌, arith, rules}
 use Rattle.std.proofs.lemmas.List.{length-map}
 use Rattle.object_trait.specs.declared.event.Event.{Event}
 use Rattle.object_trait.specs.declared.event.EventKind.{EventKind}
@@ -9,7 +9,7 @@ use Rattle.store_laws.specs.Events.{end_event}
 use Rattle.store_laws.specs.Kept.{Keeping, keeping, objects_of}
 use Rattle.store.specs.Ends.{end_command}
 use Rattle.store.proofs.Stored.{refused-shown}
-use Rattle.store.proofs.Opens.{open-alike, lists-alike, places-inside}
+use Rattle.store.proofs.Opens.{open-alike, places-inside}
 use Rattle.store.proofs.Pasts.{past-more, past-length}
 use Rattle.store.proofs.Endings.{end-refusal, end-room, end-whole, end-shown}
 use Rattle.store.proofs.store.Store.end.Goals as goal
@@ -24,30 +24,24 @@ returns-then-not-is_open g c =
     let inside = c.self.inside in
     let H = inside.past.items ++ inside.history.items in
     let ms = map g.R.Recovery.meaning inside.objects.items in
-    let k : Keeping = keeping ms inside.locks.items inside.transactions.rows in
+    let k : Keeping = keeping ms inside.transactions.rows in
     let closed : is_open (seen H) c.args.t ≡ false =
-    open-alike c.rows_say_who_is_open.ensures ms inside.locks.items inside.transactions.rows H c.args.t c.self.invariant.1.store.kept ∙ sym c.is_open.ensures ∙ c.if-not-is_open.true in
+    open-alike c.rows_say_who_is_open.ensures ms inside.transactions.rows H c.args.t c.self.invariant.1.store.kept ∙ sym c.is_open.ensures ∙ c.if-not-is_open.true in
     refused-shown (Unit {0}) k H c.args.w inside.max_events inside.forgotten (end_command c.args.how c.args.t) NotOpen c.args.self.now c.self.view_is
     (end-refusal c.args.how (objects_of ms) inside.max_events H c.args.t false closed)
 
-pub end_at-requires-clause-as_many : goal.end_at-requires-clause-as_many
-end_at-requires-clause-as_many g c =
-    λ κs outlives.
-    let inside = c.self.inside in
-    lists-alike (map g.R.Recovery.meaning inside.objects.items) inside.locks.items inside.transactions.rows (inside.past.items ++ inside.history.items) (length inside.objects.items) c.self.invariant.1.store.kept
-    (length-map inside.objects.items g.R.Recovery.meaning)
-
-pub end_at-requires-clause-inside : goal.end_at-requires-clause-inside
-end_at-requires-clause-inside g c =
-    λ κs outlives.
-    let inside = c.self.inside in
-    places-inside (map g.R.Recovery.meaning inside.objects.items) inside.locks.items inside.transactions.rows (inside.past.items ++ inside.history.items) c.args.t c.places.result.now c.self.invariant.1.store.kept
-    (sym c.is_open.ensures ∙ c.if-not-is_open.false) c.places.ensures c.places_are_inside.ensures (length inside.objects.items) (length-map inside.objects.items g.R.Recovery.meaning)
+pub end_at-requires : goal.end_at-requires
+end_at-requires g c =
+    let inside = c.self.inside in (
+      search rules,
+      places-inside (map g.R.Recovery.meaning inside.objects.items) inside.transactions.rows (inside.past.items ++ inside.history.items) c.args.t c.places.result.now c.self.invariant.1.store.kept
+          (sym c.is_open.ensures ∙ c.if-not-is_open.false) c.places.ensures c.places_are_inside.ensures (length inside.objects.items) (length-map inside.objects.items g.R.Recovery.meaning),
+    )
 
 pub push_reserved-requires : goal.push_reserved-requires
 push_reserved-requires g c =
     let inside = c.self.inside in
-    let room = end-room c.rows_are_counted.ensures (map g.R.Recovery.meaning inside.objects.items) inside.locks.items inside.transactions.rows (inside.past.items ++ inside.history.items) (inside.forgotten + vec_capacity inside.history) inside.max_events (count_open c.end.new.self.rows)
+    let room = end-room c.rows_are_counted.ensures (map g.R.Recovery.meaning inside.objects.items) inside.transactions.rows (inside.past.items ++ inside.history.items) (inside.forgotten + vec_capacity inside.history) inside.max_events (count_open c.end.new.self.rows)
     c.self.invariant.1.store c.end.ensures.count in
     let long = past-length inside.past.items inside.history.items inside.forgotten c.self.invariant.0 in
     omega (arith, long, room.0, inside.history.ok.0)
@@ -59,9 +53,9 @@ invariant_of-self g c =
     let ms = map g.R.Recovery.meaning inside.objects.items in
     let event : Event = record { worker = c.args.w; kind = end_event c.args.how c.args.t } in (
       c.self.invariant.0,
-      end-whole c.args.how c.end_moves.ensures c.rows_say_who_is_open.ensures ms (map g.R.Recovery.meaning c.end_at.new.objects.items) inside.locks.items c.end_at.new.locks.items
+      end-whole c.args.how c.end_moves.ensures c.rows_say_who_is_open.ensures ms (map g.R.Recovery.meaning c.end_at.new.objects.items)
           inside.transactions.rows c.end.new.self.rows H (inside.past.items ++ c.push_reserved.new.self.items) c.args.w c.args.t c.places.result.now c.self.invariant.1.store.kept
-          (sym c.is_open.ensures ∙ c.if-not-is_open.false) c.places.ensures c.end_at.ensures.objects c.end_at.ensures.locks c.end.ensures.rows
+          (sym c.is_open.ensures ∙ c.if-not-is_open.false) c.places.ensures c.end_at.ensures c.end.ensures.rows
           (past-more inside.past.items inside.history.items c.push_reserved.new.self.items event (event-last inside.history.items c.push_reserved.new.self.items c.args.w _ _ c.push_reserved.ensures.items c.kind_of_end-kind.ensures))
           c.stays_kept.ensures c.room_after.ensures c.types_stay.ensures c.rows_are_counted.ensures
           inside.calls.items (inside.forgotten + vec_capacity inside.history) (inside.forgotten + vec_capacity c.push_reserved.new.self) inside.max_events c.self.invariant.1
@@ -74,8 +68,8 @@ returns g c =
     let H = inside.past.items ++ inside.history.items in
     let ms = map g.R.Recovery.meaning inside.objects.items in
     let event : Event = record { worker = c.args.w; kind = end_event c.args.how c.args.t } in
-    end-shown c.args.how c.end_moves.ensures c.rows_say_who_is_open.ensures ms (map g.R.Recovery.meaning c.end_at.new.objects.items) inside.locks.items c.end_at.new.locks.items
+    end-shown c.args.how c.end_moves.ensures c.rows_say_who_is_open.ensures ms (map g.R.Recovery.meaning c.end_at.new.objects.items)
     inside.transactions.rows c.end.new.self.rows H (inside.past.items ++ c.push_reserved.new.self.items) c.args.w c.args.t c.places.result.now c.self.invariant.1.store.kept
-    (sym c.is_open.ensures ∙ c.if-not-is_open.false) c.places.ensures c.end_at.ensures.objects c.end_at.ensures.locks c.end.ensures.rows
+    (sym c.is_open.ensures ∙ c.if-not-is_open.false) c.places.ensures c.end_at.ensures c.end.ensures.rows
     (past-more inside.past.items inside.history.items c.push_reserved.new.self.items event (event-last inside.history.items c.push_reserved.new.self.items c.args.w _ _ c.push_reserved.ensures.items c.kind_of_end-kind.ensures))
     c.types_stay.ensures (Unit {0}) tt inside.max_events inside.forgotten c.args.self.now c.self.view_is

@@ -11,7 +11,7 @@ invariant_of-self g c =
     let wider : s.forgotten + vec_capacity s.history ≤ s.forgotten + n + vec_capacity c.remove_front.new.history = omega (arith, c.remove_front.ensures.capacity) in (
       gone-many s.past.items s.history.items c.deref.result.now c.add.new.self.items c.remove_front.new.history.items n c.add.ensures c.deref.ensures.value c.remove_front.ensures.items s.forgotten
           c.self.invariant.0 inside,
-      same-whole (map g.R.Recovery.meaning s.objects.items) s.calls.items s.locks.items s.transactions.rows (s.past.items ++ s.history.items)
+      same-whole (map g.R.Recovery.meaning s.objects.items) s.calls.items s.transactions.rows (s.past.items ++ s.history.items)
           (c.add.new.self.items ++ c.remove_front.new.history.items) _ _ s.max_events c.self.invariant.1
           (gone-same s.past.items s.history.items c.deref.result.now c.add.new.self.items c.remove_front.new.history.items n c.add.ensures c.deref.ensures.value c.remove_front.ensures.items) wider,
     )

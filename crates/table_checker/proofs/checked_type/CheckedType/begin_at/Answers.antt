@@ -1,11 +1,13 @@
-use Rattle.std.proofs.Common.{◌≡◌, ℕ, true, length, refl, ap, ◌∙◌}
+use Rattle.std.proofs.Common.{◌≡◌, ℕ, true, length, refl, sym, subst, ap, ◌∙◌}
 use Rattle.std.specs.List.{list_any}
 use Rattle.type_table.specs.Table.{Table, table_at}
+use Rattle.escrow_laws.specs.Bounds.{bounds_of}
 use Rattle.type_text.specs.Canonical.{PartsTellTheFile}
 use Rattle.type_text.specs.TypeFile.{file_at}
 use Rattle.type_text.specs.declared.type_file.TypeFile.{TypeFile}
-use Rattle.table_checker.specs.Checked.{Checked}
-use Rattle.table_checker.specs.At.{checked_at}
+use Rattle.table_checker.specs.Checked.{Checked, IsCheckedBy}
+use Rattle.table_checker.specs.At.{checked_at, is_inside}
+use Rattle.table_checker.proofs.BeginsAt.{bounds-at}
 use Rattle.table_checker.proofs.checked_type.CheckedType.begin_at.Goals as goal
 
 -- a file with another table
@@ -18,6 +20,16 @@ same-file : PartsTellTheFile → (file : TypeFile) (i : ℕ) (T : Table) → T �
     (c : length file.relation ≡ T.states) (d : length file.undo ≡ length T.ops) (e : length file.intentions ≡ length T.ops)
     → with_table file T a b c d e ≡ file_at file i
 same-file tell file i T same a b c d e = tell (with_table file T a b c d e) (file_at file i) (record { table = same; reach = refl; relation = refl; undo = refl; intentions = refl })
+
+pub invariant_of-self : goal.invariant_of-self
+invariant_of-self c =
+    let inside = c.self.inside in
+    let T = inside.file.table in
+    let same = same-file c.parts_tell_the_file.ensures inside.file c.args.state c.begin_at.new.self c.begin_at.ensures _ _ _ _ _ in
+    let member : is_inside (record { kind = inside.kind; file = inside.file }) c.args.state ≡ true = subst (λ (v : Checked). is_inside v c.args.state ≡ true) (sym c.self.view_is) c.requires in (
+      subst (λ (f : TypeFile). IsCheckedBy inside.kind f) (sym same) (c.at_is_checked.ensures (record { kind = inside.kind; file = inside.file }) c.args.state c.self.invariant.0 member),
+      λ escrow. c.self.invariant.1 escrow ∙ sym (bounds-at T c.args.state) ∙ ap (λ (f : TypeFile). bounds_of f.table) (sym same),
+    )
 
 pub returns : goal.returns
 returns c =

@@ -1,4 +1,4 @@
-use Rattle.std.proofs.Common.{◌≡◌, ◌↔◌, true, subst}
+use Rattle.std.proofs.Common.{◌≡◌, ◌↔◌, true, refl, subst}
 use Rattle.table_checker.specs.Checked.{Checked, IsStrong}
 use Rattle.table_checker.proofs.Failures.{strong-undo}
 use Rattle.table_checker.proofs.checked_type.CheckedType.is_strong.Goals as goal

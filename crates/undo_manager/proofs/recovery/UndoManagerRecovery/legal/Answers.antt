@@ -7,6 +7,6 @@ returns c =
     let m = c.self.inside in
     let same = rw (c.table.ensures, c.deref.ensures) at c.next.ensures.exact in
     rw (← c.self.view_is) (
-      λ yes. legal-for m.checked.value m.base m.state m.log.items m.opened.items c.args._t c.args.k c.self.invariant (ap is_some (sym same) ∙ (sym c.is_some.ensures ∙ yes)),
-      λ legal. c.is_some.ensures ∙ (ap is_some same ∙ legal-next m.checked.value m.base m.state m.log.items m.opened.items c.args._t c.args.k c.self.invariant legal),
+      λ yes. legal-for (m.checked.value) m.base m.state m.log.items m.opened.items c.args._t c.args.k c.self.invariant.0 (ap is_some (sym same) ∙ (sym c.is_some.ensures ∙ yes)),
+      λ legal. c.is_some.ensures ∙ (ap is_some same ∙ legal-next (m.checked.value) m.base m.state m.log.items m.opened.items c.args._t c.args.k c.self.invariant.0 legal),
     )

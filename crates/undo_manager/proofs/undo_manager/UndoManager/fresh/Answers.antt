@@ -1,9 +1,11 @@
+use Rattle.std.proofs.Common.{rules}
 use Rattle.undo_manager.proofs.Keeping.{fresh-kept}
 use Rattle.undo_manager.proofs.undo_manager.UndoManager.fresh.Goals as goal
 
 pub invariant_of-result : goal.invariant_of-result
 invariant_of-result c =
     let checked = rw c.deref.ensures at c.file.ensures.checked in
+    let table = rw c.deref.ensures at c.file.ensures.table in
     let initial = rw (c.file.ensures.exact, c.deref.ensures) at c.initial-initial.ensures.exact in
-    rw (c.new.ensures.items, c.new-2.ensures.items)
-    (fresh-kept c.checked_is_covered.ensures c.fresh_is_sound.ensures c.args.checked.value c.initial-initial.result c.requires checked initial)
+    rw (c.new.ensures.items, c.new-3.ensures.items)
+    (fresh-kept c.checked_is_covered.ensures c.fresh_is_sound.ensures c.args.checked.value c.initial-initial.result c.requires table checked initial, c.new-2.ensures)

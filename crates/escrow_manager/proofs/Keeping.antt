@@ -1,0 +1,133 @@
+-- What a manager keeps, and what it knows by that.
+use Rattle.std.proofs.Common.{◌≡◌, ◌↔◌, ℕ, ◌+◌, ◌-◌, ◌<◌, ◌≤◌, true, false, not, eqb, get_or, List, [], ◌∷◌, ◌++◌, length, Option, Some, refl, sym, ap, subst, ◌∙◌, inl, inr, arith}
+use Rattle.std.specs.Prelude.{slice_get}
+use Rattle.std.specs.List.{AllByRecursion}
+use Rattle.std.proofs.lemmas.List.Elements.{All-from_recursion}
+use Rattle.std.proofs.lemmas.Option.{slice_get-get_or}
+use Rattle.type_table.specs.Table.{Table}
+use Rattle.type_table.specs.Run.{run, IsLegal}
+use Rattle.escrow_laws.specs.Bounds.{amounts_of, AreBounds}
+use Rattle.escrow_laws.specs.Firm.{IsIdleFrom, IsFirm}
+use Rattle.escrow_laws.specs.Marks.{mark_of, FitsIn}
+use Rattle.escrow_laws.specs.Laws.{MarksAreExact, MarksFit, FirmIsLegal, ExtremesTellFirm}
+use Rattle.escrow_laws.specs.declared.bounded.Bounded.{Bounded}
+use Rattle.escrow_laws.specs.declared.mark.Mark.{Mark}
+use Rattle.escrow_laws.specs.declared.mark.OpenMark.{OpenMark}
+use Rattle.type_table.specs.declared.kind.Kind.TheVariants.{Escrow}
+use Rattle.table_checker.specs.Checked.{Checked, IsChecked, IsCheckedBy}
+use Rattle.object_trait.specs.Meaning.{Meaning, object, ops_of, open_of, own_of, run_log, view_by, view_of}
+use Rattle.object_trait.specs.Sound.{IsSound, IsSoundBy, IsSoundEscrow}
+use Rattle.object_trait.specs.Steps.{above, IsLegalFor}
+use Rattle.object_trait.specs.Laws.{CheckedIsCovered, FreshIsSound}
+use Rattle.object_trait.specs.declared.log_entry.LogEntry.{LogEntry}
+use Rattle.object_trait.proofs.Escrow.{above-t, above-none}
+use Rattle.escrow_manager.specs.Numeric.{bounds_in, greatest, IsInEscrow}
+use Rattle.escrow_manager.specs.Marks.{IsSmall}
+use Rattle.escrow_manager.specs.Totals.{totals_of}
+use Rattle.escrow_manager.specs.Kept.{AreOpen, IsKept}
+use Rattle.escrow_manager.specs.declared.totals.Totals.{Totals}
+use Rattle.escrow_manager.specs.declared.manager.EscrowManager.TheInside.{Inside}
+use Rattle.escrow_manager.proofs.Telling.{end-told, step-told, more-small, AreSmall, sums-small}
+
+-- what a manager of these fields means
+abbrev pub meant : Inside → Meaning
+meant a = record { checked = a.checked.value; base = a.base; log = a.log.items }
+
+-- the mark of what t did
+abbrev pub mark_at : Meaning → ℕ → Mark
+mark_at m t = mark_of (greatest m.checked) (bounds_in m.checked) (own_of m.log t)
+
+-- the number that t sees
+abbrev pub number_at : Meaning → ℕ → ℕ
+number_at m t = m.base + (mark_at m t).above - (mark_at m t).fall
+
+-- above t and each transaction of a log nobody did anything
+pub idle-above : (t : ℕ) (log : List LogEntry) → IsIdleFrom (above t log) (own_of log)
+idle-above t log u far = ap ops_of (above-none t u log far)
+
+-- ---- escrow
+
+-- each state is at most the greatest
+pub inside-greatest : (T : Table) (s : ℕ) → s < T.states → s ≤ T.states - 1
+inside-greatest T s below = omega (arith, below)
+
+-- what was tested of a type in escrow
+checked-of : (c : Checked) → IsInEscrow c → IsChecked c
+checked-of c numeric = subst (λ kind. IsCheckedBy kind c.file) (sym numeric.escrow) (record { table = numeric.table; bounds = numeric.bounds })
+
+module _ (m : Meaning) (numeric : IsInEscrow m.checked) where
+  pub escrow-sound : IsSound m → IsSoundEscrow (object m) m.base m.log
+  escrow-sound sound = subst (λ way. IsSoundBy way (object m) m.base m.log) numeric.escrow sound
+
+  pub sound-escrow : IsSoundEscrow (object m) m.base m.log → IsSound m
+  sound-escrow sound = subst (λ way. IsSoundBy way (object m) m.base m.log) (sym numeric.escrow) sound
+
+  pub escrow-view : (t : ℕ) → view_of m t ≡ run_log (object m) m.base (open_of t m.log)
+  escrow-view t = ap (λ way. view_by way (object m) m.base m.log t) numeric.escrow
+
+-- ---- what is known of a manager
+
+module _ {m : Meaning} {marks : List OpenMark} {totals : Totals} (h : IsKept m marks totals) where
+  pub firm-of : IsFirm m.checked.file.table (amounts_of (bounds_in m.checked)) m.base (own_of m.log)
+  firm-of = (escrow-sound m h.numeric h.sound).firm
+
+  pub inside-of : m.base ≤ greatest m.checked
+  inside-of = inside-greatest m.checked.file.table m.base h.base_fits
+
+  pub all-open : AreOpen m.log
+  all-open = All-from_recursion (λ (e : LogEntry). e.done ≡ false) m.log (escrow-sound m h.numeric h.sound).all_open
+
+  -- the greatest number is small
+  pub top-small : greatest m.checked ≤ 1023
+  top-small = let fit = h.numeric.table.states_fit in omega (arith, fit)
+
+  pub legal-of : FirmIsLegal → (t : ℕ) → IsLegal m.checked.file.table (Some m.base) (own_of m.log t)
+  legal-of legal t = legal m.checked.file.table (amounts_of (bounds_in m.checked)) m.base (own_of m.log) t firm-of
+
+  pub fits-of : MarksFit → FirmIsLegal → (t : ℕ) → FitsIn (greatest m.checked) m.base (mark_at m t)
+  fits-of fit legal t = fit m.checked.file.table (greatest m.checked) m.base (bounds_in m.checked) (own_of m.log t) h.numeric.bounds inside-of (legal-of legal t)
+
+  -- what t sees
+  pub view-told : MarksAreExact → FirmIsLegal → (t : ℕ) → view_of m t ≡ Some (number_at m t)
+  view-told exact legal t =
+      escrow-view m h.numeric t ∙ end-told m.checked.file.table (greatest m.checked) m.base (bounds_in m.checked) h.numeric.bounds exact (own_of m.log t) (legal-of legal t)
+
+  -- and what is legal for it
+  pub legal-told : (t k s : ℕ) (b : Bounded) → slice_get (bounds_in m.checked) k ≡ Some b → view_of m t ≡ Some s → ((b.low ≤ s) × (s ≤ b.high)) ↔ IsLegalFor m t k
+  legal-told t k s b found seen =
+      subst (λ x. ((b.low ≤ s) × (s ≤ b.high)) ↔ IsLegal m.checked.file.table x (k ∷ [])) (sym seen)
+      (step-told m.checked.file.table (greatest m.checked) m.base (bounds_in m.checked) h.numeric.bounds s k b found)
+
+  -- so the mark with it stays small
+  pub small-of : MarksAreExact → MarksFit → FirmIsLegal → (t k : ℕ) (b : Bounded) → slice_get (bounds_in m.checked) k ≡ Some b → IsLegalFor m t k → IsSmall (greatest m.checked) (mark_at m t) b
+  small-of exact fit legal t k b found here =
+      let between = (legal-told t k (number_at m t) b found (view-told exact legal t)).1 here in
+      more-small (greatest m.checked) m.base (number_at m t) (mark_at m t) b inside-of (fits-of fit legal t) (h.numeric.bounds.within k b found) between.0 between.1
+
+  -- and the sums and extremes are
+  pub sums-of : ExtremesTellFirm → AreSmall (greatest m.checked) marks
+  sums-of tell =
+      sums-small tell m.checked.file.table (greatest m.checked) m.base (above 0 m.log) (bounds_in m.checked) (own_of m.log) marks h.numeric.bounds inside-of h.listed (idle-above 0 m.log) firm-of
+
+-- ---- an operation
+
+-- the bounds that were read are those of the operation
+pub op-found : (ops bounds : List Bounded) (k i n : ℕ) (d : Bounded) → bounds ≡ ops → i ≡ k → k < n → length ops ≡ n → slice_get ops k ≡ Some (get_or bounds i d)
+op-found ops bounds k i n d same at within count =
+    slice_get-get_or ops k d (omega (arith, within, count)) ∙ ap (λ (V : List Bounded). Some (get_or V k d)) (sym same) ∙ ap (λ j. Some (get_or bounds j d)) (sym at)
+
+-- ---- a new manager
+
+pub fresh-kept : CheckedIsCovered → FreshIsSound → (c : Checked) → IsInEscrow c → IsKept (record { checked = c; base = c.file.table.initial; log = [] }) [] (totals_of (greatest c) [])
+fresh-kept covers fresh c numeric =
+    let m : Meaning = record { checked = c; base = c.file.table.initial; log = [] } in
+    record {
+      numeric = numeric;
+      covered = (covers c (checked-of c numeric)).0;
+      base_fits = numeric.table.initial_inside;
+      ops_fit = All-from_recursion (λ (e : LogEntry). e.op < length c.file.table.ops) [] tt;
+      room = omega arith;
+      sound = fresh m (covers c (checked-of c numeric)).0 (record { base = refl; log = refl });
+      listed = record { exact = λ t. refl; all = λ t none. refl; some = tt; ordered = tt };
+      summed = refl;
+    }

@@ -1,0 +1,12 @@
+pub mod Blocking
+pub mod Changing
+pub mod Counting
+pub mod Keeping
+pub mod Leaving
+pub mod Marking
+pub mod Passing
+pub mod Remarking
+pub mod Seeing
+pub mod Summing
+pub mod Telling
+pub mod Totalling

@@ -1,0 +1,5 @@
+pub mod Numeric
+pub mod Marks
+pub mod Totals
+pub mod Kept
+pub mod Examples

@@ -1,0 +1,140 @@
+//! The entries of a transaction in the log of an object in escrow. All entries there are open.
+
+ghost use Rattle.std.specs.Prelude.{◌≡◌, false, ◌+◌, ◌^◌, ◌<◌, ◌≤◌, ◌-◌, ◌==◌, not, ◌&&◌, ◌||◌, nat_lt, true, Some, length, filter, cond, All};
+ghost use Rattle.std.specs.List.{find};
+ghost use Rattle.std.specs.Option.{option_map};
+ghost use Rattle.type_table.specs.Run.{IsLegal};
+ghost use Rattle.type_table.specs.declared.kind.Kind.TheVariants.{Escrow};
+ghost use Rattle.escrow_laws.specs.Marks.{marked, mark_of, mark_keeps};
+ghost use Rattle.escrow_manager.specs.Numeric.{bounds_in, greatest};
+ghost use Rattle.object_trait.specs.Strike.{keep_first};
+ghost use Rattle.object_trait.specs.Meaning.{is_open_of, open_of, own_of};
+ghost use Rattle.escrow_manager.specs.Kept.{AreOpen};
+ghost use Rattle.escrow_manager.specs.Marks.{AreOrdered, mark_in, IsSmall};
+
+use crate::marks::mark_in;
+use crate::numeric::{bounds, greatest};
+use crate::totals::Totals;
+use escrow_laws::{Bounded, Mark, OpenMark, marks_fit};
+use object_trait::LogEntry;
+use table_checker::CheckedType;
+use type_table::runs_along;
+
+/// Whether an open entry is t's.
+fn is_of(entry: LogEntry, t: u32) -> bool
+    requires { entry.done ≡ false }
+    ensures { result ≡ is_open_of t entry }
+{
+    entry.by == t
+}
+
+/// How many entries t has.
+pub fn count_of(log: &Vec<LogEntry>, t: u32) -> usize
+    requires { AreOpen log.now.items }
+    ensures { result ≡ length (open_of t log.now.items) }
+{
+    log.iter().filter(|entry| entry.by == t).count()
+}
+
+/// Takes t's entries out.
+pub fn take_out(log: &mut Vec<LogEntry>, t: u32)
+    requires { AreOpen log.old.items }
+    ensures { log.new.items ≡ filter (λ e. not (is_open_of t e)) log.old.items }
+{
+    log.retain(|entry| entry.by != t);
+}
+
+/// Whether an entry stays, where so many of mine are still to stay.
+fn stays(mine: bool, left: usize) -> bool
+    ensures { result ≡ (not mine || nat_lt 0 left) }
+{
+    !mine || left > 0
+}
+
+/// Leaves the first n entries of t.
+pub fn keep_first(log: &mut Vec<LogEntry>, t: u32, n: usize)
+    requires { AreOpen log.old.items }
+    ensures { log.new.items ≡ keep_first (is_open_of t) n log.old.items }
+{
+    let mut left = n;
+    let mut kept = 0;
+    for i in 0..log.len() {
+        let entry = log[i];
+        let mine = is_of(entry, t);
+        log[kept] = entry;
+        kept += usize::from(stays(mine, left));
+        left = left.saturating_sub(usize::from(mine));
+    }
+    log.truncate(kept);
+}
+
+/// The mark with one more operation, where it is mine.
+fn marked_if(mark: Mark, mine: bool, op: Bounded) -> Mark
+    requires { mine ≡ true → IsSmall 1023 mark op }
+    ensures { result ≡ cond mine (marked mark op) mark }
+{
+    if mine { mark.marked(op) } else { mark }
+}
+
+/// The mark of what t did, which is legal from base.
+pub fn mark_of(log: &Vec<LogEntry>, t: u32, checked: &CheckedType, base: u32) -> Mark
+    requires kind { checked.now.kind ≡ Escrow }
+    requires opens { AreOpen log.now.items }
+    requires operations { All (λ e. e.op < length checked.now.file.table.ops) log.now.items }
+    requires base { base ≤ greatest checked.now }
+    requires legal { IsLegal checked.now.file.table (Some base) (own_of log.now.items t) }
+    ensures { result ≡ mark_of (greatest checked.now) (bounds_in checked.now) (own_of log.now.items t) }
+{
+    marks_fit();
+    runs_along();
+    let mut mark = Mark::unmarked(greatest(checked));
+    for entry in log {
+        let mine = is_of(*entry, t);
+        mark = marked_if(mark, mine, bounds(checked)[usize::from(entry.op)]);
+    }
+    mark
+}
+
+/// Whether it is another's entry, and this other keeps t from what it did last.
+fn is_keeper(
+    entry: LogEntry,
+    marks: &Vec<OpenMark>,
+    t: OpenMark,
+    base: u32,
+    totals: Totals,
+    top: u32,
+) -> bool
+    requires ordered { AreOrdered marks.now.items }
+    requires top { top + 1 < 2 ^ 32 }
+    requires risen { totals.risen < 2 ^ 63 }
+    ensures { result ≡ (not (entry.by == t.by) && mark_keeps base totals.fallen totals.risen t.mark (mark_in top entry.by marks.now.items)) }
+{
+    entry.by != t.by
+        && {
+            let other = mark_in(marks, entry.by, top);
+            t.mark.is_kept_by(other, base, totals.fallen, totals.risen)
+        }
+}
+
+/// Whose entry is the first that keeps t from what it did last, where that has this mark and all marks
+/// have these totals.
+pub fn first_keeper(
+    log: &Vec<LogEntry>,
+    marks: &Vec<OpenMark>,
+    t: OpenMark,
+    base: u32,
+    totals: Totals,
+    top: u32,
+) -> Option<u32>
+    requires ordered { AreOrdered marks.now.items }
+    requires top { top + 1 < 2 ^ 32 }
+    requires risen { totals.risen < 2 ^ 63 }
+    ensures { result ≡ option_map (λ e. e.by) (find (λ e. not (e.by == t.by) && mark_keeps base totals.fallen totals.risen t.mark (mark_in top e.by marks.now.items)) log.now.items) }
+{
+    for entry in log {
+        if is_keeper(*entry, marks, t, base, totals, top) {
+            return Some(entry.by);
+        }
+    }
+    None
+}

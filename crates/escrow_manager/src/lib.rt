@@ -1,0 +1,13 @@
+//! Escrow: an object whose state is a number, at which each open transaction sees its own operations alone,
+//! and does whatever stays legal whatever the others do.
+#![tactic(auto)]
+
+mod entries;
+mod manager;
+mod marks;
+mod numeric;
+mod totals;
+
+pub use manager::EscrowManager;
+
+pub mod worked;

@@ -1,0 +1,247 @@
+ghost use Rattle.type_table.specs.declared.kind.Kind.TheVariants.{Escrow};
+ghost use Rattle.std.specs.Prelude.{IsOk, IfOk, IfErr, ◌≡◌, ◌↔◌, ◌≤◌, true, Some};
+ghost use Rattle.escrow_laws.specs.Marks.{mark_of};
+ghost use Rattle.object_trait.specs.Meaning.{own_of, view_of};
+ghost use Rattle.object_trait.specs.Steps.{IsFresh};
+ghost use Rattle.escrow_manager.specs.Numeric.{bounds_in, greatest};
+
+use crate::entries::{count_of, first_keeper, keep_first, mark_of, take_out};
+use crate::marks::{drop_mark, mark_at, mark_in, place_of, put_mark};
+use crate::numeric::{bounds, greatest, initial};
+use crate::totals::Totals;
+use escrow_laws::{
+    Bounded, Mark, OpenMark, extremes_tell_firm, firm_is_legal, firm_keeps_nobody, marks_are_exact,
+    marks_fit, marks_tell,
+};
+use object_trait::{
+    LogEntry, Recovery, Renew, WrongKind, checked_is_covered, fresh_is_sound, keeps_first,
+    keeps_none, keeps_others, opens_are_counted, sound_after_apply, sound_after_commit,
+    sound_after_strike,
+};
+use std::alloc::{AllocError, Global};
+use std::marker::Model;
+use std::sync::Arc;
+use table_checker::CheckedType;
+use type_table::{Kind, Op};
+
+/// An object in escrow. Its state is the number that is committed, and each open transaction sees this
+/// number after its own operations alone. An operation is admitted exactly where all that the open
+/// transactions did, and it, stays legal whatever they do next.
+///
+/// Beside the log it keeps a mark for each transaction that is open here, in the order of their
+/// numbers, and the totals of all marks. `legal` and `apply` look at the transaction's mark, found by
+/// halves; so does `blocker`, and at the totals, where by these nobody keeps anybody. Else it goes
+/// through the log once. `commit`, `abort` and `strike` go through log and marks.
+#[derive(Drop)]
+pub struct EscrowManager {
+    checked: Arc<CheckedType>,
+    base: u32,
+    log: Vec<LogEntry>,
+    marks: Vec<OpenMark>,
+    totals: Totals,
+}
+
+impl Model for EscrowManager {
+    ghost use Rattle.object_trait.specs.Meaning.{Meaning};
+    ghost use Rattle.escrow_manager.specs.Kept.{IsKept};
+
+    ghost Value = { Meaning };
+
+    ghost view = { λ a. record { checked = a.checked.value; base = a.base; log = a.log.items } };
+
+    ghost invariant = { λ a. IsKept (record { checked = a.checked.value; base = a.base; log = a.log.items }) a.marks.items a.totals };
+}
+
+impl EscrowManager {
+    /// A new object of this type, which takes no memory.
+    ///
+    /// # Errors
+    ///
+    /// The type was accepted for another kind of recovery. It is handed back.
+    pub fn new(
+        alloc: Global,
+        checked: Arc<CheckedType>,
+    ) -> Result<EscrowManager, (Arc<CheckedType>, WrongKind)>
+        ensures kind { IsOk result ↔ (checked.value.kind ≡ Escrow) }
+        ensures fresh { IfOk result (λ m. IsFresh m × (m.checked ≡ checked.value)) }
+        ensures back { IfErr result (λ e. e.0 ≡ checked) }
+    {
+        match checked.kind() {
+            Kind::Escrow => Ok(EscrowManager::fresh(alloc, checked)),
+            Kind::Undo | Kind::Intentions => Err((checked, WrongKind)),
+        }
+    }
+
+    /// The object of a type that was checked for escrow, at the initial number.
+    fn fresh(alloc: Global, checked: Arc<CheckedType>) -> EscrowManager
+        requires { checked.value.kind ≡ Escrow }
+        ensures fresh { IsFresh result }
+        ensures checked { result.checked ≡ checked.value }
+    {
+        checked_is_covered();
+        fresh_is_sound();
+        let base = initial(&checked);
+        let totals = Totals::none(greatest(&checked));
+        // (read for its clause that the type is numeric)
+        let _bounds = bounds(&checked);
+        EscrowManager {
+            checked,
+            base,
+            log: Vec::new(alloc),
+            marks: Vec::new(alloc),
+            totals,
+        }
+    }
+
+    /// The mark of what t did.
+    fn mark_of(&self, t: u32) -> Mark
+        ensures { result ≡ mark_of (greatest self.now.checked) (bounds_in self.now.checked) (own_of self.now.log t) }
+    {
+        mark_in(&self.marks, t, greatest(&self.checked))
+    }
+
+    /// The number that t sees.
+    fn seen(&self, t: u32) -> u32
+        ensures { view_of self.now t ≡ Some result }
+    {
+        marks_are_exact();
+        marks_fit();
+        firm_is_legal();
+        let mark = self.mark_of(t);
+        self.base + mark.above - mark.fall
+    }
+}
+
+/// Whether an operation is legal at a number.
+fn is_legal_at(op: Bounded, number: u32) -> bool
+    ensures { (result ≡ true) ↔ ((op.low ≤ number) × (number ≤ op.high)) }
+{
+    op.low <= number && number <= op.high
+}
+
+impl Recovery for EscrowManager {
+    ghost meaning = { λ m. m };
+
+    fn ops(&self) -> &[Op] {
+        // (read for its clause on what was tested)
+        let _file = self.checked.file();
+        self.checked.table().ops()
+    }
+
+    fn state(&self) -> u32 {
+        self.base
+    }
+
+    fn legal(&self, t: u32, k: u8) -> bool {
+        let op = bounds(&self.checked)[usize::from(k)];
+        let number = self.seen(t);
+        is_legal_at(op, number)
+    }
+
+    fn blocker(&self, t: u32, k: u8) -> Option<u32> {
+        marks_are_exact();
+        marks_fit();
+        marks_tell();
+        extremes_tell_firm();
+        firm_is_legal();
+        firm_keeps_nobody();
+        let old = self.mark_of(t);
+        let mark = old.marked(bounds(&self.checked)[usize::from(k)]);
+        let totals = self.totals.with(old, mark);
+        if totals.are_firm(self.base) {
+            return None;
+        }
+        let top = greatest(&self.checked);
+        first_keeper(
+            &self.log,
+            &self.marks,
+            OpenMark { by: t, mark },
+            self.base,
+            totals,
+            top,
+        )
+    }
+
+    fn apply(&mut self, t: u32, k: u8) -> Result<(), AllocError> {
+        sound_after_apply();
+        marks_are_exact();
+        marks_fit();
+        extremes_tell_firm();
+        firm_is_legal();
+        self.log.reserve(1)?;
+        self.marks.reserve(1)?;
+        let top = greatest(&self.checked);
+        let at = place_of(&self.marks, t);
+        let old = mark_at(&self.marks, at, t, top);
+        let mark = old.marked(bounds(&self.checked)[usize::from(k)]);
+        put_mark(&mut self.marks, at, OpenMark { by: t, mark });
+        self.log.push_reserved(LogEntry {
+            by: t,
+            op: k,
+            done: false,
+        });
+        self.totals = self.totals.after(old, mark, &self.marks, top);
+        Ok(())
+    }
+
+    fn commit(&mut self, t: u32) {
+        marks_are_exact();
+        marks_fit();
+        extremes_tell_firm();
+        firm_is_legal();
+        sound_after_commit();
+        self.base = self.seen(t);
+        take_out(&mut self.log, t);
+        drop_mark(&mut self.marks, t);
+        self.totals = Totals::of(&self.marks, greatest(&self.checked));
+    }
+
+    fn abort(&mut self, t: u32) {
+        extremes_tell_firm();
+        keeps_none::<LogEntry>();
+        keeps_first::<LogEntry>();
+        keeps_others::<LogEntry>();
+        sound_after_strike();
+        take_out(&mut self.log, t);
+        drop_mark(&mut self.marks, t);
+        self.totals = Totals::of(&self.marks, greatest(&self.checked));
+    }
+
+    fn strike(&mut self, t: u32, m: u32) {
+        extremes_tell_firm();
+        firm_is_legal();
+        keeps_first::<LogEntry>();
+        keeps_others::<LogEntry>();
+        sound_after_strike();
+        let left = count_of(&self.log, t) - m as usize;
+        if left == 0 {
+            return self.abort(t);
+        }
+        keep_first(&mut self.log, t, left);
+        let mark = mark_of(&self.log, t, &self.checked, self.base);
+        let at = place_of(&self.marks, t);
+        put_mark(&mut self.marks, at, OpenMark { by: t, mark });
+        self.totals = Totals::of(&self.marks, greatest(&self.checked));
+    }
+
+    fn open_count(&self) -> u32 {
+        opens_are_counted();
+        self.marks.len() as u32
+    }
+
+    fn is_fresh(&self) -> bool {
+        self.log.is_empty() && self.base == initial(&self.checked)
+    }
+}
+
+impl Renew for EscrowManager {
+    fn checked(&self) -> &CheckedType {
+        &self.checked
+    }
+
+    fn renewed(&self, alloc: Global, checked: Arc<CheckedType>) -> EscrowManager {
+        // (read for what is known of this object, that its type is for escrow)
+        let _base = self.base;
+        EscrowManager::fresh(alloc, checked)
+    }
+}

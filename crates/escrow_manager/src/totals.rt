@@ -1,0 +1,109 @@
+//! What is kept of the marks of all open transactions together.
+
+ghost use Rattle.std.specs.Prelude.{◌≡◌, ◌↔◌, ◌≤◌, ◌<◌, ◌+◌, ◌^◌, true, []};
+ghost use Rattle.escrow_laws.specs.Marks.{fallen_of, risen_of};
+ghost use Rattle.escrow_manager.specs.Totals.{need_of, limit_of, totals_of, totals_with, AreFirm};
+
+use escrow_laws::{Mark, OpenMark};
+
+/// Two sums and two extremes of marks.
+#[derive(Clone, Copy, Debug, PartialEq, Eq)]
+pub struct Totals {
+    /// How far all fall.
+    pub fallen: u64,
+    /// How far all rise.
+    pub risen: u64,
+    /// The most that one needs beside what it falls itself: so much is there where all have fallen.
+    pub needed: u64,
+    /// The least limit of one and of what it rises itself: where all have risen, the number is below.
+    pub limit: u64,
+}
+
+/// How much a mark needs beside what it falls itself.
+fn need_of(mark: Mark) -> u64
+    ensures { result ≡ need_of mark }
+{
+    u64::from(mark.floor.saturating_sub(mark.fall))
+}
+
+/// Its limit and what it rises itself.
+fn limit_of(mark: Mark) -> u64
+    ensures { result ≡ limit_of mark }
+{
+    u64::from(mark.ceiling) + u64::from(mark.rise)
+}
+
+impl Totals {
+    /// Those of no marks, on numbers from 0 to `top`.
+    pub fn none(top: u32) -> Totals
+        ensures { result ≡ totals_of top [] }
+    {
+        Totals {
+            fallen: 0,
+            risen: 0,
+            needed: 0,
+            limit: u64::from(top) + 1,
+        }
+    }
+
+    /// Those of these marks, on numbers from 0 to `top`.
+    pub fn of(marks: &Vec<OpenMark>, top: u32) -> Totals
+        requires fallen { fallen_of marks.now.items < 2 ^ 32 }
+        requires risen { risen_of marks.now.items < 2 ^ 32 }
+        ensures { result ≡ totals_of top marks.now.items }
+    {
+        let mut totals = Totals::none(top);
+        for open in marks {
+            totals = totals.with(Mark::unmarked(0), open.mark);
+        }
+        totals
+    }
+
+    /// With a new mark in the place of an old one. The old one's need and limit still count.
+    pub fn with(self, old: Mark, new: Mark) -> Totals
+        requires fallen { self.fallen < 2 ^ 32 }
+        requires risen { self.risen < 2 ^ 32 }
+        ensures { result ≡ totals_with self old new }
+    {
+        Totals {
+            fallen: self.fallen.saturating_sub(u64::from(old.fall)) + u64::from(new.fall),
+            risen: self.risen.saturating_sub(u64::from(old.rise)) + u64::from(new.rise),
+            needed: self.needed.max(need_of(new)),
+            limit: self.limit.min(limit_of(new)),
+        }
+    }
+
+    /// Whether a new mark needs as much as the old one did, and stays as far below its limit: then the
+    /// extremes of all are told by it and by those before.
+    pub fn stand(old: Mark, new: Mark) -> bool
+        ensures { (result ≡ true) ↔ ((need_of old ≤ need_of new) × (limit_of new ≤ limit_of old)) }
+    {
+        need_of(old) <= need_of(new) && limit_of(new) <= limit_of(old)
+    }
+
+    /// Those of these marks, of which the new one took the place of the old one: made anew only where
+    /// the extremes may have been the old one's.
+    pub fn after(self, old: Mark, new: Mark, marks: &Vec<OpenMark>, top: u32) -> Totals
+        requires before { (self.fallen < 2 ^ 32) × (self.risen < 2 ^ 32) }
+        requires fallen { fallen_of marks.now.items < 2 ^ 32 }
+        requires risen { risen_of marks.now.items < 2 ^ 32 }
+        requires told { need_of old ≤ need_of new → limit_of new ≤ limit_of old → totals_with self old new ≡ totals_of top marks.now.items }
+        ensures { result ≡ totals_of top marks.now.items }
+    {
+        if Totals::stand(old, new) {
+            self.with(old, new)
+        } else {
+            Totals::of(marks, top)
+        }
+    }
+
+    /// Whether by these all is firm, so that nobody keeps anybody from what he did last.
+    pub fn are_firm(self, base: u32) -> bool
+        requires fallen { self.fallen < 2 ^ 33 }
+        requires risen { self.risen < 2 ^ 33 }
+        requires needed { self.needed < 2 ^ 32 }
+        ensures { (result ≡ true) ↔ AreFirm base self }
+    {
+        self.fallen + self.needed <= u64::from(base) && u64::from(base) + self.risen < self.limit
+    }
+}

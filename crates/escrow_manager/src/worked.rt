@@ -1,0 +1,55 @@
+//! Worked examples of the definitions: each function does nothing, and its contract is the example.
+#![tactic(auto)]
+
+ghost use Rattle.std.specs.Prelude.{◌≡◌, [], ◌∷◌};
+ghost use Rattle.escrow_laws.specs.Marks.{unmarked, mark_of};
+ghost use Rattle.escrow_laws.specs.Examples.{five_ops};
+ghost use Rattle.escrow_manager.specs.Marks.{AreOrdered, place_of, mark_in, with_mark, without_mark};
+ghost use Rattle.escrow_manager.specs.Totals.{need_of, limit_of, totals_of, totals_with, AreFirm};
+ghost use Rattle.escrow_manager.specs.Examples.{mark_by, taker, giver, both_marks};
+
+/// A transaction has its mark, or that of no operations.
+pub fn each_has_its_mark()
+    ensures place { place_of 3 both_marks ≡ 1 }
+    ensures between { place_of 2 both_marks ≡ 1 }
+    ensures behind { place_of 4 both_marks ≡ 2 }
+    ensures own { mark_in 5 3 both_marks ≡ mark_of 5 five_ops (0 ∷ 1 ∷ []) }
+    ensures other { mark_in 5 2 both_marks ≡ unmarked 5 }
+    ensures ordered { AreOrdered both_marks }
+{}
+
+/// A mark takes the place of the one before it, and a first one goes before those of later
+/// transactions.
+pub fn a_transaction_has_one_mark()
+    ensures again { with_mark (mark_by 1 (1 ∷ 0 ∷ [])) both_marks ≡ mark_by 1 (1 ∷ 0 ∷ []) ∷ giver ∷ [] }
+    ensures first { with_mark (mark_by 2 (0 ∷ [])) both_marks ≡ taker ∷ mark_by 2 (0 ∷ []) ∷ giver ∷ [] }
+    ensures last { with_mark (mark_by 4 (0 ∷ [])) both_marks ≡ taker ∷ giver ∷ mark_by 4 (0 ∷ []) ∷ [] }
+    ensures gone { without_mark 1 both_marks ≡ giver ∷ [] }
+{}
+
+/// They fall by 2 and by 1, and one of them rises by 1. Neither needs anything beside what it falls, and
+/// the one that rises stays below 6 with that.
+pub fn totals_of_two()
+    ensures none { totals_of 5 [] ≡ (record { fallen = 0; risen = 0; needed = 0; limit = 6 }) }
+    ensures of_taker { totals_of 5 (taker ∷ []) ≡ (record { fallen = 2; risen = 0; needed = 0; limit = 6 }) }
+    ensures of_both { totals_of 5 both_marks ≡ (record { fallen = 3; risen = 1; needed = 0; limit = 6 }) }
+    ensures one_more { totals_with (totals_of 5 (taker ∷ [])) (unmarked 5) giver.mark ≡ totals_of 5 both_marks }
+{}
+
+/// All is firm at 3 and at 4, where both may commit and nothing is above 5. At 2 they would take more
+/// than there is, and at 5 one would give more than there is room for.
+pub fn two_are_firm()
+    ensures at_three { AreFirm 3 (totals_of 5 both_marks) }
+    ensures at_four { AreFirm 4 (totals_of 5 both_marks) }
+    ensures at_two { AreFirm 2 (totals_of 5 both_marks) → ⊥ }
+    ensures at_five { AreFirm 5 (totals_of 5 both_marks) → ⊥ }
+{}
+
+/// Who found that there aren't 2 needs nothing, and stays below 2: after a give of another that would
+/// no longer be so.
+pub fn a_reply_has_a_limit()
+    ensures need { need_of (mark_of 5 five_ops (2 ∷ [])) ≡ 0 }
+    ensures limit { limit_of (mark_of 5 five_ops (2 ∷ [])) ≡ 2 }
+    ensures alone { AreFirm 1 (totals_of 5 (mark_by 1 (2 ∷ []) ∷ [])) }
+    ensures beside { AreFirm 1 (totals_of 5 (mark_by 1 (2 ∷ []) ∷ mark_by 2 (0 ∷ []) ∷ [])) → ⊥ }
+{}

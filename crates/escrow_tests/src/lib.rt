@@ -1,0 +1,5 @@
+//! Tests of objects in escrow.
+#![tactic(auto)]
+
+#[cfg(test)]
+mod tests;

@@ -1,0 +1,5 @@
+//! The tests of numeric types and of objects in escrow.
+
+mod numbers;
+mod steps;
+mod types;

@@ -1,0 +1,52 @@
+-- Words with the bits of entries' operations.
+use Rattle.std.proofs.Common.{◌≡◌, ℕ, ◌<◌, ◌≤◌, Bool, false, not, ◌&&◌, ◌==◌, eqb, List, [], ◌∷◌, ◌++◌, length, get_or, None, bit_and, All, refl, sym, ap, ◌∙◌, arith, ◌+◌, take, Some, slice_get, subst}
+use Rattle.std.specs.Int.{bit_at}
+use Rattle.std.specs.List.{find}
+use Rattle.std.proofs.lemmas.Bool.{and_right}
+use Rattle.std.proofs.lemmas.List.{take_all}
+use Rattle.std.proofs.lemmas.Option.{slice_get-get_or}
+use Rattle.type_table.proofs.Elements.{take-found}
+use Rattle.std.proofs.lemmas.List.Elements.{All-push, All-weaker, All-head, All-tail}
+use Rattle.std.proofs.lemmas.Nat.Bits.{bit_at_and, bit_at-zero}
+use Rattle.type_table.specs.ConflictTable.{conflicts}
+use Rattle.object_trait.specs.declared.log_entry.LogEntry.{LogEntry}
+use Rattle.intentions_manager.specs.Kept.{HasBits}
+
+-- one more entry, whose bit is set
+pub bits-push : (word more : ℕ) (log : List LogEntry) (e : LogEntry) → (e.op < 64 → bit_at more e.op ≡ 1) → ((q : ℕ) → bit_at word q ≡ 1 → bit_at more q ≡ 1) → HasBits word log → HasBits more (log ++ e ∷ [])
+bits-push word more log e added kept bits =
+    let P : LogEntry → Type 0 = λ x. x.op < 64 → bit_at more x.op ≡ 1 in
+    All-push P log e (All-weaker (λ (x : LogEntry). x.op < 64 → bit_at word x.op ≡ 1) P (λ x set low. kept x.op (set low)) log bits) added
+
+-- one more entry that is passed
+pub bits-more : (word more : ℕ) (log seen : List LogEntry) → seen ≡ log → (i : ℕ) (d : LogEntry) → i < length seen → ((get_or seen i d).op < 64 → bit_at more (get_or seen i d).op ≡ 1) → ((q : ℕ) → bit_at word q ≡ 1 → bit_at more q ≡ 1)
+    → HasBits word (take i log) → HasBits more (take (i + 1) log)
+bits-more word more log seen same i d low added kept bits =
+    let e : LogEntry = get_or seen i d in
+    let found : slice_get log i ≡ Some e = subst (λ (xs : List LogEntry). slice_get xs i ≡ Some e) same (slice_get-get_or seen i d low) in
+    subst (HasBits more) (sym (take-found log i e found)) (bits-push word more (take i log) e added kept bits)
+
+-- all
+pub bits-all : (word : ℕ) (log seen : List LogEntry) → seen ≡ log → (i : ℕ) → length seen ≤ i → HasBits word (take i log) → HasBits word log
+bits-all word log seen same i past bits =
+    let end : length log ≤ i = subst (λ (xs : List LogEntry). length xs ≤ i) same past in
+    subst (HasBits word) (take_all i log end) bits
+
+-- what is in one of two words that have no bit in common isn't in the other
+unmarked : (row word k : ℕ) → bit_and row word ≡ 0 → bit_at word k ≡ 1 → bit_at row k ≡ 0
+unmarked row word k apart marked =
+    let e = sym (bit_at_and row word k) ∙ ap (λ n. bit_at n k) apart ∙ bit_at-zero k in omega (arith, e, marked)
+
+find_none : {X : Type 0} (p : X → Bool) (xs : List X) → All (λ x. p x ≡ false) xs → find p xs ≡ None
+find_none p [] none = refl
+find_none p (x ∷ xs) none = rw (All-head (λ y. p y ≡ false) x xs none) (find_none p xs (All-tail (λ y. p y ≡ false) x xs none))
+
+-- where the row of k and the word have no bit in common, no entry keeps another from k
+pub no-conflict : (rows : List (List Bool)) (t k row word : ℕ) (log : List LogEntry) → ((q : ℕ) → q < length rows → eqb (bit_at row q) 1 ≡ conflicts rows k q) → length rows ≤ 64
+    → bit_and row word ≡ 0 → All (λ (e : LogEntry). e.op < length rows) log → HasBits word log → find (λ (e : LogEntry). not (e.by == t) && conflicts rows k e.op) log ≡ None
+no-conflict rows t k row word log shows few apart within bits =
+    find_none (λ (e : LogEntry). not (e.by == t) && conflicts rows k e.op) log
+    (λ i d i_in. let e : LogEntry = get_or log i d in
+    let low = within i d i_in in
+    let clear = unmarked row word e.op apart (bits i d i_in (omega (arith, low, few))) in
+    and_right (not (e.by == t)) (conflicts rows k e.op) (sym (shows e.op low) ∙ ap (λ b. eqb b 1) clear))

@@ -1,0 +1,19 @@
+use Rattle.std.proofs.Common.{◌≡◌, ◌<◌, w64, ◌∙◌, inl, inr, arith}
+use Rattle.std.specs.Int.{bit_at}
+use Rattle.std.proofs.lemmas.Bool.{cases_eq}
+use Rattle.std.proofs.lemmas.Nat.Bits.{bit_at_set_same, bit_at_set_other}
+use Rattle.object_trait.proofs.bits.with_bit.Goals as goal
+
+pub returns-then-op-ge64-clause-added : goal.returns-then-op-ge64-clause-added
+returns-then-op-ge64-clause-added c = λ low. absurd (omega (arith, low))
+
+pub returns-clause-added : goal.returns-clause-added
+returns-clause-added c = λ low. bit_at_set_same w64 c.args.word c.args.op low
+
+pub returns-clause-kept : goal.returns-clause-kept
+returns-clause-kept c = λ q set.
+    let low : c.args.op < 64 = omega arith in
+    elim (cases_eq q c.args.op) [
+      | inl same ↦ rw same (bit_at_set_same w64 c.args.word c.args.op low)
+      | inr other ↦ bit_at_set_other w64 c.args.word c.args.op low q other ∙ set
+    ]

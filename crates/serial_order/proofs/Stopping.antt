@@ -1,0 +1,100 @@
+-- Who keeps a transaction from an operation is told by the log of an object that stands for a history.
+use Rattle.std.proofs.Common.{◌≡◌, ℕ, ◌<◌, Bool, true, false, not, cond, ◌&&◌, ◌==◌, List, [], ◌∷◌, ◌++◌, map, filter, Option, Some, None, refl, sym, ap, ◌∙◌, inl, inr}
+use Rattle.std.specs.List.{find, AllByRecursion}
+use Rattle.std.specs.Option.{option_map}
+use Rattle.std.proofs.lemmas.Bool.{cases_Bool, both_ways}
+use Rattle.std.proofs.lemmas.List.Elements.{filter-append}
+use Rattle.type_table.proofs.Elements.{each-weaker, each-filter, filter-none}
+use Rattle.type_table.specs.declared.kind.Kind.{Kind}
+use Rattle.type_table.specs.declared.kind.Kind.TheVariants.{Undo, Intentions, Escrow}
+use Rattle.object_trait.specs.Object.{Object}
+use Rattle.object_trait.specs.Meaning.{object}
+use Rattle.object_trait.specs.Steps.{stops_by}
+use Rattle.object_trait.specs.declared.log_entry.LogEntry.{LogEntry}
+use Rattle.serial_order.specs.Operations.{is_among, at_object, pending}
+use Rattle.serial_order.specs.History.{Seen, seen, is_open}
+use Rattle.serial_order.specs.View.{stops_at, conflicts_with}
+use Rattle.serial_order.specs.Answer.{earliest}
+use Rattle.serial_order.specs.Stand.{plain, StandsBy}
+use Rattle.serial_order.specs.After.{AreInRun}
+use Rattle.serial_order.specs.Laws.{StopperIsBlocker}
+use Rattle.serial_order.specs.declared.entry.Entry.{Entry}
+use Rattle.serial_order.proofs.Runs.{transactions_in_run, pending_is_open, open_is_uncommitted}
+use Rattle.serial_order.proofs.Held.{earliest-filter}
+use Rattle.serial_order.proofs.Allows.{stops_alike}
+
+-- a test that agrees on each finds the same
+earliest-alike : (first second : Entry → Bool) (V : List Entry) → AllByRecursion (λ e. first e ≡ second e) V → earliest first V ≡ earliest second V
+earliest-alike first second [] same = refl
+earliest-alike first second (e ∷ V) same = rw (same.0, earliest-alike first second V same.1) refl
+
+-- in a run a transaction whose operation lives is open where it didn't commit
+open_alike : (s : Seen) (t : ℕ) → t < s.begun → is_among s.aborted t ≡ false → is_open s t ≡ not (is_among s.committed t)
+open_alike s t began kept =
+    elim (cases_Bool (is_among s.committed t)) [
+      | inl past ↦ closed past
+      | inr now ↦ rw (pending_is_open s t began kept now, now) refl
+    ]
+  where
+    closed : is_among s.committed t ≡ true → is_open s t ≡ not (is_among s.committed t)
+    closed past = elim (cases_Bool (is_open s t)) [
+      | inl is ↦ absurd (both_ways (is_among s.committed t) (open_is_uncommitted s t is) past)
+      | inr isnt ↦ rw (isnt, past) refl
+    ]
+
+-- what blocks is among the pending operations
+blocker-pending : (o : Object) (s : Seen) (x t k : ℕ) → AreInRun s →
+    earliest (conflicts_with o s x t k) (at_object x s.stands) ≡ earliest (λ e. not (e.by == t) && stops_at o.kind o s.committed (at_object x s.stands) t k e) (pending s.committed (at_object x s.stands))
+blocker-pending o s x t k known =
+    let rest : Entry → Bool = λ e. not (e.by == t) && stops_at o.kind o s.committed (at_object x s.stands) t k e in
+    let here = each-filter (λ e. (e.by < s.begun) × (is_among s.aborted e.by ≡ false)) (λ e. e.at == x) s.stands known.stand in
+    earliest-alike (conflicts_with o s x t k) (λ e. not (is_among s.committed e.by) && rest e) (at_object x s.stands)
+    (each-weaker (λ e known_e. ap (λ b. b && rest e) (open_alike s e.by known_e.0 known_e.1)) (at_object x s.stands) here)
+    ∙ earliest-filter (λ e. not (is_among s.committed e.by)) rest (at_object x s.stands)
+
+-- ---- in the log
+
+-- the pending operations are the open entries
+undo-pending : (C : List ℕ) (x : ℕ) (log : List LogEntry) → AllByRecursion (λ e. e.done ≡ is_among C e.by) log → pending C (map (plain x) log) ≡ map (plain x) (filter (λ e. not e.done) log)
+undo-pending C x [] flags = refl
+undo-pending C x (e ∷ log) flags =
+    elim (cases_Bool e.done) [
+      | inl done ↦ let past : is_among C e.by ≡ true = sym flags.0 ∙ done in rw (done, past) (undo-pending C x log flags.1)
+      | inr undone ↦ let now : is_among C e.by ≡ false = sym flags.0 ∙ undone in rw (undone, now) (ap (λ rest. plain x e ∷ rest) (undo-pending C x log flags.1))
+    ]
+
+-- all are open
+all-open : (log : List LogEntry) → AllByRecursion (λ e. e.done ≡ false) log → filter (λ e. not e.done) log ≡ log
+all-open [] flags = refl
+all-open (e ∷ log) flags =
+    ap (λ done. cond (not done) (e ∷ filter (λ e. not e.done) log) (filter (λ e. not e.done) log)) flags.0 ∙ ap (λ rest. e ∷ rest) (all-open log flags.1)
+
+pending-log : (recovery : Kind) (o : Object) (base : ℕ) (log : List LogEntry) (x : ℕ) (C : List ℕ) (V : List Entry) → StandsBy recovery o base log x C V → pending C V ≡ map (plain x) (filter (λ e. not e.done) log)
+pending-log Undo o base log x C V stands =
+    ap (pending C) (sym stands.whole)
+    ∙ filter-append (λ (e : Entry). not (is_among C e.by)) stands.past (map (plain x) log)
+    ∙ ap (λ W. W ++ pending C (map (plain x) log)) (filter-none (λ (e : Entry). not (is_among C e.by)) stands.past (each-weaker (λ e is. ap not is) stands.past stands.ended))
+    ∙ undo-pending C x log stands.flags
+pending-log Intentions o base log x C V stands = sym stands.whole ∙ ap (map (plain x)) (sym (all-open log stands.flags))
+pending-log Escrow o base log x C V stands = sym stands.whole ∙ ap (map (plain x)) (sym (all-open log stands.flags))
+
+-- the earliest of the entries as they live is the first of the entries
+found-alike : (test : Entry → Bool) (own : LogEntry → Bool) (x : ℕ) (log : List LogEntry) → ((e : LogEntry) → test (plain x e) ≡ own e) →
+    option_map (λ e. e.by) (earliest test (map (plain x) log)) ≡ option_map (λ e. e.by) (find own log)
+found-alike test own x [] same = refl
+found-alike test own x (e ∷ log) same =
+    elim (cases_Bool (own e)) [
+      | inl passes ↦ let there : test (plain x e) ≡ true = same e ∙ passes in rw (there, passes) refl
+      | inr fails ↦ let there : test (plain x e) ≡ false = same e ∙ fails in rw (there, fails) (found-alike test own x log same)
+    ]
+
+stops-in_log : (recovery : Kind) (o : Object) → o.kind ≡ recovery → (base : ℕ) (log : List LogEntry) (x : ℕ) (s : Seen) (t k : ℕ) → AreInRun s → StandsBy recovery o base log x s.committed (at_object x s.stands) →
+    option_map (λ e. e.by) (earliest (conflicts_with o s x t k) (at_object x s.stands)) ≡ option_map (λ e. e.by) (find (λ e. not (e.by == t) && stops_by recovery o base log t k e) (filter (λ e. not e.done) log))
+stops-in_log recovery o kind base log x s t k known stands =
+    let V : List Entry = at_object x s.stands in
+    ap (option_map (λ (e : Entry). e.by)) (blocker-pending o s x t k known ∙ ap (earliest (λ e. not (e.by == t) && stops_at o.kind o s.committed V t k e)) (pending-log recovery o base log x s.committed V stands))
+    ∙ found-alike (λ e. not (e.by == t) && stops_at o.kind o s.committed V t k e) (λ e. not (e.by == t) && stops_by recovery o base log t k e) x (filter (λ e. not e.done) log)
+    (λ e. ap (λ b. not (e.by == t) && b) (ap (λ way. stops_at way o s.committed V t k (plain x e)) kind ∙ stops_alike recovery o base log x s.committed V t k e stands))
+
+pub stopper_blocks : StopperIsBlocker
+stopper_blocks = λ objects H x t k m run stands. stops-in_log m.checked.kind (object m) refl m.base m.log x (seen H) t k (transactions_in_run objects H run) stands

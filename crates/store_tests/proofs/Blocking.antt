@@ -1,0 +1,60 @@
+-- Who keeps a transaction from an operation, for objects of tests.
+use Rattle.std.proofs.Common.{◌≡◌, ℕ, Bool, true, false, not, ◌&&◌, ◌==◌, List, [], ◌∷◌, filter, is_some, refl, sym, ap, ◌∙◌, inl, inr}
+use Rattle.std.specs.List.{find, AllByRecursion}
+use Rattle.std.specs.Option.{option_map}
+use Rattle.std.proofs.lemmas.Bool.{true≢false, cases_Bool}
+use Rattle.type_table.proofs.Elements.{each-weaker}
+use Rattle.type_table.specs.declared.kind.Kind.TheVariants.{Undo}
+use Rattle.object_trait.specs.Meaning.{Meaning, object}
+use Rattle.object_trait.specs.Steps.{IsOfAnotherOpen, stops_by, stopper}
+use Rattle.object_trait.specs.declared.log_entry.LogEntry.{LogEntry}
+
+-- ---- with update in place
+
+-- the first open entry that passes
+pub found-open : (test : LogEntry → Bool) (log : List LogEntry) →
+    option_map (λ (e : LogEntry). e.by) (find (λ e. not e.done && test e) log) ≡ option_map (λ (e : LogEntry). e.by) (find test (filter (λ e. not e.done) log))
+found-open test [] = refl
+found-open test (e ∷ log) =
+    elim (cases_Bool e.done) [
+      | inl done ↦ simp done (found-open test log)
+      | inr undone ↦ elim (cases_Bool (test e)) [
+        | inl passes ↦ simp (undone, passes)
+        | inr fails ↦ simp (undone, fails) (found-open test log)
+      ]
+    ]
+
+-- is who keeps t from k
+pub stopper-told : (m : Meaning) (t k : ℕ) → m.checked.kind ≡ Undo →
+    option_map (λ (e : LogEntry). e.by) (find (λ e. not e.done && (not (e.by == t) && (object m).conflicts k e.op)) m.log) ≡ stopper m t k
+stopper-told m t k in_place =
+    found-open (λ e. not (e.by == t) && (object m).conflicts k e.op) m.log
+    ∙ sym (ap (λ way. option_map (λ (e : LogEntry). e.by) (find (λ e. not (e.by == t) && stops_by way (object m) m.base m.log t k e) (filter (λ e. not e.done) m.log))) in_place)
+
+-- ---- of any kind of recovery
+
+-- where no open entry is found, none passes
+none-passes : (test : LogEntry → Bool) (log : List LogEntry) →
+    is_some (option_map (λ (e : LogEntry). e.by) (find test (filter (λ e. not e.done) log))) ≡ false → AllByRecursion (λ e. e.done ≡ false → test e ≡ false) log
+none-passes test [] nobody = tt
+none-passes test (e ∷ log) nobody =
+    let found : List LogEntry → Bool = λ entries. is_some (option_map (λ (e : LogEntry). e.by) (find test (filter (λ e. not e.done) entries))) in
+    elim (cases_Bool e.done) [
+      | inl done ↦
+          let behind : found (e ∷ log) ≡ found log = simp done in
+          (λ undone. absurd (true≢false (sym done ∙ undone)), none-passes test log (sym behind ∙ nobody))
+      | inr undone ↦ elim (cases_Bool (test e)) [
+        | inl passes ↦
+            let here : found (e ∷ log) ≡ true = simp (undone, passes) in
+            absurd (true≢false (sym here ∙ nobody))
+        | inr fails ↦
+            let behind : found (e ∷ log) ≡ found log = simp (undone, fails) in
+            (λ open_one. fails, none-passes test log (sym behind ∙ nobody))
+      ]
+    ]
+
+-- where nobody keeps t from an operation, no entry of another open transaction does
+pub unstopped : (stops : LogEntry → Bool) (t : ℕ) (log : List LogEntry) →
+    is_some (option_map (λ (e : LogEntry). e.by) (find (λ e. not (e.by == t) && stops e) (filter (λ e. not e.done) log))) ≡ false → AllByRecursion (λ e. IsOfAnotherOpen t e → stops e ≡ false) log
+unstopped stops t log nobody =
+    each-weaker (λ e quiet other. ap (λ (b : Bool). not b && stops e) (sym other.1) ∙ quiet other.0) log (none-passes (λ e. not (e.by == t) && stops e) log nobody)
