@@ -1,8 +1,9 @@
 /* colock.h: a transactional store of shared, typed objects, in memory.
  *
  * Only operations that don't commute keep each other waiting: two transactions may count one counter up side
- * by side. A type is read from a text or made of a family, and checked for a kind of recovery. A store is
- * made of objects of such types. Transactions call operations of the objects, and commit or abort.
+ * by side. In escrow one may count it up and another down, as long as it stays inside its bounds whatever
+ * becomes of them. A type is read from a text or made of a family, and checked for a kind of recovery. A store
+ * is made of objects of such types. Transactions call operations of the objects, and commit or abort.
  *
  *     colock_handle type = COLOCK_HANDLE, store = COLOCK_HANDLE;
  *     colock_type_counter(&type, COLOCK_UNDO, 5, amounts, 1, &fault);
@@ -84,13 +85,14 @@ typedef enum colock_code {
 
 /* How an object recovers from aborts. */
 typedef enum colock_kind {
-    COLOCK_UNDO = 0,      /* it is updated in place, and operations are taken back */
-    COLOCK_INTENTIONS = 1 /* each transaction keeps its operations by itself until it commits */
+    COLOCK_UNDO = 0,       /* it is updated in place, and operations are taken back */
+    COLOCK_INTENTIONS = 1, /* each transaction keeps its operations by itself until it commits */
+    COLOCK_ESCROW = 2      /* the same of a number: what has to wait is told by how far others may move it */
 } colock_kind;
 
 typedef enum colock_answer_kind {
     COLOCK_REPLY = 0, /* an operation was executed */
-    COLOCK_BUSY = 1,  /* it conflicts with an operation of another transaction, the blocker */
+    COLOCK_BUSY = 1,  /* what another transaction, the blocker, did is in its way */
     COLOCK_NONE = 2   /* no operation with this call is legal now */
 } colock_answer_kind;
 
@@ -123,11 +125,14 @@ typedef enum colock_fault_kind {
     COLOCK_TWICE_OP = 10      /* an operation that came before */
 } colock_fault_kind;
 
+/* For COLOCK_ESCROW there is the last one alone: in that state the operation isn't legal, though it is in a lower
+ * and in a higher one; or it is legal there, and moves it otherwise than the least state in which it is. */
 typedef enum colock_refusal {
     COLOCK_INITIAL_OUTSIDE = 1, /* the initial state isn't in the set of states */
     COLOCK_NOT_CLOSED = 2,      /* from state `first` operation `second` leads out of the set */
     COLOCK_NOT_SIMULATION = 3,  /* `first` looks like `second` by the text, and operation `third` tells them apart */
-    COLOCK_NOT_COMMUTING = 4    /* requested `first` and held `second` have no conflict and fail in state `third` */
+    COLOCK_NOT_COMMUTING = 4,   /* requested `first` and held `second` have no conflict and fail in state `third` */
+    COLOCK_NOT_NUMERIC = 5      /* state `second` shows that operation `first` isn't one of numbers */
 } colock_refusal;
 
 /* A type: its states are 0 to states - 1, its operations 0 to ops - 1, and `kind` a colock_kind. */
@@ -161,9 +166,13 @@ typedef struct colock_event {
 /* ---- Types
  *
  * Each puts a type behind a handle that holds nothing. Each may return COLOCK_IN_USE, COLOCK_BAD_KIND,
- * COLOCK_REFUSED or COLOCK_NO_MEMORY too. `fault` is written at COLOCK_BAD_TEXT and COLOCK_REFUSED alone. */
+ * COLOCK_REFUSED or COLOCK_NO_MEMORY too. `fault` is written at COLOCK_BAD_TEXT and COLOCK_REFUSED alone.
+ *
+ * For COLOCK_ESCROW a type has to be numeric: its states are numbers, and each operation is legal from a lowest
+ * to a highest one and moves all of these as far. A counter and an account are, a set isn't, and a semiqueue is
+ * where it has one element, or a capacity of 1. */
 
-/* The type of a text, with its own tables. COLOCK_BAD_TEXT. */
+/* The type of a text, with its own tables, which for COLOCK_ESCROW aren't looked at. COLOCK_BAD_TEXT. */
 uint32_t colock_type_read(colock_handle *type, uint32_t kind, const char *text, size_t text_count,
                           colock_fault *fault);
 /* The type of a text with made tables in place of its own: which operations conflict is found out.
@@ -197,7 +206,8 @@ uint32_t colock_type_call(colock_handle *type, uint64_t k, char *room, size_t ro
 uint32_t colock_type_reply(colock_handle *type, uint64_t k, char *room, size_t room_count, uint64_t *count);
 /* The state to which operation k leads from state s. COLOCK_NO_STATE, COLOCK_NO_OPERATION, COLOCK_NOT_LEGAL. */
 uint32_t colock_type_step(colock_handle *type, uint64_t s, uint64_t k, uint64_t *to);
-/* Whether operation `requested` conflicts with `other`, which another transaction holds: 1 or 0.
+/* Whether operation `requested` conflicts with `other`, which another transaction holds: 1 or 0. Of
+ * COLOCK_ESCROW it is 0: there is no conflict table, and what has to wait is told by the numbers.
  * COLOCK_NO_OPERATION. */
 uint32_t colock_type_conflict(colock_handle *type, uint64_t requested, uint64_t other, uint32_t *told);
 
@@ -245,7 +255,8 @@ uint32_t colock_abort(colock_handle *store, uint8_t worker, uint64_t transaction
 /* Takes back the last operations of a transaction, which stays open. COLOCK_NOT_OPEN, COLOCK_BAD_ROLLBACK,
  * COLOCK_HISTORY_FULL, COLOCK_NO_MEMORY. */
 uint32_t colock_rollback(colock_handle *store, uint8_t worker, uint64_t transaction, uint64_t operations);
-/* The state that is kept of an object: of COLOCK_UNDO with what open transactions did. COLOCK_NO_OBJECT. */
+/* The state that is kept of an object: of COLOCK_UNDO with what open transactions did, and of the other kinds
+ * without it. COLOCK_NO_OBJECT. */
 uint32_t colock_kept(colock_handle *store, uint32_t object, uint64_t *state);
 /* How many transactions are open. */
 uint32_t colock_open_count(colock_handle *store, uint64_t *count);

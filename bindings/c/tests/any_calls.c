@@ -35,12 +35,12 @@ static uint32_t meant_for(int h, sort meant, uint32_t code) {
 }
 
 static void make_type(int h) {
-    static const char *const texts[] = {CTR2, "type counter\nstates x\n", "type c\nstates 1\ninitial 0\nop a b\nreach 0\nend\n", ""};
+    static const char *const texts[] = {CTR2, "type counter\nstates x\n", "type c\nstates 1\ninitial 0\nop a b\nreach 0\nend\n", "", FIVE};
     static const char *const elements[] = {"a b", "a a", "A", "", "a b c d e f g h i j k"};
     uint64_t amounts[3] = {number(), number(), number()};
-    const char *text = texts[draw(4)], *words = elements[draw(5)];
+    const char *text = texts[draw(5)], *words = elements[draw(5)];
     colock_fault fault = {UNTOUCHED, UNTOUCHED, UNTOUCHED, UNTOUCHED, UNTOUCHED};
-    uint32_t kind = (uint32_t)(draw(9) ? draw(2) : number()), code = 0;
+    uint32_t kind = (uint32_t)(draw(9) ? draw(3) : number()), code = 0;
     switch (draw(6)) {
     case 0: code = colock_type_read(&handles[h], kind, TEXT(text), &fault); break;
     case 1: code = colock_type_tables(&handles[h], kind, TEXT(text), &fault); break;
@@ -93,8 +93,10 @@ static void make_store(int h) {
 }
 
 static void transact(int h) {
-    static const char *const names[] = {"inc:1", "dec:1", "deposit:1", "withdraw:2", "balance", "insert:a", "enq:a", "deq", "", "x"};
-    const char *name = names[draw(10)];
+    static const char *const names[] = {
+        "inc:1", "dec:1", "give:1", "take:2", "deposit:1", "withdraw:2", "balance", "insert:a", "enq:a", "deq", "", "x",
+    };
+    const char *name = names[draw(sizeof names / sizeof *names)];
     colock_answer answer = {UNTOUCHED, UNTOUCHED};
     uint64_t t = number();
     uint32_t x = (uint32_t)number(), code = 0;

@@ -4,9 +4,10 @@ the library.
 
 What the library exports is read in crates/colock_c/src: each `extern "C"` function and each `repr(C)` struct,
 whose sizes and offsets follow from it. Compared are the names and parameters of each call, the fields of each
-struct with their sizes and offsets as cc, rustc and Python have them, the codes, the kinds of faults, the
-version, and the names that libcolock.so and libcolock.a give. A line for each difference, and status 1 where
-there is one. With --plant faults are planted in what is read, each of which has to be found.
+struct with their sizes and offsets as cc, rustc and Python have them, the codes, the kinds of faults and of
+recovery, the checker's refusals, the version, and the names that libcolock.so and libcolock.a give. A line for
+each difference, and status 1 where there is one. With --plant faults are planted in what is read, each of which
+has to be found.
 """
 import ctypes
 import functools
@@ -24,7 +25,10 @@ BUILD = os.path.join(BINDINGS, "c", "build")
 PATHS = {
     "header": os.path.join(BINDINGS, "c", "colock.h"),
     "rust": os.path.join(BINDINGS, "rust", "colock-sys", "src", "lib.rs"),
+    "rust types": os.path.join(BINDINGS, "rust", "colock", "src", "types.rs"),
+    "rust errors": os.path.join(BINDINGS, "rust", "colock", "src", "error.rs"),
     "python": os.path.join(BINDINGS, "python", "colock", "_library.py"),
+    "types": os.path.join(BINDINGS, "python", "colock", "_types.py"),
     "errors": os.path.join(BINDINGS, "python", "colock", "_errors.py"),
     "make": os.path.join(BINDINGS, "c", "Makefile"),
 }
@@ -107,6 +111,11 @@ def upper(name):
     return "OK" if name == "Done" else re.sub(r"(?<=[a-z])(?=[A-Z])", "_", name).upper()
 
 
+def by_number(found):
+    """What a pattern found of numbers and names, by the names as C has them."""
+    return {upper(name): int(number) for number, name in found}
+
+
 def exported():
     text = source()
     with open(FAULTS, encoding="utf-8") as file:
@@ -117,6 +126,8 @@ def exported():
         "fields": {name: [field for field, _ in fields] for name, fields in exported_structs(text).items()},
         "codes": {upper(name): n for name, n in numbered(text, "Code").items()},
         "faults": faults,
+        "kinds": by_number(re.findall(r"(\d+) => Some\(Kind::(\w+)\)", text)),
+        "refusals": {upper(name): int(n) for name, n in re.findall(r"CheckRefusal::(\w+)(?: \{[^}]*\})? => refusal_of\((\d+),", text)},
         "version": int(re.search(r"const VERSION: u32 = (\d+);", text)[1]),
     }
 
@@ -185,6 +196,7 @@ def of_header(text):
     numbers = lambda enum: {name: int(number) for name, number in enums[enum].items()}
     return {
         "calls": calls, "structs": structs, "fields": fields, "codes": numbers("code"), "faults": numbers("fault_kind"),
+        "kinds": numbers("kind"), "refusals": numbers("refusal"),
         "version": int(re.search(r"#define COLOCK_VERSION (\d+)", plain)[1]),
     }
 
@@ -210,7 +222,7 @@ def rust_structs(text):
     return fields_told(output_of({"sys.rs": text, "layout.rs": code}, ["rustc", "--edition", "2021"]))
 
 
-def of_rust(text):
+def of_rust(text, types, errors):
     plain = without_comments(text)
     calls = {}
     for name, parameters, result in re.findall(r"pub fn (colock_\w+)\(([^)]*)\) -> (\w+);", plain):
@@ -219,6 +231,8 @@ def of_rust(text):
     structs, fields = rust_structs(text)
     return {
         "calls": calls, "structs": structs, "fields": fields, "codes": codes,
+        "kinds": {upper(name): n for name, n in numbered(without_comments(types), "Kind").items()},
+        "refusals": by_number(re.findall(r"(\d+) => CheckRefusal::(\w+)", errors)),
         "version": int(re.search(r"pub const VERSION: u32 = (\d+);", plain)[1]),
     }
 
@@ -232,7 +246,7 @@ def python_parameter(kind, module):
     return {getattr(module, name.capitalize()): name for name in STRUCTS}.get(kind._type_, names.get(kind._type_)) + "*"
 
 
-def of_python(text, errors):
+def of_python(text, types, errors):
     """As the module says that has this text."""
     module = type(sys)("library")
     module.__dict__["__file__"] = PATHS["python"]
@@ -246,6 +260,8 @@ def of_python(text, errors):
         "fields": {name: [field for field, _ in s._fields_] for name, s in structs.items()},
         "raised": {upper(name): int(n) for n, name in re.findall(r"^    (\d+): (\w+),$", errors, re.M)},
         "faults": {upper(name): int(n) for name, n in re.findall(r"^    (\w+) = (\d+)$", errors, re.M)},
+        "kinds": {name: int(n) for name, n in re.findall(r"^    ([A-Z]+) = (\d+)$", types, re.M)},
+        "refusals": by_number(re.findall(r"(\d+): \(\"(\w+)\", \d\)", errors)),
         "version": module.VERSION,
     }
 
@@ -278,8 +294,8 @@ def names_of(words):
 
 def differences(texts, wanted):
     """How what the texts tell differs from the library."""
-    told = {"the header": of_header(texts["header"]), "Rust": of_rust(texts["rust"])}
-    python = of_python(texts["python"], texts["errors"])
+    told = {"the header": of_header(texts["header"]), "Rust": of_rust(texts["rust"], texts["rust types"], texts["rust errors"])}
+    python = of_python(texts["python"], texts["types"], texts["errors"])
     python["calls"] = {name: [kind.replace("usize", "u64") for kind in kinds] for name, kinds in python["calls"].items()}
     for who, parts in told.items():
         for what, part in parts.items():
@@ -303,6 +319,8 @@ PLANTS = [
     ("header", "uint32_t colock_renew(colock_handle *store);", ""),
     ("header", "COLOCK_NO_ROOM = 25", "COLOCK_NO_ROOM = 26"),
     ("header", "COLOCK_MISSING = 8", "COLOCK_MISSING = 18"),
+    ("header", "COLOCK_ESCROW = 2", "COLOCK_ESCROW = 3"),
+    ("header", "COLOCK_NOT_NUMERIC = 5", "COLOCK_NOT_NUMERIC = 6"),
     ("header", "uint32_t object;\n    uint32_t op;", "uint32_t op;\n    uint32_t object;"),
     ("header", "    uint32_t worker;\n", "    uint8_t worker;\n"),
     ("header", "bool live_;", "uint64_t live_;"),
@@ -313,9 +331,13 @@ PLANTS = [
     ("rust", "pub const STILL_OPEN: u32 = 17;", "pub const STILL_OPEN: u32 = 18;"),
     ("rust", "    pub states: u64,\n    pub initial: u64,", "    pub initial: u64,\n    pub states: u64,"),
     ("rust", "    pub third: u64,", "    pub third: u32,"),
+    ("rust types", "    Escrow = 2,", "    Escrow = 3,"),
+    ("rust errors", "5 => CheckRefusal::NotNumeric", "6 => CheckRefusal::NotNumeric"),
     ("python", '"begin": (_H, _8, _P(_64)),', '"begin": (_H, _32, _P(_64)),'),
     ("python", '("op", ctypes.c_uint32),\n        ("kind", ctypes.c_uint32),', '("kind", ctypes.c_uint32),\n        ("op", ctypes.c_uint32),'),
     ("python", '"forget": (_H, _64),', '"forget": (_H, _32),'),
+    ("types", "    ESCROW = 2", "    ESCROW = 3"),
+    ("errors", '5: ("NotNumeric", 2)', '6: ("NotNumeric", 2)'),
     ("errors", "    17: StillOpen,", "    17: NotMade,"),
     ("errors", "    Missing = 8", "    Missing = 9"),
     ("make", "ABI = 1", "ABI = 2"),

@@ -1,5 +1,5 @@
-/* The limits: 1,024 open transactions, 256 objects, a full history, the largest type; a store that forgets goes
- * on. */
+/* The limits: 1,024 open transactions, 256 objects, a full history, the largest type, the bounds of a number; a
+ * store that forgets goes on. */
 #include "want.h"
 
 static void only_so_many_are_open(void) {
@@ -107,8 +107,30 @@ static void the_largest_type_is_read(void) {
     free(text);
 }
 
+/* A number of 0 to 1,023 at 0: as many as that count it up side by side, and one more waits for the first. */
+static void only_so_many_count_up(void) {
+    static const uint64_t amounts[] = {1};
+    colock_handle store = COLOCK_HANDLE, type = COLOCK_HANDLE;
+    colock_fault fault;
+    colock_answer answer;
+    uint64_t kept;
+    WANT(colock_type_counter(&type, COLOCK_ESCROW, 1023, amounts, 1, &fault) == COLOCK_OK);
+    WANT(colock_store_new(&store) == COLOCK_OK && colock_store_add(&store, &type) == COLOCK_OK);
+    WANT(colock_store_open(&store, 1000000) == COLOCK_OK && colock_close(&type) == COLOCK_OK);
+    for (uint64_t t = 0; t < 1024; t++) {
+        WANT(begin(&store, 0) == t && colock_call(&store, 0, t, 0, TEXT("inc:1"), &answer) == COLOCK_OK);
+        WANT(t < 1023 ? answer.kind == COLOCK_REPLY : answer.kind == COLOCK_BUSY && answer.number == 0);
+    }
+    WANT(colock_abort(&store, 0, 500) == COLOCK_OK);
+    WANT(colock_call(&store, 0, 1023, 0, TEXT("inc:1"), &answer) == COLOCK_OK && answer.kind == COLOCK_REPLY);
+    for (uint64_t t = 0; t < 1024; t++) WANT(t == 500 || colock_commit(&store, 0, t) == COLOCK_OK);
+    WANT(colock_kept(&store, 0, &kept) == COLOCK_OK && kept == 1023);
+    WANT(colock_close(&store) == COLOCK_OK);
+}
+
 int main(void) {
     the_largest_type_is_read();
+    only_so_many_count_up();
     only_so_many_are_open();
     only_so_many_objects_are_there();
     a_history_is_full();

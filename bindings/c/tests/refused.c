@@ -33,6 +33,7 @@ void __wrap_free(void *p) {
 /* Does a call. Memory that is refused is the one code but that of success, and the same call is done then. */
 static long refusals = 0;
 static bool is_met[400]; /* the lines whose call was refused memory in some run */
+enum { TYPES = 8 };
 #define DO(e) \
     do { \
         uint32_t code = (e); \
@@ -41,7 +42,7 @@ static bool is_met[400]; /* the lines whose call was refused memory in some run 
         WANT(code == COLOCK_OK); \
     } while (0)
 
-static void make_types(colock_handle types[6]) {
+static void make_types(colock_handle types[TYPES]) {
     static const uint64_t amounts[] = {1, 2};
     colock_fault f;
     DO(colock_type_read(&types[0], COLOCK_UNDO, TEXT(CTR2), &f));
@@ -49,24 +50,26 @@ static void make_types(colock_handle types[6]) {
     DO(colock_type_account(&types[2], COLOCK_UNDO, 5, amounts, 2, &f));
     DO(colock_type_counter(&types[3], COLOCK_INTENTIONS, 5, amounts, 2, &f));
     DO(colock_type_set(&types[4], COLOCK_UNDO, TEXT("a b"), &f));
-    DO(colock_type_semiqueue(&types[5], COLOCK_INTENTIONS, TEXT("a b"), 2, &f));
+    DO(colock_type_counter(&types[5], COLOCK_ESCROW, 50, amounts, 2, &f));
+    DO(colock_type_read(&types[6], COLOCK_ESCROW, TEXT(FIVE), &f));
+    DO(colock_type_semiqueue(&types[7], COLOCK_INTENTIONS, TEXT("a b"), 2, &f));
 }
 
-static void make_store(colock_handle *store, colock_handle types[6]) {
+static void make_store(colock_handle *store, colock_handle types[TYPES]) {
     DO(colock_store_new(store));
-    for (int i = 0; i < 6; i++) DO(colock_store_add(store, &types[i]));
+    for (int i = 0; i < TYPES; i++) DO(colock_store_add(store, &types[i]));
     DO(colock_store_open(store, 100000));
 }
 
 /* Transactions that are all open before the first of them ends. */
 static void use(colock_handle *store, uint64_t transactions) {
-    static const char *const calls[] = {"inc:1", "dec:1", "deposit:2", "inc:2", "insert:a", "enq:b"};
+    static const char *const calls[TYPES] = {"inc:1", "dec:1", "deposit:2", "inc:2", "insert:a", "inc:1", "give:1", "enq:b"};
     colock_answer answer;
     uint64_t t;
     for (uint64_t i = 0; i < transactions; i++) {
         DO(colock_begin(store, 1, &t));
         WANT(t == i);
-        for (uint32_t x = 0; x < 6; x++) {
+        for (uint32_t x = 0; x < TYPES; x++) {
             DO(colock_would(store, t, x, TEXT(calls[x]), &answer));
             DO(colock_call(store, 1, t, x, TEXT(calls[x]), &answer));
         }
@@ -96,7 +99,7 @@ static void follow(colock_handle *store, colock_handle *other) {
         if (code) is_met[__LINE__] = true, refusals++;
         done += made;
     }
-    for (uint32_t x = 0; x < 6; x++) {
+    for (uint32_t x = 0; x < TYPES; x++) {
         DO(colock_kept(store, x, &count));
         DO(colock_kept(other, x, &made));
         WANT(count == made);
@@ -104,7 +107,7 @@ static void follow(colock_handle *store, colock_handle *other) {
 }
 
 static void go(uint64_t transactions) {
-    colock_handle types[6] = {COLOCK_HANDLE, COLOCK_HANDLE, COLOCK_HANDLE, COLOCK_HANDLE, COLOCK_HANDLE, COLOCK_HANDLE};
+    colock_handle types[TYPES] = {COLOCK_HANDLE};
     colock_handle store = COLOCK_HANDLE, other = COLOCK_HANDLE;
     make_types(types);
     make_store(&store, types);
@@ -113,7 +116,7 @@ static void go(uint64_t transactions) {
     follow(&store, &other);
     DO(colock_renew(&store));
     use(&store, transactions);
-    for (int i = 0; i < 6; i++) WANT(colock_close(&types[i]) == COLOCK_OK);
+    for (int i = 0; i < TYPES; i++) WANT(colock_close(&types[i]) == COLOCK_OK);
     WANT(colock_close(&store) == COLOCK_OK && colock_close(&other) == COLOCK_OK);
     WANT(live == 0);
 }
@@ -129,7 +132,7 @@ int main(int argc, char **argv) {
         WANT(refusals <= 1);
     }
     for (int line = 0; line < 400; line++) met += is_met[line];
-    WANT(met == 14); /* each call that may want memory, and no other */
+    WANT(met == 16); /* each call that may want memory, and no other */
     printf("%ld allocations, each refused in turn, at %ld calls: one code, the same call is done then, no leak\n", n, met);
     return 0;
 }

@@ -47,14 +47,22 @@ static void write_events(script *s) {
     } while (count == 7);
 }
 
+/* The kind of this word. */
+static uint32_t kind_of(const char *word) {
+    static const char *const words[] = {"undo", "intentions", "escrow"};
+    uint32_t kind = COLOCK_UNDO;
+    while (kind < COLOCK_ESCROW && strcmp(word, words[kind])) kind++;
+    WANT(!strcmp(word, words[kind]));
+    return kind;
+}
+
 static void add_object(script *s, const char *line, char **type_paths) {
     char kind[16];
     int place;
     colock_fault fault;
     WANT(sscanf(line, "object %15s %d", kind, &place) == 2 && s->objects < MOST);
     char *text = text_of(type_paths[place]);
-    uint32_t number = strcmp(kind, "undo") ? COLOCK_INTENTIONS : COLOCK_UNDO;
-    WANT(colock_type_read(&s->type_of[s->objects++], number, TEXT(text), &fault) == COLOCK_OK);
+    WANT(colock_type_read(&s->type_of[s->objects++], kind_of(kind), TEXT(text), &fault) == COLOCK_OK);
     free(text);
     puts(line);
 }

@@ -2,16 +2,37 @@
 """scripts.py COLOCK COUNT SEED RUNNER..: random scripts by `colock run` and by each runner.
 
 COLOCK is the program. A runner is a program that takes `SCRIPT TYPE..` and writes what `colock run` writes up
-to the kept states. A line for each difference, and status 1 where there is one.
+to the kept states. The types are those of examples, and some of families; those to which the checker says yes for
+escrow are in escrow, too. A line for each difference, and status 1 where there is one.
 """
 import os
 import random
+import re
 import subprocess
 import sys
 import tempfile
 
 EXAMPLES = os.path.join(os.path.dirname(os.path.abspath(__file__)), "..", "..", "..", "examples")
 TYPES = [os.path.join(EXAMPLES, name + ".type") for name in ("ctr2", "stock", "credit", "seats", "pool")]
+# families, by the words of `colock make`
+FAMILIES = ["counter 9 1 3", "counter 30 1 2 5", "account 6 1 4", "set 0 a", "semiqueue 4 a", "semiqueue 1 a b"]
+
+
+def made_types(program, folder):
+    """The paths of types of the families, each of which begins in the middle of its states."""
+    for number, words in enumerate(FAMILIES):
+        text = subprocess.run([program, "make", *words.split()], capture_output=True, text=True, check=True).stdout
+        middle = int(re.search(r"^states (\d+)$", text, re.M)[1]) // 2
+        path = os.path.join(folder, f"{number}.type")
+        with open(path, "w", encoding="ascii") as file:
+            file.write(re.sub(r"^initial 0$", f"initial {middle}", text, flags=re.M))
+        yield path
+
+
+def kinds_of(program, path):
+    """The kinds of recovery for which the checker says yes to a type."""
+    checked = {kind: subprocess.run([program, "check", kind, path], capture_output=True, check=False).returncode for kind in ("undo", "intentions", "escrow")}
+    return [kind for kind, status in checked.items() if status == 0]
 
 
 def calls_of(path):
@@ -20,13 +41,12 @@ def calls_of(path):
         return list(dict.fromkeys(line.split()[1] for line in file if line.startswith("op ")))
 
 
-def script(drawn):
-    """The text of a random script over the types."""
-    calls = [calls_of(path) for path in TYPES]
-    objects = [drawn.randrange(len(TYPES)) for _ in range(drawn.randint(1, 5))]
+def script(drawn, calls, kinds):
+    """The text of a random script over types, of which there are these calls and kinds."""
+    objects = [drawn.randrange(len(calls)) for _ in range(drawn.randint(1, 5))]
     count = drawn.choice([10, 60, 300])
     lines = [f"max {drawn.choice([2, 20, count, 4 * count])}"]
-    lines += [f"object {drawn.choice(['undo', 'intentions'])} {f}" for f in objects]
+    lines += [f"object {drawn.choice(kinds[f])} {f}" for f in objects]
     begun = 0
     for _ in range(count):
         t = drawn.randint(max(0, begun - 5), begun) if drawn.random() < 0.97 else drawn.randint(0, begun + 9)
@@ -59,13 +79,17 @@ def differences(program, count, seed, runners):
     """Random scripts, and how each runner does otherwise than the program."""
     drawn = random.Random(seed)
     with tempfile.TemporaryDirectory() as folder:
+        types = [*TYPES, *made_types(program, folder)]
+        calls, kinds = [calls_of(path) for path in types], [kinds_of(program, path) for path in types]
+        if not any("escrow" in of for of in kinds):
+            raise ValueError("the checker says yes to no type for escrow")
         path = os.path.join(folder, "script")
         for number in range(count):
             with open(path, "w", encoding="ascii") as file:
-                file.write(script(drawn))
-            wanted = written([program, "run", path, *TYPES])
+                file.write(script(drawn, calls, kinds))
+            wanted = written([program, "run", path, *types])
             for runner in runners:
-                told = runner(path, TYPES) if callable(runner) else written([runner, path, *TYPES])
+                told = runner(path, types) if callable(runner) else written([runner, path, *types])
                 if told != wanted:
                     yield f"script {number} of seed {seed}: {runner} writes\n{told}\nand not\n{wanted}"
 

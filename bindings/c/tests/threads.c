@@ -40,14 +40,14 @@ static void *work(void *arg) {
     return NULL;
 }
 
-static void on_one_store(void) {
+static void on_one_store(uint32_t kind) {
     static const uint64_t amounts[] = {1};
     colock_handle type = COLOCK_HANDLE;
     colock_fault fault;
     pthread_t threads[THREADS];
     int told[THREADS];
     uint64_t count, forgotten, kept, sum = 0;
-    WANT(colock_type_counter(&type, COLOCK_UNDO, 1000, amounts, 1, &fault) == COLOCK_OK);
+    WANT(colock_type_counter(&type, kind, 1000, amounts, 1, &fault) == COLOCK_OK);
     WANT(colock_store_new(&store) == COLOCK_OK);
     for (int x = 0; x < OBJECTS; x++) WANT(colock_store_add(&store, &type) == COLOCK_OK);
     WANT(colock_store_open(&store, UINT32_MAX) == COLOCK_OK);
@@ -64,7 +64,7 @@ static void on_one_store(void) {
     WANT(colock_open_count(&store, &count) == COLOCK_OK && count == 0);
     WANT(colock_event_count(&store, &count, &forgotten) == COLOCK_OK);
     WANT(colock_close(&store) == COLOCK_OK && colock_close(&type) == COLOCK_OK);
-    printf("16 threads: %d transactions committed, %" PRIu64 " events, what is kept is their sum\n", THREADS * ROUNDS, count);
+    printf("16 threads, kind %" PRIu32 ": %d transactions committed, %" PRIu64 " events, what is kept is their sum\n", kind, THREADS * ROUNDS, count);
 }
 
 /* Uses a store and closes it. It has its type with the stores of other threads. */
@@ -100,6 +100,7 @@ static void on_a_store_each(void) {
 
 int main(void) {
     on_a_store_each();
-    on_one_store();
+    on_one_store(COLOCK_ESCROW);
+    on_one_store(COLOCK_UNDO);
     return 0;
 }

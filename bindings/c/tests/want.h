@@ -29,6 +29,13 @@ static const char CTR2[] =
     "step 0 0 1\nstep 1 0 2\nstep 1 1 0\nstep 2 1 1\n"
     "conflict undo 0 1\nconflict undo 1 0\nconflict intentions 0 0\nconflict intentions 1 1\nend\n";
 
+/* A number from 0 to 5, at 3: one is given or two are taken, and there may not be two. The text's set lacks the
+ * initial state, so it is refused for any kind that looks at the set. */
+static const char FIVE[] =
+    "type five\nstates 6\ninitial 3\nop give:1 ok\nop take:2 ok\nop take:2 short\n"
+    "step 0 0 1\nstep 0 2 0\nstep 1 0 2\nstep 1 2 1\nstep 2 0 3\nstep 2 1 0\nstep 3 0 4\nstep 3 1 1\nstep 4 0 5\n"
+    "step 4 1 2\nstep 5 1 3\nreach 0\nequi 0 1\nconflict undo 0 0\nend\n";
+
 /* A store of so many objects of the type of CTR2, updated in place. */
 static inline void open_counters(colock_handle *store, int objects, uint64_t max_events) {
     colock_handle type = COLOCK_HANDLE;

@@ -32,6 +32,22 @@ where transactions wait for each other, of which the youngest is aborted.
     >>> store.retry(lambda transaction: transaction.call(0, "inc:1", wait=2.0).executed().reply)
     'ok'
 
+A number may be in escrow. Then one transaction may count it up and another down, as long as it stays inside its
+bounds whatever becomes of them; and what is kept is what is committed:
+
+    >>> stock = colock.Type.counter(5, [1, 2], colock.Kind.ESCROW)
+    >>> shelf = colock.Store([stock], max_events=1_000_000)
+    >>> with shelf.begin() as transaction:
+    ...     reply = transaction.call(0, "inc:2")
+    >>> first, second, third = shelf.begin(), shelf.begin(), shelf.begin()
+    >>> first.call(0, "dec:2"), second.call(0, "inc:1")
+    (Operation(number=3, reply='ok'), Operation(number=0, reply='ok'))
+    >>> third.call(0, "dec:1")  # the second one's up may yet be taken back
+    Busy(blocker=1)
+    >>> second.commit()
+    >>> third.call(0, "dec:1"), shelf.kept(0)
+    (Operation(number=1, reply='ok'), 3)
+
 `Store.open` has the same store in a file, behind a child process, where each commit is durable when it is told:
 
     with colock.Store.open("shop.db", [counter], create=True) as store:

@@ -203,7 +203,9 @@ class Refused(ColockError, ValueError):
 
     `reason` is a word, and `numbers` what it names: `InitialOutside`; `NotClosed` a state and an operation;
     `NotSimulation` a state, the one that it looks like, and an operation; `NotCommuting` the requested and
-    the held operation, and a state.
+    the held operation, and a state. For `Kind.ESCROW` it is `NotNumeric`, an operation and a state: it isn't legal
+    there, though in a lower and in a higher state; or it is, and moves it otherwise than the least state in which it
+    is legal.
     """
 
     def __init__(self, reason: str, numbers: Tuple[int, ...]) -> None:
@@ -248,7 +250,7 @@ CODES: Dict[int, Type[ColockError]] = {
 }
 
 # The checker's refusals, with how many numbers each names.
-_REASONS = {1: ("InitialOutside", 0), 2: ("NotClosed", 2), 3: ("NotSimulation", 3), 4: ("NotCommuting", 3)}
+_REASONS = {1: ("InitialOutside", 0), 2: ("NotClosed", 2), 3: ("NotSimulation", 3), 4: ("NotCommuting", 3), 5: ("NotNumeric", 2)}
 
 
 def error_of(code: int) -> ColockError:

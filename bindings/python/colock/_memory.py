@@ -35,7 +35,7 @@ class Memory(Backend):
         super().__init__(added)
         self.life = 0
         # the replies are made once, and what a call writes into is used again: all of it is under the lock
-        self._replies = [tuple(Operation(k, op.reply) for k, op in enumerate(of.operations)) for of in added]
+        self._replies = [{k: Operation(k, op.reply) for k, op in enumerate(of.operations)} for of in added]
         self._answer, self._number = _library.Answer(), ctypes.c_uint64()
         done(functions["store_open"](self._handle, limit))
 

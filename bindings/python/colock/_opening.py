@@ -18,7 +18,7 @@ VERSION = b"1"
 # A process can be waited for no longer than so many seconds.
 LONGEST_WAIT = 86_400.0
 GREETING = re.compile(rb"colock ([^ ]+) (0|[1-9][0-9]{0,9})")
-OBJECT = re.compile(rb"object (undo|intentions) ([0-9]{1,3})")
+OBJECT = re.compile(rb"object (undo|intentions|escrow) ([0-9]{1,3})")
 
 
 class Opening(NamedTuple):

@@ -25,7 +25,7 @@ class Operation(Reply):
 
 @dataclass(frozen=True)
 class Busy(Reply):
-    """It conflicts with an operation that another transaction holds, the blocker. Nothing was executed.
+    """What another transaction, the blocker, did is in its way. Nothing was executed.
 
     Where somebody older waits at the object the blocker may be that one, who is first in turn.
     """

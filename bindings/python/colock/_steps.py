@@ -1,6 +1,6 @@
 """Types of functions, and conflicts in a grid."""
 import re
-from typing import Callable, Dict, Hashable, List, Optional, Sequence, Tuple, TypeVar
+from typing import Any, Callable, Dict, Hashable, List, Optional, Sequence, Tuple, TypeVar, cast
 
 from ._errors import BadParameter, TooManyStates
 
@@ -12,16 +12,19 @@ Pair = Tuple[str, str]
 Step = Callable[[S, Pair], Optional[S]]
 
 
-def labelled(name: str, initial: S, operations: Sequence[Pair], step: "Step[S]") -> Tuple[bytes, Tuple[S, ...]]:
+def labelled(name: str, initial: S, operations: Sequence[Pair], step: "Step[S]", ascending: bool) -> Tuple[bytes, Tuple[S, ...]]:
     """The text of the type that a function describes, without conflicts, and the states by their numbers.
 
-    Raises `BadParameter` where a name is none, or `TooManyStates`.
+    They are numbered as they are found, or in ascending order. Raises `BadParameter` where a name is none, or
+    `TooManyStates`.
     """
     for word in [name, *(word for pair in operations for word in pair)]:
         _check_name(word)
     # a text with too many operations is refused, so their states aren't looked for
     states, steps = _reached(initial, operations[:MOST_OPERATIONS], step)
-    lines = [f"type {name}", f"states {len(states)}", "initial 0"]
+    if ascending:
+        states, steps = _ascending(states, steps)
+    lines = [f"type {name}", f"states {len(states)}", f"initial {states.index(initial)}"]
     lines += [f"op {call} {reply}" for call, reply in operations]
     lines += [f"step {s} {k} {to}" for s, k, to in steps]
     return "".join(line + "\n" for line in [*lines, "end"]).encode("ascii"), tuple(states)
@@ -51,6 +54,13 @@ def _reached(initial: S, operations: Sequence[Pair], step: "Step[S]") -> Tuple[L
             steps.append((at, k, numbers[to]))
         at += 1
     return states, steps
+
+
+def _ascending(states: Sequence[S], steps: Sequence[Tuple[int, int, int]]) -> Tuple[List[S], List[Tuple[int, int, int]]]:
+    """The same states in their order, and the steps between them."""
+    places = sorted(range(len(states)), key=cast(Callable[[int], Any], states.__getitem__))
+    numbers = {s: place for place, s in enumerate(places)}
+    return [states[s] for s in places], sorted((numbers[s], k, numbers[to]) for s, k, to in steps)
 
 
 def _check_room(states: Sequence[S], operations: Sequence[Pair], made: List[int], k: int) -> None:

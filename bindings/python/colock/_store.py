@@ -136,7 +136,8 @@ class Store:
         and it is tried anew, `tries` times in all, 1 or more. So it is to do nothing that the store doesn't take
         back. A victim of a deadlock first waits for the end of whom it waited for; else it sleeps a random time,
         at most `backoff` seconds the first time, and up to twice as long each further time, and a second at most.
-        It keeps the age of its first try, so it becomes the oldest in the end. The last error is raised. Any other
+        A deadlock of which the function says nothing counts as raised. It keeps the age of its first try, so it
+        becomes the oldest in the end. The last error is raised. Any other
         exception, `OutcomeUnknown` too, aborts what is open and is handed on.
 
         Raises what the function and a commit raise, `ValueError` where `tries` is below 1, `backoff` negative or
@@ -159,8 +160,7 @@ class Store:
         """A try: the transaction has ended behind it."""
         try:
             value = f(t)
-            if not t._ended:
-                t.commit()
+            t._commit_at_end()
             return value
         except BaseException:
             t._abort_quietly()
@@ -247,7 +247,7 @@ class Store:
             return self._backend.call_number(x, name)
 
     def kept(self, object: int) -> int:
-        """The state that is kept of an object: of `Kind.UNDO` with what open transactions did.
+        """The state that is kept of an object: of `Kind.UNDO` with what open transactions did, else without it.
 
         Raises `NoObject`, `Closed` or `ConnectionLost`.
         """

@@ -3,7 +3,7 @@ from types import TracebackType
 from typing import TYPE_CHECKING, Optional
 from typing import Type as Class
 
-from ._errors import ColockError
+from ._errors import ColockError, Deadlock
 from ._library import unsigned
 from ._replies import Busy, Reply
 from ._waiting import finished
@@ -15,14 +15,17 @@ if TYPE_CHECKING:
 class Transaction:
     """A transaction. A `with` commits it, or aborts it where an exception leaves it.
 
-    Where it ended in the `with` already, nothing more is done. `Store.begin` makes it.
+    Where it ended in the `with` already, nothing more is done; but where a deadlock ended it and nothing was said of
+    that, `Deadlock` is raised behind the `with`, so that nobody takes it for committed. `Store.begin` makes it.
     """
 
-    __slots__ = ("_store", "_life", "_worker", "_number", "_age", "_ended", "__weakref__")
+    __slots__ = ("_store", "_life", "_worker", "_number", "_age", "_ended", "_deadlock", "__weakref__")
 
     def __init__(self, store: "Store", life: int, worker: int, number: int, age: int) -> None:
         self._store, self._life, self._worker, self._number, self._age = store, life, worker, number, age
         self._ended = False
+        # the deadlock whose victim it was
+        self._deadlock: Optional[Deadlock] = None
 
     @property
     def number(self) -> int:
@@ -143,14 +146,21 @@ class Transaction:
         except ColockError:
             pass  # it has ended, or nobody is there who could abort it
 
+    def _commit_at_end(self) -> None:
+        """Commits it where it is open. Raises the `Deadlock` that ended it, if one did."""
+        if self._deadlock is not None:
+            raise self._deadlock
+        if not self._ended:
+            self.commit()
+
     def __enter__(self) -> "Transaction":
         return self
 
     def __exit__(self, kind: Optional[Class[BaseException]], value: Optional[BaseException], trace: Optional[TracebackType]) -> None:
         if kind is not None:
             self._abort_quietly()
-        elif not self._ended:
-            self.commit()
+        else:
+            self._commit_at_end()
 
     def __repr__(self) -> str:
         return f"<colock.Transaction {self._number} of worker {self._worker}>"

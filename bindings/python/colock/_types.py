@@ -6,6 +6,7 @@ import threading
 from typing import Any, Callable, Dict, FrozenSet, Hashable, Iterable, List, NamedTuple, Optional, Sequence, Tuple, TypeVar, Union, cast
 
 from . import _library
+from ._bounds import Bounds, bounds_of, may_block
 from ._errors import BadParameter, NoOperation, done, type_error
 from ._library import functions, unsigned
 from ._steps import grid, labelled
@@ -18,6 +19,12 @@ class Kind(enum.IntEnum):
     """It is updated in place, and operations are taken back."""
     INTENTIONS = 1
     """Each transaction keeps its operations by itself until it commits."""
+    ESCROW = 2
+    """The same of a number: what has to wait is told by how far others may move it, and by no conflict table.
+
+    A type has to be numeric: each operation is legal from a lowest to a highest state, and moves all of these as far.
+    A counter and an account are, a set isn't, and a semiqueue is where it has one element, or a capacity of 1.
+    """
 
 
 class TypeOperation(NamedTuple):
@@ -45,6 +52,7 @@ class Type:
 
     Many objects of many stores may have one type. It may be closed, or let go, before they are. Its text by
     `print` is the grid of its conflicts: a row for each operation that is requested, a column for each that is held.
+    Of `Kind.ESCROW` it is a line that says that there is no conflict table.
     """
 
     name: str
@@ -58,7 +66,10 @@ class Type:
     """The states by their numbers, as the function of `from_steps` has them; None of any other type."""
 
     def __init__(self, text: Union[str, bytes], kind: Kind = Kind.UNDO) -> None:
-        """The type of a text, with its own conflicts. Raises `BadText`, `Refused` or `NoMemory`."""
+        """The type of a text, with its own conflicts, which for `Kind.ESCROW` aren't looked at.
+
+        Raises `BadText`, `Refused` or `NoMemory`.
+        """
         content = _bytes(text)
         self._make(Source(content), "type_read", kind, content, len(content))
 
@@ -81,11 +92,13 @@ class Type:
 
         `operations` are 1 to 64 pairs of a call and a reply, and `step` tells the state to which a pair leads from
         a state, or None where it isn't legal. States are hashable, and equal ones are one. They are found from
-        `initial` on and numbered as they are found, 1 to 1,024: `labels` has them by their numbers. Names are 1 to
-        32 of `a` to `z`, `0` to `9`, `_`, `:` and `-`. Raises `TooManyStates`, `BadParameter` where a name is none,
-        `BadText` where a pair is there twice or there are none or more than 64, `Refused` or `NoMemory`.
+        `initial` on and numbered as they are found, 1 to 1,024; for `Kind.ESCROW` in ascending order, so that a number
+        may begin in the middle. `labels` has them by their numbers. Names are 1 to 32 of `a` to `z`, `0` to `9`, `_`,
+        `:` and `-`. Raises `TooManyStates`, `BadParameter` where a name is none, `BadText` where a pair is there twice
+        or there are none or more than 64, `Refused`, `NoMemory`, or for `Kind.ESCROW` `TypeError` where states have no
+        order.
         """
-        content, labels = labelled(name, initial, list(operations), step)
+        content, labels = labelled(name, initial, list(operations), step, Kind(kind) is Kind.ESCROW)
         made = cls._made(Source(content, True), "type_tables", kind, content, len(content))
         made.labels = labels
         return made
@@ -176,7 +189,8 @@ class Type:
     def conflicts(self, requested: OperationName, held: OperationName) -> bool:
         """Whether an operation that is requested conflicts with one that another transaction holds.
 
-        Each is a number, or a pair of a call and a reply. Raises `NoOperation` or `Closed`.
+        Of `Kind.ESCROW` none do, since it has no conflict table. Each is a number, or a pair of a call and a reply.
+        Raises `NoOperation` or `Closed`.
         """
         return self._conflicts(self._number_of(requested), self._number_of(held))
 
@@ -205,8 +219,19 @@ class Type:
 
     def _blocking_pairs(self) -> Iterable[Tuple[int, int]]:
         call_of = [self._calls[of.call] for of in self.operations]
-        numbers = range(len(call_of))
-        return ((call_of[held], call_of[asked]) for held in numbers for asked in numbers if self._conflicts(asked, held))
+        numbers, blocks = range(len(call_of)), self._blocking_test()
+        return ((call_of[held], call_of[asked]) for held in numbers for asked in numbers if blocks(asked, held))
+
+    def _blocking_test(self) -> Callable[[int, int], bool]:
+        """Whether an operation that is held may be in the way of one that is requested, which comes first."""
+        if self.kind is not Kind.ESCROW:
+            return self._conflicts
+        bounds = list(map(self._bounds, range(len(self.operations))))
+        return lambda asked, held: may_block(bounds[asked], bounds[held])
+
+    def _bounds(self, operation: int) -> Optional[Bounds]:
+        """Between which states an operation of a numeric type is legal."""
+        return bounds_of(self.states, lambda state: self.step(state, operation))
 
     def _compared(self) -> Tuple[Any, ...]:
         """What two types are compared by: name, kind, states, initial state, operations, steps and conflicts.
@@ -235,10 +260,11 @@ class Type:
         return f"<colock.Type {self.name!r}, {self.kind.name}, {self.states} states, {len(self.operations)} operations>"
 
     def __str__(self) -> str:
-        """The grid of its conflicts. Raises `Closed`."""
+        """The grid of its conflicts, where it has a conflict table. Raises `Closed`."""
         numbers = range(len(self.operations))
         held = [[q for q in numbers if self._conflicts(p, q)] for p in numbers]
-        return grid(f"{self.name}, {self.kind.name.lower()}, {self.states} states", self.operations, held)
+        title = f"{self.name}, {self.kind.name.lower()}, {self.states} states"
+        return f"{title}, no conflict table" if self.kind is Kind.ESCROW else grid(title, self.operations, held)
 
 
 def _bytes(text: Union[str, bytes]) -> bytes:

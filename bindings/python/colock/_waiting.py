@@ -128,8 +128,9 @@ class Waiting:
                 return
             self._counts.deadlocks += 1
             finish = self._backend.abort(t)
+            t._deadlock = Deadlock(sleeper.waited_for)
         finished(finish)
-        raise Deadlock(sleeper.waited_for)
+        raise t._deadlock
 
     def _get_up(self, sleeper: Sleeper, slept: float) -> None:
         """The call waits no more."""

@@ -36,6 +36,16 @@ class GaveUp(Exception):
 
 # ---- types
 
+def drawn_number(source):
+    """A number with drawn operations, each of which is legal from a lowest to a highest state, and moves these as far."""
+    top, count = source.randint(1, 9), source.randint(1, 6)
+    lines = ["type number", f"states {top + 1}", f"initial {source.randint(0, top)}", *(f"op c{k // 2} r{k % 2}" for k in range(count))]
+    bounds = [sorted(source.choices(range(top + 1), k=2)) for _ in range(count)]
+    moves = [source.randint(-low, top - high) for low, high in bounds]
+    lines += [f"step {s} {k} {s + moves[k]}" for s in range(top + 1) for k, (low, high) in enumerate(bounds) if low <= s <= high]
+    return Type("\n".join([*lines, "end", ""]), Kind.ESCROW)
+
+
 def drawn_type(source):
     """A type of a few states and operations with drawn steps, or one of a family."""
     kind, which = source.choice(list(Kind)), source.randrange(6)
@@ -43,6 +53,8 @@ def drawn_type(source):
         return Type.counter(source.randint(2, 20), [1, 2][: source.randint(1, 2)], kind)
     if which == 1:
         return Type.account(source.randint(2, 6), [1, 2], kind)
+    if kind == Kind.ESCROW:
+        return drawn_number(source)
     if which == 2:
         return Type.set(["a", "b"], kind)
     if which == 3:

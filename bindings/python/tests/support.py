@@ -33,6 +33,29 @@ conflict intentions 1 0
 end
 """
 
+# A number from 0 to 5, at 3: one is given or two are taken, and there may not be two. Its set lacks the initial
+# state, so it is refused for any kind that looks at the set.
+FIVE = """type five
+states 6
+initial 3
+op give:1 ok
+op take:2 ok
+op take:2 short
+step 0 0 1
+step 0 2 0
+step 1 0 2
+step 1 2 1
+step 2 0 3
+step 2 1 0
+step 3 0 4
+step 3 1 1
+step 4 0 5
+step 4 1 2
+step 5 1 3
+reach 0
+end
+"""
+
 
 def program():
     """The path of the program. A test that needs it fails in words where it isn't there."""

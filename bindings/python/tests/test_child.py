@@ -9,7 +9,7 @@ import unittest
 from unittest import mock
 
 import support
-from support import SOON, TWO, Run, Timed, asleep, folder_of, is_running, pid_of, program, until
+from support import FIVE, SOON, TWO, Run, Timed, asleep, folder_of, is_running, pid_of, program, until
 
 import colock
 from colock import Kind, Operation, Store, Type
@@ -62,7 +62,8 @@ class Opening(Files):
             Type(TWO), Type.with_made_tables(bare), Type.account(5, [1, 2]), Type.counter(5, [1]), Type.set(["-a", "b"]),
             Type.semiqueue(["-x", "y"], 2), Type.from_steps("box", 0, [("put", "ok"), ("get", "ok")], step),
         ]
-        types += [Type.account(5, [1, 2], Kind.INTENTIONS), types[0]]
+        types += [Type.account(5, [1, 2], Kind.INTENTIONS), types[0], Type(FIVE, Kind.ESCROW), Type.counter(5, [1, 2], Kind.ESCROW)]
+        types.append(Type.from_steps("box", 2, [("put", "ok"), ("get", "ok")], step, Kind.ESCROW))
         with self.open(types, create=True) as store:
             made = store._backend.types
             self.assertEqual([of._compared() for of in made], [of._compared() for of in types])
@@ -70,6 +71,7 @@ class Opening(Files):
             with store.begin() as t:
                 self.assertEqual(t.call(4, "insert:-a"), Operation(0, "ok"))
                 self.assertEqual([t.call(6, "get"), t.call(6, "put")], [colock.Illegal(), Operation(0, "ok")])
+            self.assertEqual([store.kept(x) for x in (9, 10, 11)], [3, 0, 2])
 
     def test_other_objects(self):
         self.open([COUNTER, Type(TWO)], create=True).close()
@@ -78,6 +80,7 @@ class Opening(Files):
             ([COUNTER], "2 objects, and 1"),
             ([COUNTER] * 3, "2 objects, and 3"),
             ([Type.counter(1000, [1], Kind.INTENTIONS), Type(TWO)], "object 0: the kind of recovery"),
+            ([Type.counter(1000, [1], Kind.ESCROW), Type(TWO)], "object 0: the kind of recovery"),
             ([Type.counter(999, [1]), Type(TWO)], "object 0: the number of states"),
             ([COUNTER, COUNTER], "object 1: the name"),
             ([COUNTER, Type(TWO.replace("op give ok", "op give no"))], "object 1: the operations"),

@@ -8,6 +8,8 @@ import sys
 import threading
 import unittest
 
+from support import FIVE
+
 import colock
 from colock import Busy, EventKind, FaultKind, Illegal, Kind, Operation, Store, Type
 
@@ -68,6 +70,17 @@ class Types(unittest.TestCase):
             with self.assertRaises(colock.Refused) as raised:
                 Type(four + rest)
             self.assertEqual(str(raised.exception), told)
+        for make, numbers in [
+            # put in, an element moves the empty set by one, and a set that has it by nothing
+            (lambda: Type.set(["a"], Kind.ESCROW), (0, 1)),
+            # with two of b there is no room for a, and with none, and with one of a, there is
+            (lambda: Type.semiqueue(["a", "b"], 2, Kind.ESCROW), (0, 2)),
+            (lambda: Type(four + "step 0 0 0\nstep 0 1 0\nstep 2 1 2\nend\n", Kind.ESCROW), (1, 1)),
+        ]:
+            with self.assertRaises(colock.Refused) as raised:
+                make()
+            self.assertEqual((raised.exception.reason, raised.exception.numbers), ("NotNumeric", numbers))
+        self.assertEqual(str(raised.exception), "NotNumeric 1 1")
 
     def test_families(self):
         for make in [
@@ -111,10 +124,25 @@ class Types(unittest.TestCase):
         self.assertEqual([made.conflicts(*pair) for pair in pairs], [read.conflicts(*pair) for pair in pairs])
 
     def test_kinds(self):
-        self.assertRaises(ValueError, Type, CTR2, 2)
+        self.assertRaises(ValueError, Type, CTR2, 3)
         self.assertRaises(ValueError, Type, CTR2, 1 << 32)
         self.assertRaises(ValueError, Type, CTR2, "undo")
-        self.assertEqual(Type(CTR2.encode(), 1).kind, Kind.INTENTIONS)
+        self.assertEqual([Type(CTR2.encode(), number).kind for number in range(3)], [Kind.UNDO, Kind.INTENTIONS, Kind.ESCROW])
+
+    def test_numeric_types(self):
+        for of in [
+            Type.counter(5, [1, 2], Kind.ESCROW), Type.account(5, [1, 2], Kind.ESCROW), Type.semiqueue(["a"], 9, Kind.ESCROW),
+            Type.semiqueue(["a", "b"], 1, Kind.ESCROW), Type(FIVE, Kind.ESCROW), Type.with_made_tables(FIVE, Kind.ESCROW),
+        ]:
+            numbers = range(len(of.operations))
+            self.assertEqual((of.kind, {of.conflicts(p, q) for p in numbers for q in numbers}), (Kind.ESCROW, {False}))
+            self.assertRaises(colock.NoOperation, of.conflicts, 0, len(numbers))
+        five = Type(FIVE, Kind.ESCROW)
+        self.assertEqual((five.initial, five.step(3, 1), five.step(1, 1), repr(five)), (3, 1, None, "<colock.Type 'five', ESCROW, 6 states, 3 operations>"))
+        for kind in (Kind.UNDO, Kind.INTENTIONS):
+            with self.assertRaises(colock.Refused) as raised:
+                Type(FIVE, kind)
+            self.assertEqual(str(raised.exception), "InitialOutside")
 
 
 class Stores(unittest.TestCase):

@@ -49,6 +49,8 @@ class Pipes(support.Fakes):
             ("{0} object undo 1|{0} ok", "{0} type t|{0} |{0} ok"), ("{0} object redo 0|{0} ok", "{0} type t|{0} |{0} ok"),
             ("{0} object undo 0|{0} ok", "{0} type t|{0} |{0} ok"), ("{0} object undo 0|{0} ok", "{0} ok"),
             ("{0} fault UnknownVerb", ""), ("{0} refused NoObject", ""), ("x object undo 0|x ok", ""),
+            # a type that isn't numeric
+            ("{0} object escrow 0|{0} ok", "".join(f"{{0}} {line}|" for line in ("type t", "states 2", "initial 0", "op a b", "step 0 0 1", "step 1 0 1", "end", "")) + "{0} ok"),
         ]:
             answers = {"objects": objects + "|", "types": types + "|"}
             body = f"say('colock 1 5\\n')\nfor tag, words in requests():\n    say({answers!r}[words[0]].format(tag).replace('|', '\\n'))"

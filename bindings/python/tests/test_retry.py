@@ -82,6 +82,27 @@ class Retries:
         self.assertRaises(colock.Deadlock, others[1].result)
         self.assertEqual(len(tried), 2)
 
+    def test_a_swallowed_deadlock_is_no_commit(self):
+        store, tried = self.make([Type(TWO)] * 2), []
+        older = store.begin()
+        older.call(0, "take")
+
+        def f(t):
+            tried.append(t.number)
+            t.call(1, "take").executed()
+            if len(tried) == 1:
+                waiting = Run(older.call, 1, "give", LONG)
+                asleep(store, 1)
+                with self.assertRaises(colock.Deadlock):
+                    t.call(0, "give", wait=LONG)
+                waiting.result()
+                older.commit()
+            return "value"
+
+        self.assertEqual(store.retry(f), "value")
+        told = store.stats()
+        self.assertEqual((len(tried), told.deadlocks, told.commits, told.aborts), (2, 1, 2, 1))
+
     def test_a_victim_waits_for_the_others_end(self):
         store, tried = self.make([Type(TWO)] * 2), []
         t = store.begin()

@@ -30,7 +30,8 @@ class FromSteps(unittest.TestCase):
             self.assertEqual((made.operations, made.states, made.initial, made.kind), (family.operations, 6, 0, kind))
             self.assertEqual(matrix(made), matrix(family))
             # by reasoning: in place an up and a down don't commute at the ends; deferred, two ups may want one place
-            self.assertEqual(matrix(made), [[False, True], [True, False]] if kind == Kind.UNDO else [[True, False], [False, True]])
+            wanted = {Kind.UNDO: [[False, True], [True, False]], Kind.INTENTIONS: [[True, False], [False, True]], Kind.ESCROW: [[False] * 2] * 2}
+            self.assertEqual(matrix(made), wanted[kind])
             self.assertEqual((made.labels, family.labels), (tuple(range(6)), None))
 
     def test_states_are_numbered_as_they_are_found(self):
@@ -87,6 +88,58 @@ class FromSteps(unittest.TestCase):
         self.assertRaises(TypeError, Type.from_steps, "c", [], UP_AND_DOWN, lambda state, operation: None)
 
 
+class Numbers(unittest.TestCase):
+    """Types for escrow."""
+
+    def test_a_number_begins_in_the_middle(self):
+        def step(pieces, operation):
+            to = pieces + (1 if operation[0] == "inc:1" else -1)
+            return to if 5 <= to <= 9 else None
+
+        stock = Type.from_steps("stock", 7, UP_AND_DOWN, step, Kind.ESCROW)
+        self.assertEqual((stock.labels, stock.initial, stock.states), ((5, 6, 7, 8, 9), 2, 5))
+        self.assertEqual([stock.step(s, 0) for s in range(5)], [1, 2, 3, 4, None])
+        with colock.Store([stock], 100) as store, store.begin() as t:
+            self.assertEqual((stock.labels[store.kept(0)], t.call(0, "dec:1")), (7, colock.Operation(1, "ok")))
+        # as they are found an up moves 7 by one, and 8 by two, from place 1 to 3
+        found = Type.from_steps("stock", 7, UP_AND_DOWN, step)
+        self.assertEqual((found.labels, found.initial), ((7, 8, 6, 9, 5), 0))
+        with self.assertRaises(colock.Refused) as raised:
+            Type(found._source.text, Kind.ESCROW)
+        self.assertEqual(str(raised.exception), "NotNumeric 0 1")
+
+    def test_states_without_an_order(self):
+        steps = {(0, "inc:1"): "one", ("one", "dec:1"): 0}
+        self.assertEqual(Type.from_steps("mixed", 0, UP_AND_DOWN, lambda s, pair: steps.get((s, pair[0]))).states, 2)
+        self.assertRaises(TypeError, Type.from_steps, "mixed", 0, UP_AND_DOWN, lambda s, pair: steps.get((s, pair[0])), Kind.ESCROW)
+
+    def test_bounds(self):
+        account = Type.account(5, [1, 2], Kind.ESCROW)
+        bounds = [account._bounds(k) for k in range(14)]
+        # of each amount a deposit, its refusal, a withdrawal and its refusal; and the balances 0 and 5
+        self.assertEqual(bounds[:4], [(0, 4, 1), (5, 5, 0), (1, 5, -1), (0, 0, 0)])
+        self.assertEqual(bounds[4:8], [(0, 3, 2), (4, 5, 0), (2, 5, -2), (0, 1, 0)])
+        self.assertEqual((bounds[8], bounds[13]), ((0, 0, 0), (5, 5, 0)))
+        never = Type("type never\nstates 2\ninitial 0\nop a b\nop c d\nstep 0 1 1\nend\n", Kind.ESCROW)
+        self.assertEqual([never._bounds(k) for k in range(2)], [None, (0, 0, 1)])
+        self.assertEqual(never._blocks(), {(1, 1)})
+
+    def test_what_may_be_in_the_way(self):
+        # two ups may want the last place, and two downs the last piece; an up and a down are never in each other's way
+        self.assertEqual(Type.counter(5, [1], Kind.ESCROW)._blocks(), {(0, 0), (1, 1)})
+        # deposit 0, withdraw 2, balance 4: all but two balances, since a withdrawal makes room where there was none
+        pairs = {(held, asked) for held in (0, 2, 4) for asked in (0, 2, 4)}
+        self.assertEqual(Type.account(5, [1], Kind.ESCROW)._blocks(), pairs - {(4, 4)})
+
+    def test_it_is_what_conflicts_in_deferred_update(self):
+        """Of numbers, two operations that can't be done one behind the other are those that don't commute."""
+        for make in [
+            lambda kind: Type.counter(7, [1, 2, 5], kind), lambda kind: Type.account(6, [1, 4], kind), lambda kind: Type.semiqueue(["a"], 3, kind),
+            lambda kind: Type.semiqueue(["a", "b", "c"], 1, kind),
+        ]:
+            self.assertEqual(make(Kind.ESCROW)._blocks(), make(Kind.INTENTIONS)._blocks())
+
+
 class Names(unittest.TestCase):
     def test_conflicts_by_names(self):
         account = Type.account(5, [1, 2])
@@ -121,9 +174,11 @@ class Names(unittest.TestCase):
         self.assertEqual({len(line) for line in lines[1:]}, {len(lines[1])})
         self.assertEqual(lines[5].split()[:3], ["3", "withdraw:1", "short"])
         self.assertEqual(lines[5].split()[3 + 3], ".")
-        closed = Type.counter(5, [1])
-        closed.close()
-        self.assertRaises(colock.Closed, str, closed)
+        self.assertEqual(str(Type.counter(5, [1], Kind.ESCROW)), "counter, escrow, 6 states, no conflict table")
+        for kind in Kind:
+            closed = Type.counter(5, [1], kind)
+            closed.close()
+            self.assertRaises(colock.Closed, str, closed)
 
 
 if __name__ == "__main__":

@@ -1,4 +1,5 @@
 """What holds of a store in memory and of one in a file: calls that wait, deadlocks and the gate."""
+import contextlib
 import math
 import threading
 import time
@@ -177,6 +178,18 @@ class Deadlocks:
                 t.call(0, "give", wait=LONG)
         self.assertEqual(older.result(), GIVE)
         self.assertEqual([str(event) for event in store.events() if event.kind == colock.EventKind.ABORT], ["abort 0 1"])
+
+
+    def test_swallowed_in_a_with(self):
+        store, begun = self.circle(2)
+        older = Run(begun[0].call, 1, "give", LONG)
+        asleep(store, 1)
+        with self.assertRaises(colock.Deadlock):
+            with begun[1] as t:
+                with contextlib.suppress(colock.Deadlock):
+                    t.call(0, "give", wait=LONG)
+        self.assertEqual(older.result(), GIVE)
+        self.assertEqual((store.stats().deadlocks, store.stats().aborts, store.stats().commits), (1, 1, 0))
 
 
 class Gates:

@@ -44,6 +44,10 @@ fn command(store: &Store, begun: &mut Vec<TransactionId>, words: &[&str]) -> Res
     }
 }
 
+fn kind_of(word: &str) -> Option<Kind> {
+    [Kind::Undo, Kind::Intentions, Kind::Escrow].into_iter().find(|kind| kind.to_string() == word)
+}
+
 fn write_events(store: &Store, told: &mut u64, out: &mut impl Write) -> Result<(), Box<dyn AnyError>> {
     for event in store.events(*told)? {
         writeln!(out, "{event}")?;
@@ -61,7 +65,7 @@ fn main() -> Result<(), Box<dyn AnyError>> {
     for line in lines.iter().filter(|line| matches!(line[0], "max" | "object")) {
         match line[..] {
             ["object", kind, file] => {
-                let kind = if kind == "undo" { Kind::Undo } else { Kind::Intentions };
+                let kind = kind_of(kind).ok_or("no kind")?;
                 types.push(Type::read(std::fs::read(&words[1 + file.parse::<usize>()?])?, kind)?);
                 writeln!(out, "{}", line.join(" "))?;
             }

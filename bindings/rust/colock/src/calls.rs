@@ -1,7 +1,8 @@
 //! What a client knows of an object's type: its calls and replies by name, and which calls block which.
 
+use crate::bounds::Bounds;
 use crate::error::Error;
-use crate::types::Type;
+use crate::types::{Kind, Type};
 use std::sync::Arc;
 
 /// The calls of a type. A call has the number of the first operation that has its name.
@@ -64,7 +65,7 @@ impl Calls {
         u64::try_from(place).ok()
     }
 
-    /// Whether some operation of a call, requested, conflicts with some operation of another one that is held.
+    /// Whether some operation of a call that is held may be in the way of some operation of another one.
     pub(crate) fn blocks(&self, held: u8, requested: u8) -> bool {
         let bits = self.blocked.get(usize::from(held)).copied().unwrap_or(0);
         requested < 64 && (bits >> requested) & 1 == 1
@@ -73,14 +74,29 @@ impl Calls {
 
 /// For each call, as bits, the calls that it blocks. `numbers` has the call of each operation: there are at most 64.
 fn blocked(of: &Type, numbers: &[usize]) -> Result<Vec<u64>, Error> {
+    let bounds = bounds(of)?;
     let mut blocked = vec![0; numbers.len()];
     let pairs = (0..numbers.len()).flat_map(|held| (0..numbers.len()).map(move |requested| (held, requested)));
     for (held, requested) in pairs {
-        if of.conflicts(requested as u64, held as u64)? {
+        if of.conflicts(requested as u64, held as u64)? || may_block(&bounds, held, requested) {
             blocked[numbers[held]] |= 1_u64 << numbers[requested];
         }
     }
     Ok(blocked)
+}
+
+/// Of a type for escrow, which has no conflict table, the bounds of each operation that is legal anywhere.
+fn bounds(of: &Type) -> Result<Vec<Option<Bounds>>, Error> {
+    match of.kind() {
+        Kind::Undo | Kind::Intentions => Ok(Vec::new()),
+        Kind::Escrow => (0..of.operations()).map(|k| Bounds::of(of, k)).collect(),
+    }
+}
+
+/// Whether two operations may be in each other's way by their bounds, where they have any.
+fn may_block(bounds: &[Option<Bounds>], one: usize, other: usize) -> bool {
+    let of = |k: usize| bounds.get(k).copied().flatten();
+    of(one).zip(of(other)).is_some_and(|(one, other)| one.may_block(other))
 }
 
 #[cfg(test)]
@@ -106,6 +122,22 @@ mod tests {
     fn ups_block_downs() {
         let counter = Calls::of(&Type::counter(5, &[1], Kind::Undo).unwrap()).unwrap();
         assert_eq!((counter.blocks(0, 0), counter.blocks(0, 1), counter.blocks(1, 0), counter.blocks(1, 1)), (false, true, true, false));
+    }
+
+    /// Of numbers, two operations that can't be done one behind the other are those that don't commute.
+    #[test]
+    fn in_escrow_calls_block_as_in_deferred_update() {
+        let all = |calls: &Calls| (0..64).flat_map(|held| (0..64).map(move |call| (held, call))).filter(|(held, call)| calls.blocks(*held, *call)).collect();
+        let blocks = |of: Type| -> Vec<(u8, u8)> { all(&Calls::of(&of).unwrap()) };
+        let counter = |kind| blocks(Type::counter(7, &[1, 2, 5], kind).unwrap());
+        assert_eq!(counter(Kind::Escrow), counter(Kind::Intentions));
+        let account = |kind| blocks(Type::account(6, &[1, 4], kind).unwrap());
+        assert_eq!(account(Kind::Escrow), account(Kind::Intentions));
+        let items = |kind| blocks(Type::semiqueue(&["a", "b", "c"], 1, kind).unwrap());
+        assert_eq!(items(Kind::Escrow), items(Kind::Intentions));
+        // by reasoning: a withdrawal makes room for a deposit that was refused, and two balances are in nobody's way
+        let small = Calls::of(&Type::account(5, &[1], Kind::Escrow).unwrap()).unwrap();
+        assert!(small.blocks(0, 2) && small.blocks(2, 0) && small.blocks(4, 0) && !small.blocks(4, 4));
     }
 
     #[test]

@@ -3,7 +3,7 @@
 use crate::error::Error;
 use crate::program::{output_of, Room};
 use crate::source::Source;
-use crate::types::{Kind, Type};
+use crate::types::Type;
 use std::fs;
 use std::io;
 use std::path::{Path, PathBuf};
@@ -22,7 +22,7 @@ pub(crate) fn create(program: &Path, path: &Path, objects: &[&Type], limit: Dura
         if place == types.len() {
             types.push(of);
         }
-        lines.push_str(&format!("object {} {place}\n", kind_word(of.kind())));
+        lines.push_str(&format!("object {} {place}\n", of.kind()));
     }
     lines.push_str("end\n");
     let texts = types.iter().enumerate().map(|(place, of)| written(program, &room, place, of, limit)).collect::<Result<Vec<PathBuf>, Error>>()?;
@@ -30,13 +30,6 @@ pub(crate) fn create(program: &Path, path: &Path, objects: &[&Type], limit: Dura
     let mut words = vec![Path::new("create"), path, listed.as_path()];
     words.extend(texts.iter().map(PathBuf::as_path));
     output_of(program, &words, limit).map(drop)
-}
-
-fn kind_word(kind: Kind) -> &'static str {
-    match kind {
-        Kind::Undo => "undo",
-        Kind::Intentions => "intentions",
-    }
 }
 
 /// The path of a file with the text of a type.

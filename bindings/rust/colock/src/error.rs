@@ -143,6 +143,15 @@ pub enum CheckRefusal {
         /// The state in which they fail.
         state: u64,
     },
+    /// For [`Kind::Escrow`](crate::Kind::Escrow): an operation isn't one of numbers. In a state it isn't legal, though it
+    /// is in a lower and in a higher one; or it is legal there, and moves it otherwise than the least state in which it
+    /// is.
+    NotNumeric {
+        /// The operation.
+        operation: u64,
+        /// The state.
+        state: u64,
+    },
 }
 
 /// Events of which one wasn't made. Those before it were.
@@ -221,6 +230,7 @@ impl CheckRefusal {
             2 => CheckRefusal::NotClosed { state: first, operation: second },
             3 => CheckRefusal::NotSimulation { state: first, other: second, operation: third },
             4 => CheckRefusal::NotCommuting { requested: first, held: second, state: third },
+            5 => CheckRefusal::NotNumeric { operation: first, state: second },
             _ => return None,
         })
     }
@@ -287,6 +297,7 @@ impl fmt::Display for CheckRefusal {
             CheckRefusal::NotClosed { state, operation } => write!(f, "NotClosed {state} {operation}"),
             CheckRefusal::NotSimulation { state, other, operation } => write!(f, "NotSimulation {state} {other} {operation}"),
             CheckRefusal::NotCommuting { requested, held, state } => write!(f, "NotCommuting {requested} {held} {state}"),
+            CheckRefusal::NotNumeric { operation, state } => write!(f, "NotNumeric {operation} {state}"),
         }
     }
 }

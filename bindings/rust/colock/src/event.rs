@@ -23,7 +23,7 @@ pub enum Event {
         /// The operation.
         operation: u32,
     },
-    /// A call conflicted with an operation of another transaction.
+    /// What another transaction did was in the way of a call.
     Busy {
         /// Whoever called it.
         worker: u8,

@@ -3,8 +3,8 @@
 //!
 //! A [`Type`] is read of a text or made of a family, and checked for a [`Kind`] of recovery. A [`Store`] has
 //! objects of such types. A [`Transaction`] calls operations of the objects, and commits, or aborts where it
-//! is dropped. A call has a [`Reply`]: the operation that was executed, or the blocker, which is the
-//! transaction that holds an operation with which it conflicts.
+//! is dropped. A call has a [`Reply`]: the operation that was executed, or the blocker, which is a
+//! transaction that did what is in its way.
 //!
 //! ```
 //! use colock::{Kind, Reply, Store, Type};
@@ -20,6 +20,31 @@
 //! assert_eq!(second.call(0, "dec:1")?, Reply::Operation(1));
 //! second.commit()?;
 //! assert_eq!(store.kept(0)?, 0);
+//! # Ok::<(), colock::Error>(())
+//! ```
+//!
+//! # Numbers in escrow
+//!
+//! An object of [`Kind::Escrow`] is a number. One transaction may give to it and another one take from it, as long as all
+//! that is open stays legal, whoever commits, aborts or rolls back, and in whatever order. What is kept is what is
+//! committed.
+//!
+//! ```
+//! use colock::{Kind, Reply, Store, Type};
+//!
+//! // from 0 to 5 pieces, 2 at first
+//! let operations = [("take", "ok"), ("give", "ok")];
+//! let stock = Type::from_steps("stock", 2_u32, &operations, Kind::Escrow, |pieces, (call, _)| match call {
+//!     "take" => pieces.checked_sub(1),
+//!     _ => (*pieces < 5).then_some(pieces + 1),
+//! })?;
+//! let store = Store::new([&stock], 1_000_000)?;
+//! let (mut first, mut second, mut third) = (store.begin()?, store.begin()?, store.begin()?);
+//! assert_eq!((first.call(0, "take")?, first.call(0, "take")?), (Reply::Operation(0), Reply::Operation(0)));
+//! assert_eq!(second.call(0, "give")?, Reply::Operation(1)); // beside the first
+//! assert_eq!(third.call(0, "take")?, Reply::Busy { blocker: 0 }); // the second may yet be aborted
+//! second.commit()?;
+//! assert_eq!((third.call(0, "take")?, store.kept(0)?), (Reply::Operation(0), 3));
 //! # Ok::<(), colock::Error>(())
 //! ```
 //!
@@ -120,6 +145,7 @@
 //! What each call of the library does is proved, and so is what the program `colock serve` answers. This crate is
 //! tested only: its layer of `unsafe` calls, and all of the waiting and of the child.
 
+mod bounds;
 mod calling;
 mod calls;
 mod child;

@@ -210,12 +210,7 @@ fn objects_of(lines: &str, link: &Link) -> Result<Vec<ObjectLine>, Error> {
 
 fn object_of(line: &str) -> Option<ObjectLine> {
     let (kind, place) = line.strip_prefix("object ")?.split_once(' ')?;
-    let kind = match kind {
-        "undo" => Kind::Undo,
-        "intentions" => Kind::Intentions,
-        _ => return None,
-    };
-    Some((kind, place.parse().ok()?))
+    Some((Kind::of_word(kind)?, place.parse().ok()?))
 }
 
 /// The texts of types, each of which ends in an empty line.
@@ -299,6 +294,7 @@ mod tests {
     #[test]
     fn objects_and_texts_are_read() {
         assert_eq!((object_of("object undo 0"), object_of("object intentions 12")), (Some((Kind::Undo, 0)), Some((Kind::Intentions, 12))));
+        assert_eq!(object_of("object escrow 255"), Some((Kind::Escrow, 255)));
         assert_eq!((object_of("object redo 0"), object_of("object undo"), object_of("undo 0")), (None, None, None));
         assert_eq!(texts_of("type a\nend\n\ntype b\nend\n\n"), ["type a\nend\n", "type b\nend\n"]);
     }
@@ -307,10 +303,12 @@ mod tests {
     fn types_are_compared() {
         let make = |cap, kind| Type::counter(cap, &[1], kind).unwrap();
         let (five, again, six, deferred) = (make(5, Kind::Undo), make(5, Kind::Undo), make(6, Kind::Undo), make(5, Kind::Intentions));
+        let (escrow, another) = (make(5, Kind::Escrow), make(5, Kind::Escrow));
         assert!(are_same(&[&five, &five], &[&again, &again]));
         assert!(!are_same(&[&five], &[&again, &again]));
         assert!(!are_same(&[&five, &five], &[&again, &six]));
-        assert!(!are_same(&[&five], &[&deferred]));
+        assert!(!are_same(&[&five], &[&deferred]) && !are_same(&[&deferred], &[&escrow]));
+        assert!(are_same(&[&escrow], &[&another]) && !are_same(&[&escrow], &[&make(6, Kind::Escrow)]));
         let all = "type c\nstates 2\ninitial 0\nop a b\nstep 0 0 1\nconflict undo 0 0\nend\n";
         let none = all.replace("conflict undo 0 0\n", "");
         let other = all.replace("step 0 0 1", "step 1 0 0");

@@ -250,7 +250,8 @@ impl SharedStore {
         self.calls_at(object)?.number(name).ok_or(Error::NoCall)
     }
 
-    /// The state that is kept of an object: of [`Kind::Undo`](crate::Kind::Undo) with what open transactions did.
+    /// The state that is kept of an object: of [`Kind::Undo`](crate::Kind::Undo) with what open transactions did, else
+    /// without it.
     ///
     /// ```
     /// # use colock::{Error, Kind, SharedStore, Type};

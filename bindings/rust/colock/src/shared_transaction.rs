@@ -74,8 +74,8 @@ impl<'s> SharedTransaction<'s> {
         }
     }
 
-    /// Calls the call of this name at an object. It doesn't wait: it is [`Reply::Busy`] where another transaction
-    /// holds an operation with which it conflicts, and where it would overtake an older one that waits at the object.
+    /// Calls the call of this name at an object. It doesn't wait: it is [`Reply::Busy`] where what another transaction
+    /// did is in its way, and where it would overtake an older one that waits at the object.
     ///
     /// ```
     /// # use colock::{Kind, Reply, SharedStore, Type};

@@ -17,7 +17,8 @@ use std::time::Duration;
 pub struct Stats {
     /// Transactions that committed.
     pub commits: u64,
-    /// Transactions that were aborted by this client: by a call, a drop, an error, or as victims.
+    /// Transactions of this client that were aborted: by a call, a drop, an error, as victims, or by the end of their
+    /// epoch.
     pub aborts: u64,
     /// For each object, how many calls there were answered busy, and how many sleeps were begun there.
     pub busy: Vec<u64>,

@@ -1,6 +1,6 @@
 use crate::error::Error;
 use crate::types::{Kind, Type};
-use std::collections::HashMap;
+use std::collections::{BTreeSet, HashMap};
 use std::fmt::{self, Write};
 use std::hash::Hash;
 
@@ -16,7 +16,8 @@ const LONGEST_NAME: usize = 32;
 impl Type {
     /// The type whose steps a function tells. An operation is a call with its reply. The function tells the state
     /// to which an operation leads, or `None` where it isn't legal. States are found from `initial` on, breadth
-    /// first, and numbered as they are found. Which operations conflict is found out and checked.
+    /// first, and numbered as they are found; for [`Kind::Escrow`] in ascending order, so that a number may begin in the
+    /// middle. Which operations conflict is found out and checked.
     ///
     /// ```
     /// use colock::{Kind, Type};
@@ -40,7 +41,7 @@ impl Type {
     /// operations, [`Error::BadParameter`] where a word isn't a name (1 to 32 bytes of `a` to `z`, `0` to `9`, `_`,
     /// `:` and `-`) or there is no operation, [`Error::BadText`] where an operation comes twice, and as of
     /// [`Type::with_made_tables`].
-    pub fn from_steps<S: Clone + Eq + Hash>(
+    pub fn from_steps<S: Clone + Ord + Hash>(
         name: &str,
         initial: S,
         operations: &[(&str, &str)],
@@ -55,7 +56,8 @@ impl Type {
             return Err(Error::TooLarge);
         }
         let found = Found::of(initial, operations, step)?;
-        Type::with_made_tables(found.text(name, operations), kind)
+        let numbers = if kind == Kind::Escrow { found.ascending() } else { (0..found.states.len()).collect() };
+        Type::with_made_tables(found.text(name, operations, &numbers), kind)
     }
 }
 
@@ -73,7 +75,7 @@ struct Found<S> {
     made: Vec<usize>,
 }
 
-impl<S: Clone + Eq + Hash> Found<S> {
+impl<S: Clone + Ord + Hash> Found<S> {
     fn of(initial: S, operations: &[(&str, &str)], mut step: impl FnMut(&S, (&str, &str)) -> Option<S>) -> Result<Found<S>, Error> {
         let numbers = HashMap::from([(initial.clone(), 0)]);
         let mut found = Found { numbers, states: vec![initial], steps: Vec::new(), made: vec![0; operations.len()] };
@@ -102,10 +104,23 @@ impl<S: Clone + Eq + Hash> Found<S> {
         }
     }
 
-    fn text(&self, name: &str, operations: &[(&str, &str)]) -> String {
-        let mut text = format!("type {name}\nstates {}\ninitial 0\n", self.states.len());
+    /// The place of each state in ascending order.
+    fn ascending(&self) -> Vec<usize> {
+        let sorted: BTreeSet<&S> = self.states.iter().collect();
+        let mut numbers = vec![0; self.states.len()];
+        for (place, state) in sorted.into_iter().enumerate() {
+            numbers[self.numbers[state]] = place;
+        }
+        numbers
+    }
+
+    /// The text of the type, in which the states have these numbers.
+    fn text(&self, name: &str, operations: &[(&str, &str)], numbers: &[usize]) -> String {
+        let mut steps: Vec<(usize, usize, usize)> = self.steps.iter().map(|&(from, k, to)| (numbers[from], k, numbers[to])).collect();
+        steps.sort_unstable();
+        let mut text = format!("type {name}\nstates {}\ninitial {}\n", self.states.len(), numbers[0]);
         text.extend(operations.iter().map(|(call, reply)| format!("op {call} {reply}\n")));
-        text.extend(self.steps.iter().map(|(from, k, to)| format!("step {from} {k} {to}\n")));
+        text.extend(steps.iter().map(|(from, k, to)| format!("step {from} {k} {to}\n")));
         text.push_str("end\n");
         text
     }
@@ -120,21 +135,30 @@ fn too_many(operations: &[(&str, &str)], made: &[usize]) -> Error {
 }
 
 /// The grid of conflicts: a row for each operation that is requested, and a column for each that is held, by its
-/// number. An `x` is where they conflict.
+/// number. An `x` is where they conflict. Of [`Kind::Escrow`] a line says that there is no conflict table.
 ///
 /// ```
-/// # let counter = colock::Type::counter(5, &[1], colock::Kind::Undo)?;
+/// # use colock::{Kind, Type};
+/// # let counter = Type::counter(5, &[1], Kind::Undo)?;
 /// let grid = "counter, undo, 6 states\n           0 1\n0 inc:1 ok . x\n1 dec:1 ok x .\n";
 /// assert_eq!(counter.to_string(), grid);
+/// let stock = Type::counter(5, &[1], Kind::Escrow)?;
+/// assert_eq!(stock.to_string(), "counter, escrow, 6 states, no conflict table\n");
 /// # Ok::<(), colock::Error>(())
 /// ```
 impl fmt::Display for Type {
     fn fmt(&self, f: &mut fmt::Formatter<'_>) -> fmt::Result {
-        let kind = match self.kind() {
-            Kind::Undo => "undo",
-            Kind::Intentions => "intentions",
-        };
-        writeln!(f, "{}, {kind}, {} states", self.name(), self.states())?;
+        write!(f, "{}, {}, {} states", self.name(), self.kind(), self.states())?;
+        if self.kind() == Kind::Escrow {
+            return f.write_str(", no conflict table\n");
+        }
+        f.write_str("\n")?;
+        self.write_grid(f)
+    }
+}
+
+impl Type {
+    fn write_grid(&self, f: &mut fmt::Formatter<'_>) -> fmt::Result {
         let operations = self.operations();
         let widest = operations.saturating_sub(1).to_string().len();
         let rows = (0..operations).map(|requested| self.row_name(requested, widest)).collect::<Result<Vec<String>, fmt::Error>>()?;
@@ -146,9 +170,7 @@ impl fmt::Display for Type {
         }
         Ok(())
     }
-}
 
-impl Type {
     /// What is in front of a row of the grid.
     fn row_name(&self, requested: u64, widest: usize) -> Result<String, fmt::Error> {
         let call = self.call_name(requested).map_err(|_| fmt::Error)?;

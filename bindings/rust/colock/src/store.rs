@@ -141,7 +141,8 @@ impl Store {
         Ok(call)
     }
 
-    /// The state that is kept of an object: of [`Kind::Undo`](crate::Kind::Undo) with what open transactions did.
+    /// The state that is kept of an object: of [`Kind::Undo`](crate::Kind::Undo) with what open transactions did, else
+    /// without it.
     ///
     /// ```
     /// # use colock::{Error, Kind, Store, Type};

@@ -104,6 +104,7 @@ impl State {
     pub(crate) fn told_life(&mut self, life: u64) {
         if let (Held::Child(served), true) = (&mut self.held, life > self.life) {
             self.life = life;
+            self.stats.aborts += served.open.len() as u64;
             served.open.clear();
             self.waiting.release_all(Verdict::EpochEnded);
         }

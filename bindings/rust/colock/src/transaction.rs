@@ -10,7 +10,7 @@ use std::mem;
 pub enum Reply {
     /// This operation was executed. [`Type::reply_name`](crate::Type::reply_name) tells its reply.
     Operation(u64),
-    /// It conflicts with an operation that another transaction holds, and nothing was executed.
+    /// What another transaction did is in its way, and nothing was executed.
     Busy {
         /// The other transaction: ask again when it has ended, or abort.
         blocker: u64,

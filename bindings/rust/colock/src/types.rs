@@ -11,18 +11,46 @@ pub enum Kind {
     Undo = 0,
     /// Each transaction keeps its operations by itself until it commits.
     Intentions = 1,
+    /// The same of a number: what has to wait is told by how far others may move it, and by no conflict table.
+    ///
+    /// A type has to be numeric: each operation is legal from a lowest to a highest state, and moves all of these as far.
+    /// A counter and an account are, a set isn't, and a semiqueue is where it has one element, or a capacity of 1.
+    Escrow = 2,
+}
+
+impl Kind {
+    /// The kind of a word in the lines of objects.
+    pub(crate) fn of_word(word: &str) -> Option<Kind> {
+        [Kind::Undo, Kind::Intentions, Kind::Escrow].into_iter().find(|kind| kind.word() == word)
+    }
+
+    fn word(self) -> &'static str {
+        match self {
+            Kind::Undo => "undo",
+            Kind::Intentions => "intentions",
+            Kind::Escrow => "escrow",
+        }
+    }
+}
+
+/// The word of the kind, as in the lines of objects: `undo`, `intentions` or `escrow`.
+impl fmt::Display for Kind {
+    fn fmt(&self, f: &mut fmt::Formatter<'_>) -> fmt::Result {
+        f.write_str(self.word())
+    }
 }
 
 /// The type of an object: states, operations, and which operations conflict, checked for a [`Kind`].
 ///
-/// Many objects of many stores may have one type, and outlive it. It is displayed as the grid of its conflicts.
+/// Many objects of many stores may have one type, and outlive it. It is displayed as the grid of its conflicts, and one
+/// of [`Kind::Escrow`] by a line that says that it has no conflict table.
 pub struct Type {
     handle: Handle,
     source: Source,
 }
 
 impl Type {
-    /// The type of a text, with its own conflicts.
+    /// The type of a text, with its own conflicts, which for [`Kind::Escrow`] aren't looked at.
     ///
     /// ```
     /// use colock::{Error, FaultKind, Kind, Type};
@@ -207,7 +235,8 @@ impl Type {
     pub fn kind(&self) -> Kind {
         match self.shape().kind {
             0 => Kind::Undo,
-            _ => Kind::Intentions,
+            1 => Kind::Intentions,
+            _ => Kind::Escrow,
         }
     }
 
@@ -277,7 +306,8 @@ impl Type {
         }
     }
 
-    /// Whether an operation that is requested conflicts with one that another transaction holds.
+    /// Whether an operation that is requested conflicts with one that another transaction holds. Of [`Kind::Escrow`] none
+    /// do, since it has no conflict table.
     ///
     /// ```
     /// # let counter = colock::Type::counter(5, &[1], colock::Kind::Undo)?;

@@ -5,6 +5,11 @@ use colock::{CheckRefusal, Error, Event, FaultKind, Kind, Reply, Store, Type};
 const CTR2: &str = "type counter\nstates 3\ninitial 0\nop inc:1 ok\nop dec:1 ok\nstep 0 0 1\nstep 1 0 2\nstep 1 1 0\nstep 2 1 1\n\
     conflict undo 0 1\nconflict undo 1 0\nconflict intentions 0 0\nconflict intentions 1 1\nend\n";
 
+/// A number from 0 to 5, at 3: one is given or two are taken, and there may not be two. Its set lacks the initial state.
+const FIVE: &str = "type five\nstates 6\ninitial 3\nop give:1 ok\nop take:2 ok\nop take:2 short\n\
+    step 0 0 1\nstep 0 2 0\nstep 1 0 2\nstep 1 2 1\nstep 2 0 3\nstep 2 1 0\nstep 3 0 4\nstep 3 1 1\nstep 4 0 5\n\
+    step 4 1 2\nstep 5 1 3\nreach 0\nequi 0 1\nconflict undo 0 0\nend\n";
+
 fn counters(objects: usize, max_events: u64) -> Store {
     let counter = Type::read(CTR2, Kind::Undo).unwrap();
     Store::new(std::iter::repeat_n(&counter, objects), max_events).unwrap()
@@ -45,6 +50,72 @@ fn types_are_refused() {
         assert_eq!(Type::read(format!("{four}{rest}"), Kind::Undo).err(), Some(Error::Refused(refusal)));
     }
     assert_eq!(Error::Refused(rows[3].1).to_string(), "the checker refuses the type: NotCommuting 1 0 2");
+}
+
+#[test]
+fn what_is_no_number_is_refused() {
+    let gap = "type c\nstates 4\ninitial 0\nop a b\nop c d\nstep 0 0 0\nstep 0 1 0\nstep 2 1 2\nend\n";
+    let rows = [
+        // put in, an element moves the empty set by one, and a set that has it by nothing
+        (Type::set(&["a"], Kind::Escrow), 0, 1),
+        // with two of b there is no room for a, and with none, and with one of a, there is
+        (Type::semiqueue(&["a", "b"], 2, Kind::Escrow), 0, 2),
+        (Type::read(gap, Kind::Escrow), 1, 1),
+        (Type::with_made_tables(gap, Kind::Escrow), 1, 1),
+    ];
+    for (refused, operation, state) in rows {
+        let error = refused.unwrap_err();
+        assert_eq!(error, Error::Refused(CheckRefusal::NotNumeric { operation, state }));
+        assert_eq!(error.to_string(), format!("the checker refuses the type: NotNumeric {operation} {state}"));
+    }
+}
+
+#[test]
+fn numbers_are_accepted_for_escrow() {
+    let types = [
+        Type::read(FIVE, Kind::Escrow),
+        Type::with_made_tables(FIVE, Kind::Escrow),
+        Type::counter(5, &[1, 2], Kind::Escrow),
+        Type::account(5, &[1, 2], Kind::Escrow),
+        Type::semiqueue(&["a"], 9, Kind::Escrow),
+        Type::semiqueue(&["a", "b"], 1, Kind::Escrow),
+    ];
+    for made in types {
+        let made = made.unwrap();
+        let count = made.operations();
+        assert!((0..count * count).all(|pair| made.conflicts(pair / count, pair % count) == Ok(false)));
+        assert_eq!((made.kind(), made.conflicts(0, count)), (Kind::Escrow, Err(Error::NoOperation)));
+    }
+    let five = Type::read(FIVE, Kind::Escrow).unwrap();
+    assert_eq!((five.initial(), five.step(3, 1), five.step(1, 1)), (3, Ok(Some(1)), Ok(None)));
+    assert_eq!(five.to_string(), "five, escrow, 6 states, no conflict table\n");
+    // the other kinds look at the set, which lacks the initial state
+    for kind in [Kind::Undo, Kind::Intentions] {
+        assert_eq!(Type::read(FIVE, kind).err(), Some(Error::Refused(CheckRefusal::InitialOutside)));
+    }
+    let words: Vec<String> = [Kind::Undo, Kind::Intentions, Kind::Escrow].iter().map(Kind::to_string).collect();
+    assert_eq!(words, ["undo", "intentions", "escrow"]);
+}
+
+#[test]
+fn a_number_in_escrow_is_used() {
+    let five = Type::read(FIVE, Kind::Escrow).unwrap();
+    let mut store = Store::new([&five], 100).unwrap();
+    let (mut t, mut u, mut v) = (store.begin().unwrap(), store.begin().unwrap(), store.begin().unwrap());
+    assert_eq!((t.call(0, "take:2"), u.call(0, "give:1"), store.kept(0)), (Ok(Reply::Operation(1)), Ok(Reply::Operation(0)), Ok(3)));
+    // there may be one left for a second take
+    assert_eq!((v.would(0, "take:2"), v.call(0, "take:2")), (Ok(Reply::Busy { blocker: 0 }), Ok(Reply::Busy { blocker: 0 })));
+    t.abort().unwrap();
+    assert_eq!(v.call(0, "take:2"), Ok(Reply::Operation(1)));
+    u.commit().unwrap();
+    assert_eq!(store.kept(0), Ok(4));
+    v.commit().unwrap();
+    let other = Store::new([&five], 100).unwrap();
+    other.follow(&store.events(0).unwrap()).unwrap();
+    assert_eq!((store.kept(0), other.kept(0)), (Ok(2), Ok(2)));
+    store.renew().unwrap();
+    let mut t = store.begin().unwrap();
+    assert_eq!((t.call(0, "take:2"), t.call(0, "take:2"), store.kept(0)), (Ok(Reply::Operation(1)), Ok(Reply::Operation(2)), Ok(2)));
 }
 
 #[test]

@@ -79,16 +79,45 @@ fn types_of_each_source_are_made() {
         Type::set(&["-a", "b"], Kind::Undo).unwrap(),
         Type::semiqueue(&["mail", "report"], 2, Kind::Undo).unwrap(),
         wheel(),
+        Type::account(5, &[1, 2], Kind::Escrow).unwrap(),
+        Type::read(texts, Kind::Escrow).unwrap(),
+        Type::from_steps("box", 2, &[("put", "ok"), ("get", "ok")], Kind::Escrow, step_of_a_box).unwrap(),
     ];
     let objects: Vec<&Type> = types.iter().chain([&types[0], &types[3]]).collect();
     let store = OpenOptions::new().objects(&objects).create(true).program(program()).open(folder.file("a.db")).unwrap();
     let mut t = store.begin().unwrap();
-    for (object, call) in ["raise", "raise", "deposit:2", "insert:-a", "enq:mail", "tick", "raise", "member:b"].into_iter().enumerate() {
+    let calls = ["raise", "raise", "deposit:2", "insert:-a", "enq:mail", "tick", "deposit:1", "raise", "put", "raise", "member:b"];
+    for (object, call) in calls.into_iter().enumerate() {
         assert!(matches!(t.call(object as u32, call), Ok(Reply::Operation(_))), "{call}");
     }
     assert_eq!(t.call(3, "member:-a"), Ok(Reply::Operation(types[3].operation("member:-a", "true").unwrap())));
     t.commit().unwrap();
+    assert_eq!((store.kept(6), store.kept(7), store.kept(8)), (Ok(1), Ok(1), Ok(3)));
     store.close().unwrap();
+}
+
+/// Puts and gets of a box for three pieces.
+fn step_of_a_box(pieces: &u32, (call, _): (&str, &str)) -> Option<u32> {
+    match call {
+        "put" => (*pieces < 3).then_some(pieces + 1),
+        _ => pieces.checked_sub(1),
+    }
+}
+
+#[test]
+fn a_number_in_escrow_is_opened_again() {
+    let (folder, five) = (Folder::new(), kept(Type::counter(5, &[1, 2], Kind::Escrow).unwrap()));
+    let store = options(&[five]).open(folder.file("a.db")).unwrap();
+    let (mut t, mut u) = (store.begin().unwrap(), store.begin().unwrap());
+    assert_eq!((t.call(0, "inc:2"), u.call(0, "inc:1")), (Ok(Reply::Operation(2)), Ok(Reply::Operation(0))));
+    assert_eq!(store.kept(0), Ok(0));
+    t.commit().unwrap();
+    assert_eq!(store.kept(0), Ok(2));
+    kill(&store);
+    drop(u);
+    drop(store);
+    let again = options(&[five]).open(folder.file("a.db")).unwrap();
+    assert_eq!((again.kept(0), again.begin().unwrap().call(0, "dec:2")), (Ok(2), Ok(Reply::Operation(3))));
 }
 
 #[test]
@@ -98,7 +127,8 @@ fn other_objects_are_refused() {
     options(&[kept(counter())]).open(&path).unwrap().close().unwrap();
     let deferred = kept(Type::counter(1000, &[1, 500], Kind::Intentions).unwrap());
     let smaller = kept(Type::counter(999, &[1, 500], Kind::Undo).unwrap());
-    for objects in [&[kept(counter()), kept(counter())][..], &[deferred], &[smaller], &[kept(wheel())]] {
+    let escrow = kept(Type::counter(1000, &[1, 500], Kind::Escrow).unwrap());
+    for objects in [&[kept(counter()), kept(counter())][..], &[deferred], &[smaller], &[escrow], &[kept(wheel())]] {
         assert_eq!(options(objects).open(&path).err(), Some(Error::OtherObjects));
     }
     assert!(options(&[kept(counter())]).open(&path).is_ok());

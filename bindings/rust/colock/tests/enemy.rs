@@ -36,15 +36,35 @@ fn random_type(name: &str, kind: Kind, drawn: &mut Drawn) -> Type {
     Type::from_steps(name, 0_u64, &operations, kind, |state, operation| table[(state * 4 + place(operation)) as usize]).unwrap()
 }
 
+/// A number of random operations, each of which is legal from a lowest to a highest state, and moves these as far.
+fn random_number(drawn: &mut Drawn) -> Type {
+    let top = 3 + drawn.below(4);
+    let mut text = format!("type number\nstates {}\ninitial {}\nop a x\nop a y\nop b x\nop c x\n", top + 1, drawn.below(top + 1));
+    let mut steps = Vec::new();
+    for k in 0..4 {
+        let (one, other) = (drawn.below(top + 1), drawn.below(top + 1));
+        let (low, high) = (one.min(other), one.max(other));
+        // it leads the lowest to any number from which the highest stays inside
+        let first = drawn.below(top - (high - low) + 1);
+        steps.extend((low..=high).map(|state| (state, k, first + state - low)));
+    }
+    steps.sort_unstable();
+    text.extend(steps.iter().map(|(state, k, to)| format!("step {state} {k} {to}\n")));
+    Type::read(text + "end\n", Kind::Escrow).unwrap()
+}
+
 /// The four types of a seed.
 fn types_of(drawn: &mut Drawn) -> [Type; 4] {
     let one = random_type("one", Kind::Undo, drawn);
     let other = random_type("other", Kind::Intentions, drawn);
     let counter = Type::counter(4, &[1, 2], Kind::Undo).unwrap();
-    match drawn.below(3) {
+    match drawn.below(6) {
         0 => [one, other, counter, Type::account(3, &[1], Kind::Intentions).unwrap()],
         1 => [one, other, counter, Type::set(&["a", "b"], Kind::Intentions).unwrap()],
-        _ => [one, other, counter, Type::semiqueue(&["a", "b"], 2, Kind::Undo).unwrap()],
+        2 => [one, other, counter, Type::semiqueue(&["a", "b"], 2, Kind::Undo).unwrap()],
+        3 => [one, other, counter, Type::account(3, &[1], Kind::Escrow).unwrap()],
+        4 => [one, other, Type::counter(4, &[1, 2], Kind::Escrow).unwrap(), random_number(drawn)],
+        _ => [random_number(drawn), random_number(drawn), counter, random_number(drawn)],
     }
 }
 
@@ -223,8 +243,7 @@ fn fight(store: &SharedStore, types: &[Type], transactions: u64, seed: u64) {
 
 /// What an audit says of the history.
 fn audited(store: &SharedStore, types: &[Type], folder: &Folder) -> String {
-    let kind = |of: &Type| if of.kind() == Kind::Undo { "undo" } else { "intentions" };
-    let mut history: String = types.iter().enumerate().map(|(place, of)| format!("object {} {place}\n", kind(of))).collect();
+    let mut history: String = types.iter().enumerate().map(|(place, of)| format!("object {} {place}\n", of.kind())).collect();
     for event in store.events(0).unwrap() {
         history += &format!("{event}\n");
     }

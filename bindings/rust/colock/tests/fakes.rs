@@ -282,6 +282,7 @@ fn transactions_of_an_epoch_that_ended_are_told_so() {
         assert_eq!(first.commit(), Err(Error::EpochEnded));
         assert_eq!(third.commit(), Ok(()));
     });
+    assert_eq!((store.stats().commits, store.stats().aborts), (1, 2));
     // without a word of a begin, a refusal says so
     assert_eq!(store.close(), Ok(()));
     let fake = fake.serving_again("begin) echo \"$tag ok 1.0\" ;; commit | call) echo \"$tag refused NotOpen\" ;;");

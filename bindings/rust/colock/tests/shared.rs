@@ -289,6 +289,19 @@ fn types_are_made_of_steps() {
 }
 
 #[test]
+fn steps_of_a_number_in_escrow_are_in_ascending_order() {
+    let operations = [("give", "ok"), ("take", "ok")];
+    let step = |pieces: &i32, (call, _): (&str, &str)| Some(if call == "give" { pieces + 1 } else { pieces - 1 }).filter(|to| (5..=9).contains(to));
+    let stock = Type::from_steps("stock", 7, &operations, Kind::Escrow, step).unwrap();
+    assert_eq!((stock.initial(), stock.states()), (2, 5));
+    let gives: Vec<Option<u64>> = (0..5).map(|state| stock.step(state, 0).unwrap()).collect();
+    assert_eq!(gives, [Some(1), Some(2), Some(3), Some(4), None]);
+    // as they are found: 7, 8, 6, 9, 5
+    let found = Type::from_steps("stock", 7, &operations, Kind::Undo, step).unwrap();
+    assert_eq!((found.initial(), found.step(0, 1), found.step(1, 0), found.step(2, 1)), (0, Ok(Some(2)), Ok(Some(3)), Ok(Some(4))));
+}
+
+#[test]
 fn types_of_steps_have_limits() {
     let up = [("dec", "ok"), ("inc", "ok")];
     let many = Type::from_steps("line", 0_u32, &up, Kind::Undo, |state, (call, _)| (call == "inc").then_some(state + 1));

@@ -3,8 +3,8 @@
 #[macro_use]
 mod common;
 
-use colock::{Error, Reply, Retry, SharedStore, SharedTransaction};
-use common::{filled, lines, until_asleep, Make, LONG};
+use colock::{Error, Kind, Reply, Retry, SharedStore, SharedTransaction, Type};
+use common::{filled, lines, until_asleep, Fixture, Make, LONG};
 use std::sync::atomic::{AtomicBool, AtomicU64, Ordering};
 use std::sync::Barrier;
 use std::thread;
@@ -38,6 +38,9 @@ over_both![
     a_retry_keeps_its_age,
     a_swallowed_deadlock_is_no_commit,
     stats_count,
+    a_take_in_escrow_waits_for_a_take,
+    the_gate_of_a_number_lets_gives_pass,
+    takes_in_escrow_deadlock,
 ];
 
 /// A transaction that counts an object up, by 1.
@@ -462,4 +465,65 @@ fn stats_count(make: Make) {
     assert_eq!((stats.commits, stats.aborts, &stats.busy[..], stats.waits), (3, 1, &[0, 2][..], 1));
     assert_eq!((stats.timeouts, stats.deadlocks), (1, 0));
     assert!((SHORT..SHORT + AT_ONCE).contains(&stats.waited), "{:?}", stats.waited);
+}
+
+/// A store of counters up to 5 in escrow, each with so many pieces.
+fn pieces(make: Make, objects: u32, count: u64) -> Fixture {
+    let of = Type::counter(5, &[1], Kind::Escrow).unwrap();
+    let store = make(&vec![&of; objects as usize]);
+    for object in (0..objects).flat_map(|object| (0..count).map(move |_| object)) {
+        store.transact(|turn| turn.call(object, "inc:1")?.executed()).unwrap();
+    }
+    store
+}
+
+/// A transaction that takes so many pieces.
+fn taker(store: &SharedStore, object: u32, count: u64) -> SharedTransaction<'_> {
+    let mut taker = store.begin().unwrap();
+    assert!((0..count).all(|_| taker.call(object, "dec:1") == Ok(Reply::Operation(1))));
+    taker
+}
+
+fn a_take_in_escrow_waits_for_a_take(make: Make) {
+    let store = pieces(make, 1, 1);
+    let (first, second) = (taker(&store, 0, 1), store.begin().unwrap());
+    thread::scope(|scope| {
+        let waiter = scope.spawn(|| waiting(second, 0));
+        until_asleep(&store, 1);
+        assert_eq!(store.kept(0), Ok(1)); // without what is open
+        first.abort().unwrap();
+        assert_eq!(waiter.join().unwrap().0, Ok(Reply::Operation(1)));
+    });
+    assert_eq!(store.kept(0), Ok(0));
+}
+
+fn the_gate_of_a_number_lets_gives_pass(make: Make) {
+    let store = pieces(make, 1, 2);
+    let (first, older, mut younger) = (taker(&store, 0, 2), store.begin().unwrap(), store.begin().unwrap());
+    let name = older.number();
+    thread::scope(|scope| {
+        let waiter = scope.spawn(|| waiting(older, 0));
+        until_asleep(&store, 1);
+        // a take goes behind the one that waits; a give is in no take's way
+        assert_eq!((younger.call(0, "dec:1"), younger.would(0, "dec:1")), (Ok(Reply::Busy { blocker: name }), Ok(Reply::Busy { blocker: name })));
+        assert_eq!(younger.call(0, "inc:1"), Ok(Reply::Operation(0)));
+        first.abort().unwrap();
+        assert_eq!(waiter.join().unwrap().0, Ok(Reply::Operation(1)));
+    });
+    assert_eq!((younger.call(0, "dec:1"), store.kept(0)), (Ok(Reply::Operation(1)), Ok(1)));
+    younger.commit().unwrap();
+    assert_eq!(store.kept(0), Ok(1));
+}
+
+fn takes_in_escrow_deadlock(make: Make) {
+    let store = pieces(make, 2, 1);
+    let (older, younger) = (taker(&store, 0, 1), taker(&store, 1, 1));
+    let blocker = older.number();
+    thread::scope(|scope| {
+        let victim = scope.spawn(|| waiting(younger, 0));
+        until_asleep(&store, 1);
+        assert_eq!(waiting(older, 1).0, Ok(Reply::Operation(1)));
+        assert_eq!(victim.join().unwrap().0, Err(Error::Deadlock { waited_for: blocker }));
+    });
+    assert_eq!((store.kept(0), store.kept(1), store.stats().deadlocks), (Ok(0), Ok(0), 1));
 }
