@@ -2,7 +2,8 @@
 
 It is written from docs/formats.md and docs/model.md and shares nothing with the program. For each line it works out
 from the whole history, anew, who is open, what lives, what a transaction sees and who is in its way. Of a deferred
-object it keeps the serial state; so it is a model of types no two states of which look alike.
+object it keeps the serial state; so it is a model of types whose texts relate no two states. Of an object in escrow it
+goes through all fronts of what each transaction did, and through all numbers that such fronts may leave.
 """
 import re
 
@@ -69,7 +70,7 @@ class Type:
     def __init__(self, text):
         lines = [line.split() for line in text.splitlines()]
         of = lambda word: [line[1:] for line in lines if line[:1] == [word]]
-        self.lines, self.initial = lines, int(of("initial")[0][0])
+        self.lines, self.initial, self.states = lines, int(of("initial")[0][0]), int(of("states")[0][0])
         self.ops = [tuple(line) for line in of("op")]
         self.next = {(int(s), int(k)): int(t) for s, k, t in of("step")}
         self.conflicts = {(kind, int(p), int(q)) for kind, p, q in of("conflict")}
@@ -83,6 +84,56 @@ class Type:
 
     def operations(self, call):
         return [k for k, op in enumerate(self.ops) if op[0] == call]
+
+    def moves(self, k):
+        """How far an operation moves each state in which it is legal."""
+        return {s: self.next[s, k] - s for s in range(self.states) if (s, k) in self.next}
+
+    def fault(self):
+        """The first operation, and its first state, by which the type isn't numeric; or none."""
+        for k in range(len(self.ops)):
+            moves = self.moves(k)
+            for s in range(self.states):
+                is_gap = s not in moves and any(r < s for r in moves) and any(r > s for r in moves)
+                if is_gap or s in moves and moves[s] != moves[min(moves)]:
+                    return k, s
+        return None
+
+
+class Number:
+    """A number in escrow: what is committed, and what each open transaction did there."""
+
+    def __init__(self, type_, base, own):
+        self.type, self.base, self.own = type_, base, own
+
+    def fronts(self, t):
+        """How far each front of what a transaction did moves the number: a rollback may leave any."""
+        moves = [min(self.type.moves(k).values(), default=0) for k in self.own[t]]
+        return {sum(moves[:count]) for count in range(len(moves) + 1)}
+
+    def left_by_others(self, t):
+        """The numbers that the others may leave where a transaction commits, each of them a front of what it did."""
+        numbers = {self.base}
+        for u in self.own:
+            if u != t:
+                numbers = {number + move for number in numbers for move in self.fronts(u)}
+        return numbers
+
+    def is_legal_at(self, end, t):
+        """Whether what a transaction did is legal from the lowest or the highest of these."""
+        return self.type.run(end(self.left_by_others(t)), self.own[t]) is not None
+
+    def is_firm(self, t):
+        """Whether it is legal from each of these."""
+        return all(self.type.run(number, self.own[t]) is not None for number in self.left_by_others(t))
+
+    def keepers(self, t):
+        """The others that keep a transaction from what it did last."""
+        others = [u for u in self.own if u != t]
+        if self.is_firm(t):
+            return [u for u in others if not self.is_firm(u)]
+        low, high = self.is_legal_at(min, t), self.is_legal_at(max, t)
+        return [u for u in others if not low and min(self.fronts(u)) < 0 or not high and max(self.fronts(u)) > 0]
 
 
 class Seen:
@@ -158,10 +209,20 @@ class Model:
     def serial(self, s, x):
         return self.type_of(x).run(self.starts[x], s.serial(x))
 
+    def number(self, s, x, t, k):
+        """An object in escrow, where a transaction did this operation too."""
+        own = {t: []}
+        for u in {u for u, y, _ in s.stands if y == x and s.is_open(u)}:
+            own[u] = s.at(x, u)
+        return Number(self.type_of(x), self.serial(s, x), {**own, t: own[t] + [k]})
+
     def blocker(self, s, x, t, k):
-        """Who holds the earliest operation that this one conflicts with, or none."""
+        """Who holds the earliest operation that this one conflicts with, or, in escrow, that keeps the transaction from
+        this one; or none."""
         kind, conflicts = self.objects[x][0], self.type_of(x).conflicts
-        held = [u for u, y, q in s.stands if y == x and u != t and s.is_open(u) and (kind, k, q) in conflicts]
+        keepers = self.number(s, x, t, k).keepers(t) if kind == "escrow" else []
+        held = [(u, q) for u, y, q in s.stands if y == x and u != t and s.is_open(u)]
+        held = [u for u, q in held if u in keepers or (kind, k, q) in conflicts]
         return held[0] if held else None
 
     def event_of_call(self, s, t, x, call):
