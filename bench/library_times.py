@@ -1,4 +1,8 @@
-"""Times of the store behind its library: the same commands from Rattle, C and Rust, and what Python comes to."""
+"""Times of the store behind its library: the same commands from Rattle, C and Rust, and what Python comes to.
+
+From Rattle they are given to a store of objects of any kind of recovery, as the library's is, and to one of objects of
+one kind.
+"""
 import os
 import subprocess
 import sys
@@ -51,12 +55,14 @@ def main(rounds):
     with tempfile.TemporaryDirectory() as folder:
         store_times.write_types(folder)
         subprocess.run(["make", "--quiet", "library"], cwd=os.path.join(BINDINGS, "c"), check=True)
-        programs = [[store_times.built("benches"), "store"], [program_of_c(folder)], [program_of_rust(folder)]]
+        benches = store_times.built("benches")
+        programs = [[benches, "objects"], [benches, "store"], [program_of_c(folder)], [program_of_rust(folder)]]
         print(f"{os.cpu_count()} processors, least of {store_times.TURNS} turns of {rounds} rounds")
-        print(f"{'nanoseconds a command':44} {'Rattle':>8} {'C':>8} {'Rust':>8} {'C more':>8} {'Rust more':>10}")
+        print(f"{'nanoseconds a command':44} {'Rattle':>8} {'C':>8} {'Rust':>8} {'C more':>8} {'Rust more':>10} {'one kind':>10}")
         for kind in store_times.KINDS:
             for workload in WORKLOADS:
                 words = store_times.words_of(folder, kind, workload, store_times.COMMANDS, rounds)
-                ours, c, rust = (it / store_times.COMMANDS for it in store_times.least(programs, words))
-                print(f"{store_times.title(kind, workload):44} {ours:8.1f} {c:8.1f} {rust:8.1f} {c - ours:8.1f} {rust - ours:10.1f}", flush=True)
+                ours, one_kind, c, rust = (it / store_times.COMMANDS for it in store_times.least(programs, words))
+                print(f"{store_times.title(kind, workload):44} {ours:8.1f} {c:8.1f} {rust:8.1f} {c - ours:8.1f} {rust - ours:10.1f} "
+                      f"{one_kind:10.1f}", flush=True)
         print(f"Python: {commands_of_python():,.0f} commands a second")

@@ -205,9 +205,9 @@ def show_following(folder, program, rounds):
             print(f"{title(kind, workload):44} {run / COMMANDS:8.1f} {follow / COMMANDS:8.1f} {follow / run:6.2f}", flush=True)
 
 
-def show_lasting(folder, program, millions):
+def show_lasting(folder, program, kind, millions):
     """The first and the last million of so many million events, and the most memory of the run."""
-    words = [*program, os.path.join(folder, "counter.type"), millions]
+    words = [*program, kind, os.path.join(folder, "counter.type"), millions]
     with subprocess.Popen(words, stdout=subprocess.PIPE, text=True) as run:
         lines = [line.split() for line in run.stdout]
         _, status, used = os.wait4(run.pid, 0)
@@ -236,7 +236,7 @@ def main(what, rounds):
     with tempfile.TemporaryDirectory() as folder:
         write_types(folder)
         if what == "lasting":
-            show_lasting(folder, [benches, "lasting"], rounds)
+            show_lasting(folder, [benches, "lasting"], "undo", rounds)
             return
         print(f"{os.cpu_count()} processors, least of {TURNS} turns of {rounds} rounds")
         if what == "follow":

@@ -1,9 +1,11 @@
 //! Plain workers over one object, to compare with: the same jobs under a lock on the whole object that
-//! is held to the end of the transaction, and over the plain store, whose locks are those of operations.
+//! is held to the end of the transaction, over the plain store, whose locks are those of operations, and at a
+//! plain number in escrow.
 //!
 //! `plain_workers LOCK KIND FILE WORKERS JOBS TRIES MICROSECONDS CALL...` prints the nanoseconds from
 //! the first worker's start to the last one's end, how many jobs committed, and how many calls were
-//! answered `Busy` and `None`. LOCK is `object` or `operations`. Each worker has a list of so many jobs. A
+//! answered `Busy` and `None`. LOCK is `object`,
+//! `operations` or `escrow`. Each worker has a list of so many jobs. A
 //! job is a begin, one of the CALLs in turn, and a commit, and is tried so often at the most: where the
 //! call has no reply, the transaction aborts. Between the call and the end the worker sleeps so many
 //! microseconds, if any. Built with `--cfg pausing`, a worker waits as those of `run_workers` do.
@@ -25,6 +27,7 @@ mod types;
 #[path = "../plain_store/undo.rs"]
 mod undo;
 
+mod escrow;
 mod object;
 mod operations;
 #[allow(dead_code)]
@@ -176,6 +179,12 @@ fn jobs_of(workers: usize, jobs: usize, names: &[String]) -> Vec<Vec<Job>> {
     (0..workers).map(list).collect()
 }
 
+/// How many states a type file says that its type has.
+fn states_of(text: &str) -> u16 {
+    let line = text.lines().find_map(|line| line.strip_prefix("states "));
+    number(line.expect("a number of states"))
+}
+
 fn number<T: std::str::FromStr>(word: &str) -> T {
     word.parse().ok().expect("a number")
 }
@@ -195,6 +204,7 @@ fn main() {
     };
     let (time, told) = match (lock.as_str(), kind.as_str()) {
         ("object", _) => object::run(work, jobs),
+        ("escrow", _) => escrow::run(work, states_of(&text), jobs),
         (_, "undo") => operations::run::<Undo, Waiting>(&table, work, jobs),
         _ => operations::run::<Intentions, Waiting>(&table, work, jobs),
     };
