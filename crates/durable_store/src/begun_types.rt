@@ -10,6 +10,7 @@ ghost use Rattle.durable_store.specs.Begun.{AreAlike, AreAt, AreRead, IsAt, IsAt
 ghost use Rattle.durable_store.specs.Types.{HasTypes};
 ghost use Rattle.type_text.specs.TypeFile.{Reads};
 
+use crate::format::check_format;
 use crate::open_error::OpenError;
 use journal::{FileContents, FirstState, JournalError, TypeText};
 use object_types::accept_types;
@@ -37,10 +38,13 @@ pub(crate) fn objects_of(alloc: Global, said: &FileContents) -> Result<Vec<Objec
 ///
 /// # Errors
 ///
-/// `Text`, `Untyped` or `NoMemory`, or `Journal` where there aren't as many states as objects.
+/// `Journal` where the file is of another format, or where there aren't as many states as objects; `Text`,
+/// `Untyped` or `NoMemory`.
 pub fn file_types(alloc: Global, said: &FileContents) -> Result<Vec<Arc<CheckedType>>, OpenError>
-    ensures { IfOk result (λ types. HasTypes (contents said.now) (map arc_value types.items)) }
+    ensures types { IfOk result (λ types. HasTypes (contents said.now) (map arc_value types.items)) }
+    ensures format { OnOk result (said.now.header.format ≡ 1) }
 {
+    check_format(said)?;
     let files = files_of(alloc, &said.types)?;
     let lines: &[ObjectLine] = &said.objects;
     let types = accept_types(alloc, &files, lines)?;

@@ -9,6 +9,7 @@ ghost use Rattle.durable_store.specs.Created.{IsLeft, IsNew};
 ghost use Rattle.durable_store.specs.Epochs.{firsts};
 
 use crate::begun_types::files_of;
+use crate::format::FORMAT;
 use crate::open_error::OpenError;
 use journal::{FileContents, FirstState, Header, Journal, TypeText};
 use object_types::accept_types;
@@ -17,9 +18,6 @@ use std::alloc::{AllocError, Global};
 use std::sync::Arc;
 use store_text::ObjectLine;
 use table_checker::CheckedType;
-
-/// The version of the tables that a store writes.
-const FORMAT: u32 = 1;
 
 /// Makes the file of a new store in these trees, of which there are none yet: with the texts of types, and objects
 /// that begin at the initial states of theirs. The bytes tell it from every other store.

@@ -7,6 +7,7 @@ mod creating;
 mod durable;
 mod ending;
 mod epochs;
+mod format;
 mod making;
 mod open_error;
 mod opening;

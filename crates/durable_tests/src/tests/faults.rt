@@ -83,6 +83,15 @@ fn with_a_stray<S: Alter + Drop>(rt: &(impl Abort + AllocGlobal), trees: S) -> S
     journal.into_store()
 }
 
+/// A file of another format isn't opened.
+#[test]
+fn another_format_is_told(rt: HostRuntime) {
+    let mut said = two_counters(&rt);
+    said.header.format = 2;
+    let trees = created(&rt, no_trees(&rt), &said);
+    assert!(rt; error_of(&rt, trees) == Some(OpenError::Journal(JournalError::Foreign)));
+}
+
 /// The second event isn't made.
 #[test]
 fn an_event_that_nothing_makes_is_told(rt: HostRuntime) {

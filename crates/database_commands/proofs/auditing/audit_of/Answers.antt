@@ -14,4 +14,4 @@ returns-clause-told c =
     let audits = subst (λ ts. history.Audits (map table_of ts) happened outcome) c.deref-2.ensures.value c.audit_types-outcome.ensures in
     let same = c.deref-3.ensures.value ∙ c.in_ok-events.ensures ∙ ap events c.deref.ensures.value in
     told_of c.told.result said outcome c.in_ok-text.text.items (λ audited. audited.verdict) (λ audited. audited.text.items)
-    (is_audit said c.in-Ok.types.items happened outcome c.in_ok-text.text.items c.in-Ok.ensures same audits c.in_ok-text.ensures.text) c.told.ensures.verdict c.told.ensures.text
+    (is_audit said c.in-Ok.types.items happened outcome c.in_ok-text.text.items c.in-Ok.ensures.types same audits c.in_ok-text.ensures.text) c.told.ensures.verdict c.told.ensures.text

@@ -12,8 +12,8 @@ types_at-requires-clause-alike c =
     subst (λ ts. AreAlike c.deref-lines.result.now (map value_of ts)) (sym c.deref-3.ensures.value)
     (alike c.deref-2.result.now c.deref-lines.result.now (map value_of c.in_ok-types.types.items) c.in_ok-types.ensures.accepted)
 
-pub returns : goal.returns
-returns c =
+pub returns-clause-types : goal.returns-clause-types
+returns-clause-types c =
     let said = contents c.args.said.now in
     let files = c.in_ok-files.files.items in
     let types = map value_of c.in_ok-types.types.items in

@@ -6,4 +6,4 @@ use Rattle.durable_store.proofs.begun_types.objects_of.Goals as goal
 
 pub returns-clause-types : goal.returns-clause-types
 returns-clause-types c =
-    subst (HasTypes (contents c.args.said.now)) (sym (c.in_ok-new_objects.ensures.types ∙ ap (map value_of) c.deref.ensures.value)) c.in_ok-begun.ensures
+    subst (HasTypes (contents c.args.said.now)) (sym (c.in_ok-new_objects.ensures.types ∙ ap (map value_of) c.deref.ensures.value)) c.in_ok-begun.ensures.types
