@@ -32,10 +32,6 @@ count_of t held = length (filter (is_by t) held)
 abbrev pub without : ℕ → List Held → List Held
 without t held = filter (λ e. not (is_by t e)) held
 
--- what is held, but for the last m of what t holds
-abbrev pub without_last : ℕ → ℕ → List Held → List Held
-without_last t m held = keep_first (is_by t) (count_of t held - m) held
-
 -- an entry stays where so many of t's may
 abbrev pub stays : ℕ → ℕ → Held → Bool
 stays t left e = not (is_by t e) || nat_lt 0 left

@@ -21,6 +21,20 @@ pub fn compact(held: &mut [Held], t: u32, first: usize) -> Kept
     ensures list { take result.count held.new ≡ keep_first (is_by t) first held.old }
     ensures word { HasBits result.word (take result.count held.new) }
 {
+    if first == 0 {
+        compact_others(held, t)
+    } else {
+        compact_both(held, t, first)
+    }
+}
+
+/// The same by a count of t's that may still stay.
+fn compact_both(held: &mut [Held], t: u32, first: usize) -> Kept
+    requires { All (λ e. e.op < 64) held.old }
+    ensures within { result.count ≤ length held.old }
+    ensures list { take result.count held.new ≡ keep_first (is_by t) first held.old }
+    ensures word { HasBits result.word (take result.count held.new) }
+{
     let mut left = first;
     let mut count = 0;
     let mut word = 0;
@@ -36,7 +50,7 @@ pub fn compact(held: &mut [Held], t: u32, first: usize) -> Kept
 }
 
 /// The same where none of t's stays, and so without a count of those that may.
-pub fn compact_others(held: &mut [Held], t: u32) -> Kept
+fn compact_others(held: &mut [Held], t: u32) -> Kept
     requires { All (λ e. e.op < 64) held.old }
     ensures within { result.count ≤ length held.old }
     ensures list { take result.count held.new ≡ keep_first (is_by t) 0 held.old }

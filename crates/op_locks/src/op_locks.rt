@@ -1,8 +1,8 @@
 ghost use Rattle.std.specs.Prelude.{◌≡◌, ◌≤◌, ◌<◌, ◌+◌, ◌++◌, ◌∷◌, [], All, length, IsOk, OnOk, OnErr};
-ghost use Rattle.op_locks.specs.Locks.{blocker, is_by, count_of, without, without_last};
+ghost use Rattle.op_locks.specs.Locks.{blocker, is_by, without};
 ghost use Rattle.object_trait.specs.Strike.{keep_first};
 
-use crate::compacting::{compact, compact_others};
+use crate::compacting::compact;
 use crate::held::Held;
 use object_trait::keeps_none;
 use smallvec::SmallVec;
@@ -92,38 +92,15 @@ impl OpLocks {
         ensures room { self.old.room ≤ self.new.room }
     {
         keeps_none::<Held>();
-        self.keep_others(t);
+        self.keep(t, 0);
     }
 
-    /// Takes out the last m of what the transaction t holds. The rest keeps its order.
-    pub fn release_last(&mut self, t: u32, m: u32)
-        requires { m ≤ count_of t self.old.held }
-        ensures list { self.new.held ≡ without_last t m self.old.held }
+    /// Leaves the first n of what the transaction t holds. The rest keeps its order.
+    pub fn release_behind(&mut self, t: u32, n: u32)
+        ensures list { self.new.held ≡ keep_first (is_by t) n self.old.held }
         ensures room { self.old.room ≤ self.new.room }
     {
-        let count = self.count(t);
-        self.keep(t, count - m as usize);
-    }
-
-    // How many operations t holds.
-    fn count(&self, t: u32) -> usize
-        ensures { result ≡ count_of t self.now.held }
-    {
-        self.held
-            .as_slice()
-            .iter()
-            .filter(|held| held.by == t)
-            .count()
-    }
-
-    // Takes out all that t holds.
-    fn keep_others(&mut self, t: u32)
-        ensures list { self.new.held ≡ keep_first (is_by t) 0 self.old.held }
-        ensures room { self.old.room ≤ self.new.room }
-    {
-        let kept = compact_others(self.held.as_mut_slice(), t);
-        self.held.truncate(kept.count);
-        self.word = kept.word;
+        self.keep(t, n as usize);
     }
 
     // Takes out all that t holds but the first of it, so many as `first` says.

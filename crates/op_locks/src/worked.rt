@@ -2,7 +2,8 @@
 
 ghost use Rattle.std.specs.Prelude.{◌≡◌, [], ◌∷◌, Some, None};
 ghost use Rattle.type_table.specs.Examples.{forward_pairs};
-ghost use Rattle.op_locks.specs.Locks.{blocker, count_of, without, without_last};
+ghost use Rattle.op_locks.specs.Locks.{blocker, is_by, count_of, without};
+ghost use Rattle.object_trait.specs.Strike.{keep_first};
 ghost use Rattle.op_locks.specs.Examples.{hold, three_held, one_pair};
 
 pub fn the_earliest_blocks()
@@ -32,8 +33,8 @@ pub fn others_stay_in_order()
     ensures none { without 6 three_held ≡ three_held }
 {}
 
-pub fn the_last_are_taken_out()
-    ensures none { without_last 4 0 three_held ≡ three_held }
-    ensures one { without_last 4 1 three_held ≡ hold 4 0 ∷ hold 5 1 ∷ [] }
-    ensures two { without_last 4 2 three_held ≡ hold 5 1 ∷ [] }
+pub fn the_first_are_left()
+    ensures two { keep_first (is_by 4) 2 three_held ≡ three_held }
+    ensures one { keep_first (is_by 4) 1 three_held ≡ hold 4 0 ∷ hold 5 1 ∷ [] }
+    ensures none { keep_first (is_by 4) 0 three_held ≡ hold 5 1 ∷ [] }
 {}

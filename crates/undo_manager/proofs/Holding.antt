@@ -8,7 +8,7 @@ use Rattle.object_trait.specs.declared.log_entry.LogEntry.{LogEntry}
 use Rattle.std.specs.List.{find, AllByRecursion}
 use Rattle.std.specs.Option.{option_map}
 use Rattle.type_table.specs.ConflictTable.{conflicts}
-use Rattle.op_locks.specs.Locks.{is_by, without, count_of, blocks, blocker}
+use Rattle.op_locks.specs.Locks.{is_by, without, blocks, blocker}
 use Rattle.op_locks.specs.declared.held.Held.{Held}
 use Rattle.undo_manager.specs.Held.{held_by, held_in}
 use Rattle.undo_manager.specs.Log.{entries, unsettled}
@@ -58,21 +58,6 @@ held-left (e ∷ log) t (suc n) =
       | inr undone ↦ elim (cases_Bool (e.by == t)) [
         | inl mine ↦ simp (undone, mine) (ap (λ (rest : List Held). held_by e ∷ rest) (held-left log t n))
         | inr other ↦ simp (undone, other) (ap (λ (rest : List Held). held_by e ∷ rest) (held-left log t (suc n)))
-      ]
-    ]
-
--- as many are held by t as it has open entries
-pub held-counted : (log : List LogEntry) (t : ℕ) → count_of t (held_in log) ≡ length (open_of t log)
-held-counted [] t = refl
-held-counted (e ∷ log) t =
-    elim (cases_Bool e.done) [
-      | inl done ↦ elim (cases_Bool (e.by == t)) [
-        | inl mine ↦ simp (done, mine) (held-counted log t)
-        | inr other ↦ simp (done, other) (held-counted log t)
-      ]
-      | inr undone ↦ elim (cases_Bool (e.by == t)) [
-        | inl mine ↦ simp (undone, mine) (ap suc (held-counted log t))
-        | inr other ↦ simp (undone, other) (held-counted log t)
       ]
     ]
 

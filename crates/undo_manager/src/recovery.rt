@@ -97,7 +97,7 @@ impl Recovery for UndoManager {
         self.state = rerun(self.checked.table(), &mut self.log, place, t, start);
         leave_count(&mut self.opened, t, left);
         self.base = settle(&mut self.log, self.state);
-        self.held.release_last(t, m);
+        self.held.release_behind(t, left);
     }
 
     fn open_count(&self) -> u32 {

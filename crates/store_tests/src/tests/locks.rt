@@ -48,7 +48,7 @@ fn what_is_released_blocks_no_more(rt: HostRuntime) {
     let mut locks = three_held(rt.alloc()).expect(&rt, "no memory");
     locks.release(5);
     assert!(rt; locks.blocker(&table, 6, 0) == Some(4));
-    locks.release_last(4, 1);
+    locks.release_behind(4, 1);
     assert!(rt; locks.blocker(&table, 6, 0) == None);
     let mut both = one_pair();
     both.set(1, 0);

@@ -1,10 +1,11 @@
-use Rattle.std.proofs.Common.{◌≡◌, ◌∙◌, ◌-◌, ◌≤◌, length, sym, ap, subst, arith}
+use Rattle.std.proofs.Common.{◌≡◌, ◌∙◌, ◌-◌, length, sym, ap}
 use Rattle.object_trait.specs.Strike.{keep_first}
-use Rattle.object_trait.specs.Meaning.{Meaning, is_open_of, open_of}
-use Rattle.op_locks.specs.Locks.{is_by, count_of, without_last}
+use Rattle.object_trait.specs.Meaning.{is_open_of, open_of}
+use Rattle.op_locks.specs.Locks.{is_by}
 use Rattle.undo_manager.specs.Held.{held_in}
 use Rattle.undo_manager.specs.Log.{entries}
-use Rattle.undo_manager.proofs.Holding.{held-counted, held-left, held-settled}
+use Rattle.undo_manager.specs.Opened.{count_of}
+use Rattle.undo_manager.proofs.Holding.{held-left, held-settled}
 use Rattle.undo_manager.proofs.Striking.{strike-legal, struck, rerun-entries}
 use Rattle.undo_manager.proofs.recovery.UndoManagerRecovery.strike.Goals as goal
 
@@ -15,13 +16,6 @@ rerun-self-inside-requires-clause-legal c =
     rw (c.table.ensures, c.deref-4.ensures, c.state_before-start.ensures, c.deref-2.ensures.value)
     (strike-legal c.runs_along.ensures c.keeps_none.ensures c.keeps_parts.ensures c.struck_log_is_legal.ensures (m.checked.value) m.base m.state m.log.items m.opened.items c.args.t c.args.m
     c.place_of-place.result c.self.invariant.0 passed)
-
-pub release_last-requires : goal.release_last-requires
-release_last-requires c =
-    let V = entries c.self.inside.log.items in
-    let many = ap (count_of c.args.t) c.self.invariant.1 ∙ held-counted V c.args.t in
-    let few : c.args.m ≤ length (open_of c.args.t V) = subst (λ (x : Meaning). c.args.m ≤ length (open_of c.args.t x.log)) (sym c.self.view_is) c.requires in
-    omega (arith, many, few)
 
 pub invariant_of-self : goal.invariant_of-self
 invariant_of-self c =
@@ -37,7 +31,8 @@ invariant_of-self c =
     let same : entries c.rerun-self-inside.new.log.items ≡ keep_first (is_open_of c.args.t) n V =
     rerun-entries c.keeps_none.ensures c.keeps_parts.ensures m.checked.value c.args.t c.args.m c.place_of-place.result m.log.items _ c.rerun-self-inside.new.log.items c.rerun-self-inside.result run passed in (
       rw (c.settle-self-inside.ensures.base, c.settle-self-inside.ensures.log) done.kept,
-      c.release_last.ensures.list ∙ ap (without_last c.args.t c.args.m) c.self.invariant.1 ∙ ap (λ k. keep_first (is_by c.args.t) (k - c.args.m) (held_in V)) (held-counted V c.args.t)
+      c.release_behind.ensures.list ∙ ap (keep_first (is_by c.args.t) (c.count_of.result - c.args.m)) c.self.invariant.1
+          ∙ ap (λ k. keep_first (is_by c.args.t) (k - c.args.m) (held_in V)) (c.count_of.ensures ∙ ap (count_of c.args.t) c.deref-3.ensures.value ∙ c.self.invariant.0.counted.exact c.args.t)
           ∙ sym (held-left V c.args.t n) ∙ ap held_in (sym same) ∙ sym (held-settled c.rerun-self-inside.new.log.items) ∙ ap (λ log. held_in (entries log)) (sym c.settle-self-inside.ensures.log),
     )
 

@@ -1,7 +1,7 @@
 use Rattle.std.proofs.Common.{◌<◌, length, refl, arith}
 use Rattle.op_locks.specs.declared.held.Held.{Held}
 use Rattle.op_locks.proofs.Compacts.{Compacts-read, Compacts-next}
-use Rattle.op_locks.proofs.compacting.compact.Goals as goal
+use Rattle.op_locks.proofs.compacting.compact_both.Goals as goal
 
 nobody : Held
 nobody = record { by = 0; op = 0 }
