@@ -2,6 +2,8 @@
 //! them at a time.
 //! durable fill PROGRAM DATABASE COUNT: the same, 1,000 at a time, and then the service is killed.
 //! durable open PROGRAM DATABASE: how long it takes to be greeted; the service is killed then.
+//! durable epoch PROGRAM DATABASE COUNT [OPTIONS]: COUNT transactions, 1,000 at a time, and one that aborts, by which the epoch
+//! is full: how long the next request waits, while another epoch begins, and how long one waited before.
 //! durable loop FILE GROUP COUNT: COUNT times a write of GROUP pages and an fdatasync, over a file that is there.
 //! durable sqlite FILE COUNT: COUNT transactions of one UPDATE each, by SQLite's C library (WAL, synchronous=FULL).
 //!
@@ -32,13 +34,11 @@ fn greeted(program: &str, database: &str, options: &[String]) -> (Child, ChildSt
     (child, input, output)
 }
 
-/// So many transactions, so many at a time: each begins, makes a call and commits.
-fn serve(program: &str, database: &str, options: &[String], window: usize, count: usize, is_ended: bool) {
-    let (mut child, mut input, mut output) = greeted(program, database, options);
+/// So many transactions, so many at a time: each begins, makes a call and commits. How many reads of the answers there were.
+fn transactions(input: &mut ChildStdin, output: &mut ChildStdout, window: usize, count: usize) -> usize {
     let mut buffer = vec![0; 1 << 16];
     let (mut begun, mut ended, mut reads) = (0, 0, 0);
     let (mut asked, mut half) = (String::new(), String::new());
-    let start = Instant::now();
     while begun < window.min(count) {
         asked.push_str(&format!("b{begun} begin\n"));
         begun += 1;
@@ -71,12 +71,14 @@ fn serve(program: &str, database: &str, options: &[String], window: usize, count
             }
         }
     }
+    reads
+}
+
+fn serve(program: &str, database: &str, options: &[String], window: usize, count: usize) {
+    let (mut child, mut input, mut output) = greeted(program, database, options);
+    let start = Instant::now();
+    let reads = transactions(&mut input, &mut output, window, count);
     let seconds = start.elapsed().as_secs_f64();
-    if !is_ended {
-        child.kill().unwrap();
-        child.wait().unwrap();
-        return;
-    }
     input.write_all(b"e end\n").unwrap();
     drop(input);
     let mut rest = String::new();
@@ -85,12 +87,45 @@ fn serve(program: &str, database: &str, options: &[String], window: usize, count
     println!("{seconds} {reads}");
 }
 
-fn open(program: &str, database: &str) {
-    let start = Instant::now();
-    let (mut child, _input, _output) = greeted(program, database, &[]);
-    println!("{}", start.elapsed().as_secs_f64());
+fn kill(mut child: Child) {
     child.kill().unwrap();
     child.wait().unwrap();
+}
+
+fn fill(program: &str, database: &str, count: usize) {
+    let (child, mut input, mut output) = greeted(program, database, &[]);
+    transactions(&mut input, &mut output, 1000, count);
+    kill(child);
+}
+
+fn open(program: &str, database: &str) {
+    let start = Instant::now();
+    let (child, _input, _output) = greeted(program, database, &[]);
+    println!("{}", start.elapsed().as_secs_f64());
+    kill(child);
+}
+
+/// What a request of one line is answered, without its tag, and the seconds that it waited.
+fn asked(input: &mut ChildStdin, output: &mut ChildStdout, request: &str) -> (String, f64) {
+    let (start, mut line) = (Instant::now(), [0; 64]);
+    input.write_all(format!("a {request}\n").as_bytes()).unwrap();
+    let length = output.read(&mut line).unwrap();
+    let seconds = start.elapsed().as_secs_f64();
+    (std::str::from_utf8(&line[..length]).unwrap().trim_end()[2..].to_string(), seconds)
+}
+
+fn epoch(program: &str, database: &str, count: usize, options: &[String]) {
+    let (child, mut input, mut output) = greeted(program, database, options);
+    transactions(&mut input, &mut output, 1000, count);
+    let (begun, _) = asked(&mut input, &mut output, "begin");
+    let (_, before) = asked(&mut input, &mut output, "kept 0");
+    let name = begun.strip_prefix("ok ").unwrap();
+    assert!(asked(&mut input, &mut output, &format!("abort {name}")).0 == "ok");
+    let (_, waited) = asked(&mut input, &mut output, "kept 0");
+    let life: usize = name.split_once('.').unwrap().0.parse().unwrap();
+    assert!(asked(&mut input, &mut output, "begin").0 == format!("ok {}.0", life + 1), "no other epoch has begun");
+    println!("{waited} {before}");
+    kill(child);
 }
 
 fn write_loop(path: &str, group: usize, count: usize) {
@@ -130,8 +165,9 @@ fn main() {
     let words: Vec<String> = args().skip(1).collect();
     let number = |at: usize| words[at].parse().unwrap();
     match words[0].as_str() {
-        "serve" => serve(&words[1], &words[2], &words[5..], number(3), number(4), true),
-        "fill" => serve(&words[1], &words[2], &[], 1000, number(3), false),
+        "serve" => serve(&words[1], &words[2], &words[5..], number(3), number(4)),
+        "fill" => fill(&words[1], &words[2], number(3)),
+        "epoch" => epoch(&words[1], &words[2], number(3), &words[4..]),
         "open" => open(&words[1], &words[2]),
         "loop" => write_loop(&words[1], number(2), number(3)),
         "sqlite" => sqlite(&words[1], number(2)),

@@ -72,9 +72,14 @@ def postgres(folder):
 def opening(colock, program, folder):
     """The seconds that it takes to open 978,000 events, an epoch that is nearly full."""
     path = database(colock, folder, "million.db")
-    child = subprocess.Popen([program, "fill", colock, path, "326000"], stdout=subprocess.PIPE)
-    child.wait()
+    subprocess.run([program, "fill", colock, path, "326000"], check=True)
     return seconds(program, "open", colock, path)[0]
+
+
+def epoch(colock, program, folder, *options):
+    """The seconds that a request waits while an epoch of 980,000 events ends and another begins, and those of one before."""
+    path = database(colock, folder, f"epoch{len(options)}.db")
+    return seconds(program, "epoch", colock, path, 326_666, *options)
 
 
 def time_durable():
@@ -97,3 +102,8 @@ def time_durable():
         for clients, rate in postgres(folder).items():
             print(f"PostgreSQL, one row, {clients} clients: {rate:.0f} commits a second")
         print(f"978,000 events are opened in {opening(colock, program, folder):.2f} s")
+        archive = os.path.join(folder, "archive")
+        os.mkdir(archive)
+        for options in ((), ("--archive", archive)):
+            waited, before = epoch(colock, program, folder, *options)
+            print(f"{' '.join(('a new epoch', *options[:1]))}: behind 980,000 events a request waits {waited:.3f} s, and one before waited {1e6 * before:.0f} us")
