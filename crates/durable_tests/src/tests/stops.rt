@@ -28,6 +28,37 @@ enum Reached {
     Epoch,
 }
 
+/// Which file stops. What asks a file that stops asks nothing of the other behind that, so the two together are each
+/// moment at which the machine may stop.
+#[derive(Clone, Copy)]
+pub enum Stops {
+    Log,
+    Database,
+}
+
+/// How many calls each file passes on.
+#[derive(Clone, Copy)]
+pub struct Calls {
+    pub log: u64,
+    pub db: u64,
+}
+
+impl Stops {
+    /// So many of the file that stops, and all of the other.
+    pub fn behind(self, calls: u64) -> Calls {
+        match self {
+            Stops::Log => Calls {
+                log: calls,
+                db: u64::MAX,
+            },
+            Stops::Database => Calls {
+                log: u64::MAX,
+                db: calls,
+            },
+        }
+    }
+}
+
 /// Trees that are found again in their files after the machine stopped and came back.
 pub trait FoundAgain: Alter {
     /// The trees that are listed there.
@@ -41,10 +72,11 @@ impl<D: Crash + Drop> FoundAgain for FileStore<D> {
     }
 }
 
-/// A pager of few pages.
+/// A pager of few pages, whose log is moved into the file of the database before each commit.
 fn few_pages() -> Options {
     Options {
         cache_pages: 20,
+        checkpoint_frames: 1,
         ..Options::new(7)
     }
 }
@@ -242,21 +274,21 @@ fn found_over<D: Crash + Drop>(
     found_in(rt, new_trees(rt, files)?)
 }
 
-/// The same of files in memory: so many calls on the log are passed on, and each one after fails. None where that
-/// were too few for new trees.
-fn found_after(rt: &(impl Abort + AllocGlobal), calls: u64) -> Option<(Reached, u32)> {
+/// The same of files in memory: so many calls are passed on, and each one after fails. None where that were too few
+/// for new trees.
+fn found_after(rt: &(impl Abort + AllocGlobal), calls: Calls) -> Option<(Reached, u32)> {
     let files = Files {
-        log: Fuse::new(Memory::new(rt.alloc()), calls),
-        db: Fuse::new(Memory::new(rt.alloc()), u64::MAX),
+        log: Fuse::new(Memory::new(rt.alloc()), calls.log),
+        db: Fuse::new(Memory::new(rt.alloc()), calls.db),
     };
     found_over(rt, files)
 }
 
 /// The greatest number of calls, below 1,024, behind which no commit is settled.
-fn calls_too_few(rt: &(impl Abort + AllocGlobal)) -> u64 {
+fn calls_too_few(rt: &(impl Abort + AllocGlobal), stops: Stops) -> u64 {
     let mut few = 0u64;
     for step in [512u64, 256, 128, 64, 32, 16, 8, 4, 2, 1] {
-        if found_after(rt, few | step).is_none() {
+        if found_after(rt, stops.behind(few | step)).is_none() {
             few |= step;
         }
     }
@@ -264,10 +296,10 @@ fn calls_too_few(rt: &(impl Abort + AllocGlobal)) -> u64 {
 }
 
 /// How many stops behind these calls leave the old file or the new one, until another epoch has begun.
-fn stops_behind(rt: &(impl Abort + AllocGlobal), few: u64) -> Option<u32> {
+fn stops_behind(rt: &(impl Abort + AllocGlobal), stops: Stops, few: u64) -> Option<u32> {
     let mut stopped = 0u32;
     for calls in few.saturating_add(1)..few.saturating_add(100) {
-        match found_after(rt, calls) {
+        match found_after(rt, stops.behind(calls)) {
             Some((Reached::Commit, 4 | 0)) => stopped = stopped.saturating_add(1),
             Some((Reached::Epoch, 0)) => return Some(stopped),
             _ => panic!(rt; "neither the old file nor the new one"),
@@ -279,6 +311,8 @@ fn stops_behind(rt: &(impl Abort + AllocGlobal), few: u64) -> Option<u32> {
 /// Wherever the disk stops, the old file is found or the new one; and the new one where the call had answered.
 #[test]
 fn a_stop_in_a_new_epoch_leaves_one_of_both(rt: HostRuntime) {
-    let few = calls_too_few(&rt);
-    assert!(rt; stops_behind(&rt, few) > Some(3));
+    for stops in [Stops::Log, Stops::Database] {
+        let few = calls_too_few(&rt, stops);
+        assert!(rt; stops_behind(&rt, stops, few) >= Some(3));
+    }
 }
