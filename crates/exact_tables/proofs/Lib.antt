@@ -1,0 +1,5 @@
+pub mod Looks
+pub mod Greatest
+pub mod Conditions
+pub mod Least
+pub mod Examples

@@ -1,0 +1,4 @@
+pub mod Tell
+pub mod Exact
+pub mod Laws
+pub mod Examples
