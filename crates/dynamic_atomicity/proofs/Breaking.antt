@@ -1,0 +1,386 @@
+-- Necessity: the runs that break, at an object among any others.
+use Rattle.std.proofs.Common.{◌≡◌, ℕ, Bool, true, false, not, ◌&&◌, ◌<◌, ◌==◌, List, [], ◌∷◌, ◌++◌, map, length, nat_lt, Option, Some, slice_get, refl, sym, ap, ◌∙◌, inl, inr, subst, append-nil, append_assoc}
+use Rattle.std.specs.List.{AllByRecursion}
+use Rattle.std.proofs.lemmas.Bool.{cases_Bool, false≢true, true≢false, eq-eqb, ltb-true}
+use Rattle.std.proofs.lemmas.List.Elements.{filter-append}
+use Rattle.type_table.specs.Table.{Table, next}
+use Rattle.type_table.specs.Run.{IsLegal}
+use Rattle.type_table.specs.Laws.{RunsAlong, LegalEnds}
+use Rattle.type_table.specs.declared.kind.Kind.{Kind}
+use Rattle.type_table.specs.declared.kind.Kind.TheVariants.{Undo, Intentions, Escrow}
+use Rattle.type_table.proofs.Elements.{each-append, each-filter, each-map, each-weaker}
+use Rattle.type_table.proofs.Legal.{legal-front}
+use Rattle.object_trait.specs.Object.{Object}
+use Rattle.object_trait.specs.declared.event.Event.{Event}
+use Rattle.object_trait.specs.declared.event.EventKind.{EventKind}
+use Rattle.object_trait.specs.declared.event.EventKind.TheVariants.{Begin, Op, Commit}
+use Rattle.serial_order.specs.Operations.{is_among, at_object, is_by, of, ops, serial}
+use Rattle.serial_order.specs.History.{Seen, seen, is_open}
+use Rattle.serial_order.specs.View.{view, conflicts_with, stops_at}
+use Rattle.serial_order.specs.Machine.{May, MayDo, RunsOn, IsRun}
+use Rattle.serial_order.specs.Examples.{events}
+use Rattle.dynamic_atomicity.specs.Converse.{by, breaking, Goes, UndoBreaks}
+use Rattle.serial_order.specs.declared.entry.Entry.{Entry}
+use Rattle.serial_order.proofs.Events.{seen_after, seen-snoc}
+use Rattle.serial_order.proofs.Facts.{IsLegalAt}
+use Rattle.serial_order.proofs.Legal.{legal-behind}
+use Rattle.serial_order.proofs.Lists.{ops-append, filter-more, serial-snoc, serial-apart, of-more}
+use Rattle.serial_order.proofs.Pairs.{each-all}
+use Rattle.serial_order.proofs.Runs.{open_is_uncommitted}
+
+-- ---- runs by what is seen
+
+abbrev pub RunsFrom : List Object → Seen → List EventKind → Type 0
+RunsFrom objects s [] = Unit {0}
+RunsFrom objects s (k ∷ ks) = May objects s k × RunsFrom objects (seen_after s k) ks
+
+abbrev pub seen_from : Seen → List EventKind → Seen
+seen_from s [] = s
+seen_from s (k ∷ ks) = seen_from (seen_after s k) ks
+
+runs-events : (objects : List Object) (before : List Event) (ks : List EventKind) → RunsFrom objects (seen before) ks → RunsOn objects before (events ks)
+runs-events objects before [] h = tt
+runs-events objects before (k ∷ ks) h =
+    let e : Event = record { worker = 0; kind = k } in
+    (h.0, runs-events objects (before ++ e ∷ []) ks (subst (λ (s : Seen). RunsFrom objects s ks) (sym (seen-snoc before e)) h.1))
+
+seen-events : (before : List Event) (ks : List EventKind) → seen (before ++ events ks) ≡ seen_from (seen before) ks
+seen-events before [] = ap seen (append-nil before)
+seen-events before (k ∷ ks) =
+    let e : Event = record { worker = 0; kind = k } in
+    ap seen (sym (append_assoc before (e ∷ []) (events ks))) ∙ seen-events (before ++ e ∷ []) ks ∙ ap (λ (s : Seen). seen_from s ks) (seen-snoc before e)
+
+-- ---- one transaction's operations
+
+abbrev pub done_by : ℕ → ℕ → List ℕ → List Entry
+done_by x t w = map (λ k. record { by = t; at = x; op = k }) w
+
+itself : (n : ℕ) → (n == n) ≡ true
+itself n = eq-eqb n n refl
+
+ops-done : (x t : ℕ) (w : List ℕ) → ops (done_by x t w) ≡ w
+ops-done x t [] = refl
+ops-done x t (k ∷ w) = ap (λ rest. k ∷ rest) (ops-done x t w)
+
+of-own : (x t : ℕ) (w : List ℕ) → of t (done_by x t w) ≡ done_by x t w
+of-own x t [] = refl
+of-own x t (k ∷ w) = simp (itself t) (ap (λ rest. (record { by = t; at = x; op = k }) ∷ rest) (of-own x t w))
+
+of-other : (x t u : ℕ) (w : List ℕ) → (t == u) ≡ false → of u (done_by x t w) ≡ []
+of-other x t u [] apart = refl
+of-other x t u (k ∷ w) apart = simp apart (of-other x t u w apart)
+
+at-done : (x t : ℕ) (w : List ℕ) → at_object x (done_by x t w) ≡ done_by x t w
+at-done x t [] = refl
+at-done x t (k ∷ w) = simp (itself x) (ap (λ rest. (record { by = t; at = x; op = k }) ∷ rest) (at-done x t w))
+
+-- ---- a legal operation is one of the table
+
+op-inside : (T : Table) (s k : ℕ) → IsLegal T (Some s) (k ∷ []) → k < length T.ops
+unfolding next
+op-inside T s k legal = elim (cases_Bool (nat_lt k (length T.ops))) [
+  | inl inside ↦ ltb-true k (length T.ops) inside
+  | inr outside ↦ absurd (false≢true (simp outside at legal))
+]
+
+module _ (objects : List Object) (x : ℕ) (along : RunsAlong) (ends : LegalEnds) (o : Object) (there : slice_get objects x ≡ Some o) where
+  op-there : (v : List ℕ) (k : ℕ) → IsLegalAt o (v ++ k ∷ []) → k < length o.table.ops
+  op-there v k legal =
+      let reached = ends o.table (Some o.table.initial) v (legal-front along o.table (Some o.table.initial) v (k ∷ []) legal) in
+      op-inside o.table reached.0 k (legal-behind along o.table (Some o.table.initial) v (k ∷ []) reached.0 reached.1 legal)
+
+  -- an operation may be done that is legal after the view and that nothing held keeps out
+  may_do : (s : Seen) (t k : ℕ) (v : List ℕ) → is_open s t ≡ true → ops (view o.kind s x t) ≡ v → IsLegalAt o (v ++ k ∷ [])
+      → AllByRecursion (λ e. conflicts_with o s x t k e ≡ false) (at_object x s.stands) → May objects s (Op t x k)
+  may_do s t k v open_now is legal free =
+      let allowed : MayDo (Some o) s x t k = (op-there v k legal, rw is legal, free) in
+      (open_now, subst (λ (found : Option Object). MayDo found s x t k) (sym there) allowed)
+
+  -- ---- one transaction alone
+
+  abbrev with_stands : Seen → List Entry → Seen
+  with_stands s V = record { begun = s.begun; committed = s.committed; aborted = s.aborted; stands = V }
+
+  -- what t sees after an operation of its own. Under escrow it sees what it does with deferred update
+  view-more-deferred : (s : Seen) (t k : ℕ) → is_among s.committed t ≡ false
+      → ops (view Intentions (with_stands s (s.stands ++ (record { by = t; at = x; op = k }) ∷ [])) x t) ≡ ops (view Intentions s x t) ++ k ∷ []
+  view-more-deferred s t k pending =
+      let e : Entry = record { by = t; at = x; op = k } in
+      let V = at_object x s.stands in
+      let mine : is_by t e ≡ true = eq-eqb t t refl in
+      ap (λ W. ops (serial s.committed W ++ of t W)) (filter-more (λ (e : Entry). e.at == x) s.stands e (itself x))
+      ∙ rw (serial-apart s.committed V e pending, of-more t V e mine, ← (append_assoc (serial s.committed V) (of t V) (e ∷ []))) (ops-append (serial s.committed V ++ of t V) (e ∷ []))
+
+  view-more : (by_kind : Kind) (s : Seen) (t k : ℕ) → is_among s.committed t ≡ false
+      → ops (view by_kind (with_stands s (s.stands ++ (record { by = t; at = x; op = k }) ∷ [])) x t) ≡ ops (view by_kind s x t) ++ k ∷ []
+  view-more Undo s t k pending = ap ops (filter-more (λ (e : Entry). e.at == x) s.stands (record { by = t; at = x; op = k }) (itself x)) ∙ ops-append (at_object x s.stands) ((record { by = t; at = x; op = k }) ∷ [])
+  view-more Intentions s t k pending = view-more-deferred s t k pending
+  view-more Escrow s t k pending = view-more-deferred s t k pending
+
+  -- no other open transaction holds an operation
+  abbrev IsAlone : Seen → ℕ → Type 0
+  IsAlone s t = AllByRecursion (λ e. (is_open s e.by && not (e.by == t)) ≡ false) s.stands
+
+  alone-free : (s : Seen) (t k : ℕ) → IsAlone s t → AllByRecursion (λ e. conflicts_with o s x t k e ≡ false) (at_object x s.stands)
+  alone-free s t k alone =
+      each-filter (λ e. conflicts_with o s x t k e ≡ false) (λ (e : Entry). e.at == x) s.stands
+      (each-weaker {P = λ (e : Entry). (is_open s e.by && not (e.by == t)) ≡ false} (λ e h. and-more (is_open s e.by) (not (e.by == t)) (stops_at o.kind o s.committed (at_object x s.stands) t k e) h) s.stands alone)
+    where
+      and-more : (a b c : Bool) → (a && b) ≡ false → (a && (b && c)) ≡ false
+      and-more true true c h = absurd (true≢false h)
+      and-more true false c h = refl
+      and-more false b c h = refl
+
+  -- after an operation
+  after-one : (s : Seen) (t k : ℕ) → seen_after s (Op t x k) ≡ with_stands s (s.stands ++ (record { by = t; at = x; op = k }) ∷ [])
+  after-one s t k = rw (append-nil s.committed, append-nil s.aborted) refl
+
+  alone_runs : (s : Seen) (t : ℕ) (r : List ℕ) (rest : List EventKind) → is_open s t ≡ true → IsAlone s t → Goes o.table (ops (view o.kind s x t)) r
+      → RunsFrom objects (with_stands s (s.stands ++ done_by x t r)) rest → RunsFrom objects s (by x t r ++ rest)
+  alone_runs s t [] rest open_now alone goes on = rw (append-nil s.stands) at on
+  alone_runs s t (k ∷ r) rest open_now alone goes on =
+      let e : Entry = record { by = t; at = x; op = k } in
+      let next_seen : Seen = with_stands s (s.stands ++ e ∷ []) in (
+        may_do s t k (ops (view o.kind s x t)) open_now refl goes.0 (alone-free s t k alone),
+        subst (λ (now : Seen). RunsFrom objects now (by x t r ++ rest)) (sym (after-one s t k))
+            (alone_runs next_seen t r rest open_now
+            (each-append (λ (e : Entry). (is_open s e.by && not (e.by == t)) ≡ false) s.stands (e ∷ []) alone (own, tt))
+            (rw (view-more o.kind s t k (open_is_uncommitted s t open_now)) goes.1)
+            (rw (append_assoc s.stands (e ∷ []) (done_by x t r)) on)),
+      )
+    where
+      own : (is_open s t && not (t == t)) ≡ false
+      own = rw (open_now, eq-eqb t t refl) refl
+
+  seen_from-by : (s : Seen) (t : ℕ) (r : List ℕ) (rest : List EventKind) → seen_from s (by x t r ++ rest) ≡ seen_from (with_stands s (s.stands ++ done_by x t r)) rest
+  seen_from-by s t [] rest = ap (λ V. seen_from (with_stands s V) rest) (sym (append-nil s.stands))
+  seen_from-by s t (k ∷ r) rest =
+      let e : Entry = record { by = t; at = x; op = k } in
+      ap (λ (now : Seen). seen_from now (by x t r ++ rest)) (after-one s t k)
+      ∙ seen_from-by (with_stands s (s.stands ++ e ∷ [])) t r rest
+      ∙ ap (λ V. seen_from (with_stands s V) rest) (append_assoc s.stands (e ∷ []) (done_by x t r))
+
+  pub goes_from : (v r : List ℕ) → IsLegalAt o (v ++ r) → Goes o.table v r
+  goes_from v [] legal = tt
+  goes_from v (k ∷ r) legal =
+      let longer : IsLegalAt o ((v ++ k ∷ []) ++ r) = rw (append_assoc v (k ∷ []) r) legal in
+      (legal-front along o.table (Some o.table.initial) (v ++ k ∷ []) r longer, goes_from (v ++ k ∷ []) r longer)
+
+  -- ---- the run
+
+  module _ (w : List ℕ) (p q : ℕ) where
+    abbrev pub first_of_1 : Entry
+    first_of_1 = record { by = 1; at = x; op = q }
+
+    abbrev pub first_of_2 : Entry
+    first_of_2 = record { by = 2; at = x; op = p }
+
+    abbrev pub stood : List Entry
+    stood = (done_by x 0 w ++ first_of_1 ∷ []) ++ first_of_2 ∷ []
+
+    -- what transaction 2 sees
+    abbrev view_of_2 : Kind → List ℕ
+    view_of_2 Undo = w ++ q ∷ []
+    view_of_2 Intentions = w
+    view_of_2 Escrow = w
+
+    abbrev with_0 : Seen
+    with_0 = record { begun = 3; committed = 0 ∷ []; aborted = []; stands = done_by x 0 w }
+
+    abbrev with_1 : Seen
+    with_1 = record { begun = 3; committed = 0 ∷ []; aborted = []; stands = done_by x 0 w ++ first_of_1 ∷ [] }
+
+    at-one : at_object x (done_by x 0 w ++ first_of_1 ∷ []) ≡ done_by x 0 w ++ first_of_1 ∷ []
+    at-one = filter-more (λ (e : Entry). e.at == x) (done_by x 0 w) first_of_1 (itself x) ∙ ap (λ V. V ++ first_of_1 ∷ []) (at-done x 0 w)
+
+    pub at-two : at_object x stood ≡ stood
+    at-two = filter-more (λ (e : Entry). e.at == x) (done_by x 0 w ++ first_of_1 ∷ []) first_of_2 (itself x) ∙ ap (λ V. V ++ first_of_2 ∷ []) at-one
+
+    pub stood-ops : ops stood ≡ w ++ q ∷ p ∷ []
+    stood-ops = ops-append (done_by x 0 w ++ first_of_1 ∷ []) (first_of_2 ∷ []) ∙ ap (λ v. v ++ p ∷ []) (ops-append (done_by x 0 w) (first_of_1 ∷ []) ∙ ap (λ v. v ++ q ∷ []) (ops-done x 0 w)) ∙ append_assoc w (q ∷ []) (p ∷ [])
+
+    view_1_deferred : ops (view Intentions with_0 x 1) ≡ w
+    view_1_deferred = rw (at-done x 0 w, of-own x 0 w, of-other x 0 1 w refl) (ap ops (append-nil (done_by x 0 w ++ [])) ∙ ap ops (append-nil (done_by x 0 w)) ∙ ops-done x 0 w)
+
+    view_1 : (by_kind : Kind) → ops (view by_kind with_0 x 1) ≡ w
+    view_1 Undo = ap ops (at-done x 0 w) ∙ ops-done x 0 w
+    view_1 Intentions = view_1_deferred
+    view_1 Escrow = view_1_deferred
+
+    view_2_deferred : ops (view Intentions with_1 x 2) ≡ w
+    view_2_deferred =
+        rw (at-one, filter-append (is_by 0) (done_by x 0 w) (first_of_1 ∷ []), filter-append (is_by 2) (done_by x 0 w) (first_of_1 ∷ []), of-own x 0 w, of-other x 0 2 w refl)
+        (ap ops (append-nil ((done_by x 0 w ++ []) ++ [])) ∙ ap ops (append-nil (done_by x 0 w ++ [])) ∙ ap ops (append-nil (done_by x 0 w)) ∙ ops-done x 0 w)
+
+    view_2 : (by_kind : Kind) → ops (view by_kind with_1 x 2) ≡ view_of_2 by_kind
+    view_2 Undo = ap ops at-one ∙ ops-append (done_by x 0 w) (first_of_1 ∷ []) ∙ ap (λ v. v ++ q ∷ []) (ops-done x 0 w)
+    view_2 Intentions = view_2_deferred
+    view_2 Escrow = view_2_deferred
+
+    free_1 : AllByRecursion (λ e. conflicts_with o with_0 x 1 q e ≡ false) (at_object x (done_by x 0 w))
+    free_1 =
+        let each : AllByRecursion (λ e. conflicts_with o with_0 x 1 q e ≡ false) (done_by x 0 w) =
+        each-map (λ e. conflicts_with o with_0 x 1 q e ≡ false) (λ k. record { by = 0; at = x; op = k }) w (each-all (λ k. refl) w) in
+        subst (λ V. AllByRecursion (λ e. conflicts_with o with_0 x 1 q e ≡ false) V) (sym (at-done x 0 w)) each
+
+    -- p isn't stopped by what transaction 1 holds
+    abbrev IsLetIn : Type 0
+    IsLetIn = (V : List Entry) → stops_at o.kind o (0 ∷ []) V 2 p first_of_1 ≡ false
+
+    free_2 : IsLetIn → AllByRecursion (λ e. conflicts_with o with_1 x 2 p e ≡ false) (at_object x (done_by x 0 w ++ first_of_1 ∷ []))
+    free_2 free =
+        let each : AllByRecursion (λ e. conflicts_with o with_1 x 2 p e ≡ false) (done_by x 0 w ++ first_of_1 ∷ []) =
+        each-append (λ e. conflicts_with o with_1 x 2 p e ≡ false) (done_by x 0 w) (first_of_1 ∷ [])
+        (each-map (λ e. conflicts_with o with_1 x 2 p e ≡ false) (λ k. record { by = 0; at = x; op = k }) w (each-all (λ k. refl) w)) (free (at_object x (done_by x 0 w ++ first_of_1 ∷ [])), tt) in
+        subst (λ V. AllByRecursion (λ e. conflicts_with o with_1 x 2 p e ≡ false) V) (sym at-one) each
+
+    -- up to the two operations
+    prefix_runs : (rest : List EventKind) → IsLetIn → IsLegalAt o (w ++ q ∷ []) → IsLegalAt o (view_of_2 o.kind ++ p ∷ [])
+        → RunsFrom objects (record { begun = 3; committed = 0 ∷ []; aborted = []; stands = stood }) rest
+        → RunsFrom objects (seen []) (Begin 0 ∷ (by x 0 w ++ (Commit 0 ∷ Begin 1 ∷ Begin 2 ∷ Op 1 x q ∷ Op 2 x p ∷ rest)))
+    prefix_runs rest free q_legal p_legal on = (
+      refl,
+      alone_runs (record { begun = 1; committed = []; aborted = []; stands = [] }) 0 w (Commit 0 ∷ Begin 1 ∷ Begin 2 ∷ Op 1 x q ∷ Op 2 x p ∷ rest) refl tt
+          (rw (view_0 o.kind) (goes_from [] w (legal-front along o.table (Some o.table.initial) w (q ∷ []) q_legal)))
+          (refl, (refl, (refl, (may_do with_0 1 q w refl (view_1 o.kind) q_legal free_1, (may_do with_1 2 p (view_of_2 o.kind) refl (view_2 o.kind) p_legal (free_2 free), on))))),
+    )
+      where
+        view_0 : (by_kind : Kind) → ops (view by_kind (record { begun = 1; committed = []; aborted = []; stands = [] }) x 0) ≡ []
+        view_0 Undo = refl
+        view_0 Intentions = refl
+        view_0 Escrow = refl
+
+    -- from the two commits on
+    abbrev ended : ℕ → ℕ → Seen
+    ended first second = record { begun = 4; committed = 0 ∷ first ∷ second ∷ []; aborted = []; stands = stood }
+
+    tail_runs : (first second : ℕ) (r : List ℕ) → is_open (record { begun = 3; committed = 0 ∷ []; aborted = []; stands = stood }) first ≡ true
+        → is_open (record { begun = 3; committed = 0 ∷ first ∷ []; aborted = []; stands = stood }) second ≡ true
+        → is_open (ended first second) 1 ≡ false → is_open (ended first second) 2 ≡ false → is_open (ended first second) 3 ≡ true
+        → Goes o.table (ops (view o.kind (ended first second) x 3)) r
+        → RunsFrom objects (record { begun = 3; committed = 0 ∷ []; aborted = []; stands = stood }) (Commit first ∷ Commit second ∷ Begin 3 ∷ (by x 3 r ++ Commit 3 ∷ []))
+    tail_runs first second r first_open second_open one_closed two_closed three_open goes =
+        (first_open, (second_open, (refl, alone_runs (ended first second) 3 r (Commit 3 ∷ []) three_open alone goes (three_open, tt))))
+      where
+        alone : IsAlone (ended first second) 3
+        alone =
+            each-append (λ (e : Entry). (is_open (ended first second) e.by && not (e.by == 3)) ≡ false) (done_by x 0 w ++ first_of_1 ∷ []) (first_of_2 ∷ [])
+            (each-append (λ (e : Entry). (is_open (ended first second) e.by && not (e.by == 3)) ≡ false) (done_by x 0 w) (first_of_1 ∷ [])
+            (each-map (λ (e : Entry). (is_open (ended first second) e.by && not (e.by == 3)) ≡ false) (λ k. record { by = 0; at = x; op = k }) w (each-all (λ k. refl) w))
+            (rw one_closed refl, tt)) (rw two_closed refl, tt)
+
+    -- what is seen at its end
+    pub seen_at_end : (first second : ℕ) (r : List ℕ) →
+        seen (breaking x first second w p q r) ≡ record { begun = 4; committed = 0 ∷ first ∷ second ∷ 3 ∷ []; aborted = []; stands = stood ++ done_by x 3 r }
+    seen_at_end first second r =
+        let last : List EventKind = by x 3 r ++ Commit 3 ∷ [] in
+        let middle : List EventKind = Commit 0 ∷ Begin 1 ∷ Begin 2 ∷ Op 1 x q ∷ Op 2 x p ∷ Commit first ∷ Commit second ∷ Begin 3 ∷ last in
+        seen-events [] (Begin 0 ∷ (by x 0 w ++ middle))
+        ∙ seen_from-by (record { begun = 1; committed = []; aborted = []; stands = [] }) 0 w middle
+        ∙ seen_from-by (ended first second) 3 r (Commit 3 ∷ [])
+
+    -- ---- the serial orders
+
+    module _ (r : List ℕ) where
+      abbrev V : List Entry
+      V = stood ++ done_by x 3 r
+
+      at-all : at_object x V ≡ V
+      at-all = filter-append (λ (e : Entry). e.at == x) stood (done_by x 3 r) ∙ ap (λ W. W ++ at_object x (done_by x 3 r)) at-two ∙ ap (λ W. stood ++ W) (at-done x 3 r)
+
+      of-all : (t : ℕ) → of t V ≡ ((of t (done_by x 0 w) ++ of t (first_of_1 ∷ [])) ++ of t (first_of_2 ∷ [])) ++ of t (done_by x 3 r)
+      of-all t =
+          filter-append (is_by t) stood (done_by x 3 r)
+          ∙ ap (λ W. W ++ of t (done_by x 3 r)) (filter-append (is_by t) (done_by x 0 w ++ first_of_1 ∷ []) (first_of_2 ∷ [])
+          ∙ ap (λ W. W ++ of t (first_of_2 ∷ [])) (filter-append (is_by t) (done_by x 0 w) (first_of_1 ∷ [])))
+
+      of-0 : of 0 V ≡ done_by x 0 w
+      of-0 = of-all 0 ∙ rw (of-own x 0 w, of-other x 3 0 r refl) (simp append-nil)
+
+      of-1 : of 1 V ≡ first_of_1 ∷ []
+      of-1 = of-all 1 ∙ rw (of-other x 0 1 w refl, of-other x 3 1 r refl) refl
+
+      of-2 : of 2 V ≡ first_of_2 ∷ []
+      of-2 = of-all 2 ∙ rw (of-other x 0 2 w refl, of-other x 3 2 r refl) refl
+
+      of-3 : of 3 V ≡ done_by x 3 r
+      of-3 = of-all 3 ∙ rw (of-other x 0 3 w refl, of-own x 3 r) refl
+
+      pub one_two : ops (serial (0 ∷ 1 ∷ 2 ∷ 3 ∷ []) (at_object x V)) ≡ w ++ q ∷ p ∷ r
+      one_two =
+          ap (λ W. ops (serial (0 ∷ 1 ∷ 2 ∷ 3 ∷ []) W)) at-all
+          ∙ rw (of-0, of-1, of-2, of-3, append-nil (done_by x 3 r))
+          (ops-append (done_by x 0 w) (first_of_1 ∷ first_of_2 ∷ done_by x 3 r) ∙ ap (λ v. v ++ ops (first_of_1 ∷ first_of_2 ∷ done_by x 3 r)) (ops-done x 0 w) ∙ ap (λ v. w ++ q ∷ p ∷ v) (ops-done x 3 r))
+
+      pub two_one : ops (serial (0 ∷ 2 ∷ 1 ∷ 3 ∷ []) (at_object x V)) ≡ w ++ p ∷ q ∷ r
+      two_one =
+          ap (λ W. ops (serial (0 ∷ 2 ∷ 1 ∷ 3 ∷ []) W)) at-all
+          ∙ rw (of-0, of-1, of-2, of-3, append-nil (done_by x 3 r))
+          (ops-append (done_by x 0 w) (first_of_2 ∷ first_of_1 ∷ done_by x 3 r) ∙ ap (λ v. v ++ ops (first_of_2 ∷ first_of_1 ∷ done_by x 3 r)) (ops-done x 0 w) ∙ ap (λ v. w ++ p ∷ q ∷ v) (ops-done x 3 r))
+
+module _ (objects : List Object) (x : ℕ) (along : RunsAlong) (ends : LegalEnds) (o : Object) (there : slice_get objects x ≡ Some o) (w : List ℕ) (p q : ℕ) (r : List ℕ) (free : o.conflicts p q ≡ false) where
+  -- the view of transaction 3, update in place
+  view_3_undo : (s : Seen) → s.stands ≡ stood objects x along ends o there w p q → ops (view Undo s x 3) ≡ w ++ q ∷ p ∷ []
+  view_3_undo s is = ap (λ V. ops (at_object x V)) is ∙ ap ops (at-two objects x along ends o there w p q) ∙ stood-ops objects x along ends o there w p q
+
+  -- by ways of recovery, that p is let in and legal, and what transaction 3 runs
+  let_in : (way : Kind) → o.kind ≡ way → ((V : List Entry) → stops_at way o (0 ∷ []) V 2 p (first_of_1 objects x along ends o there w p q) ≡ false) → IsLetIn objects x along ends o there w p q
+  let_in way is free_by V = subst (λ (kind : Kind). stops_at kind o (0 ∷ []) V 2 p (first_of_1 objects x along ends o there w p q) ≡ false) (sym is) (free_by V)
+
+  seen_legal : (way : Kind) → o.kind ≡ way → IsLegalAt o (view_of_2 objects x along ends o there w p q way ++ p ∷ []) → IsLegalAt o (view_of_2 objects x along ends o there w p q o.kind ++ p ∷ [])
+  seen_legal way is legal = subst (λ (kind : Kind). IsLegalAt o (view_of_2 objects x along ends o there w p q kind ++ p ∷ [])) (sym is) legal
+
+  goes_on : (way : Kind) → o.kind ≡ way → (s : Seen) → Goes o.table (ops (view way s x 3)) r → Goes o.table (ops (view o.kind s x 3)) r
+  goes_on way is s goes = subst (λ (kind : Kind). Goes o.table (ops (view kind s x 3)) r) (sym is) goes
+
+  -- update in place, where the second commits first
+  undo_runs : o.kind ≡ Undo → IsLegalAt o (w ++ q ∷ p ∷ r) → IsRun objects (breaking x 2 1 w p q r)
+  undo_runs undo legal =
+      let begin : Option ℕ = Some o.table.initial in
+      let both : IsLegalAt o ((w ++ q ∷ p ∷ []) ++ r) = rw (append_assoc w (q ∷ p ∷ []) r) legal in
+      let q_then_p : IsLegalAt o (w ++ q ∷ p ∷ []) = legal-front along o.table begin (w ++ q ∷ p ∷ []) r both in
+      let p_legal : IsLegalAt o ((w ++ q ∷ []) ++ p ∷ []) = rw (append_assoc w (q ∷ []) (p ∷ [])) q_then_p in
+      let q_legal : IsLegalAt o (w ++ q ∷ []) = legal-front along o.table begin (w ++ q ∷ []) (p ∷ []) p_legal in
+      let rest : List EventKind = Commit 2 ∷ Commit 1 ∷ Begin 3 ∷ (by x 3 r ++ Commit 3 ∷ []) in
+      runs-events objects [] (Begin 0 ∷ (by x 0 w ++ (Commit 0 ∷ Begin 1 ∷ Begin 2 ∷ Op 1 x q ∷ Op 2 x p ∷ rest)))
+      (prefix_runs objects x along ends o there w p q rest (let_in Undo undo (λ V. free)) q_legal (seen_legal Undo undo p_legal)
+      (tail_runs objects x along ends o there w p q 2 1 r refl refl refl refl refl (goes_on Undo undo (ended objects x along ends o there w p q 2 1) (rw (view_3_undo (ended objects x along ends o there w p q 2 1) refl) (goes_from objects x along ends o there (w ++ q ∷ p ∷ []) r both)))))
+
+pub undo_breaks : RunsAlong → LegalEnds → UndoBreaks
+undo_breaks along ends objects x o w p q r there undo free legal = (
+  undo_runs objects x along ends o there w p q r free undo legal,
+  ap (λ (s : Seen). s.committed) (seen_at_end objects x along ends o there w p q 2 1 r),
+  ap (λ (s : Seen). ops (serial s.committed (at_object x s.stands))) (seen_at_end objects x along ends o there w p q 2 1 r) ∙ two_one objects x along ends o there w p q r,
+)
+
+-- ---- deferred update
+
+module _ (objects : List Object) (x : ℕ) (along : RunsAlong) (ends : LegalEnds) (o : Object) (there : slice_get objects x ≡ Some o) (w : List ℕ) (p q : ℕ) (r : List ℕ) (free : o.conflicts p q ≡ false) where
+  -- the view of transaction 3
+  view_one_two : ops (view Intentions (ended objects x along ends o there w p q 1 2) x 3) ≡ w ++ q ∷ p ∷ []
+  view_one_two =
+      let S = stood objects x along ends o there w p q in
+      ap (λ V. ops (serial (0 ∷ 1 ∷ 2 ∷ []) (at_object x V) ++ of 3 (at_object x V))) (sym (append-nil S))
+      ∙ ap ops (sym (serial-snoc (0 ∷ 1 ∷ 2 ∷ []) 3 (at_object x (S ++ [])))) ∙ one_two objects x along ends o there w p q []
+
+  view_two_one : ops (view Intentions (ended objects x along ends o there w p q 2 1) x 3) ≡ w ++ p ∷ q ∷ []
+  view_two_one =
+      let S = stood objects x along ends o there w p q in
+      ap (λ V. ops (serial (0 ∷ 2 ∷ 1 ∷ []) (at_object x V) ++ of 3 (at_object x V))) (sym (append-nil S))
+      ∙ ap ops (sym (serial-snoc (0 ∷ 2 ∷ 1 ∷ []) 3 (at_object x (S ++ [])))) ∙ two_one objects x along ends o there w p q []
+
+  -- the first commits first
+  pub one_two_runs : o.kind ≡ Intentions → IsLegalAt o (w ++ q ∷ []) → IsLegalAt o (w ++ p ∷ []) → Goes o.table (w ++ q ∷ p ∷ []) r → IsRun objects (breaking x 1 2 w p q r)
+  one_two_runs deferred q_legal p_legal goes =
+      let rest : List EventKind = Commit 1 ∷ Commit 2 ∷ Begin 3 ∷ (by x 3 r ++ Commit 3 ∷ []) in
+      runs-events objects [] (Begin 0 ∷ (by x 0 w ++ (Commit 0 ∷ Begin 1 ∷ Begin 2 ∷ Op 1 x q ∷ Op 2 x p ∷ rest)))
+      (prefix_runs objects x along ends o there w p q rest (let_in objects x along ends o there w p q r free Intentions deferred (λ V. free)) q_legal (seen_legal objects x along ends o there w p q r free Intentions deferred p_legal)
+      (tail_runs objects x along ends o there w p q 1 2 r refl refl refl refl refl (goes_on objects x along ends o there w p q r free Intentions deferred (ended objects x along ends o there w p q 1 2) (rw view_one_two goes))))
+
+  -- the second does
+  pub two_one_runs : o.kind ≡ Intentions → IsLegalAt o (w ++ q ∷ []) → IsLegalAt o (w ++ p ∷ []) → Goes o.table (w ++ p ∷ q ∷ []) r → IsRun objects (breaking x 2 1 w p q r)
+  two_one_runs deferred q_legal p_legal goes =
+      let rest : List EventKind = Commit 2 ∷ Commit 1 ∷ Begin 3 ∷ (by x 3 r ++ Commit 3 ∷ []) in
+      runs-events objects [] (Begin 0 ∷ (by x 0 w ++ (Commit 0 ∷ Begin 1 ∷ Begin 2 ∷ Op 1 x q ∷ Op 2 x p ∷ rest)))
+      (prefix_runs objects x along ends o there w p q rest (let_in objects x along ends o there w p q r free Intentions deferred (λ V. free)) q_legal (seen_legal objects x along ends o there w p q r free Intentions deferred p_legal)
+      (tail_runs objects x along ends o there w p q 2 1 r refl refl refl refl refl (goes_on objects x along ends o there w p q r free Intentions deferred (ended objects x along ends o there w p q 2 1) (rw view_two_one goes))))

@@ -1,0 +1,13 @@
+pub mod Before
+pub mod Turned
+pub mod Grown
+pub mod InRun
+pub mod Dating
+pub mod AnyOrder
+pub mod AnyNumber
+pub mod Dynamic
+pub mod Joined
+pub mod Breaking
+pub mod Keeping
+pub mod Converse
+pub mod YesExact

@@ -1,0 +1,4 @@
+pub mod Dynamic
+pub mod Joined
+pub mod Converse
+pub mod OrderExamples

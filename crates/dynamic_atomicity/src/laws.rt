@@ -1,0 +1,118 @@
+//! Laws of dynamic atomicity: which orders of the committed transactions are legal, stores that are
+//! joined, and the converse. Each function does nothing, and its contract is the law.
+
+ghost use Rattle.dynamic_atomicity.specs.Dynamic.{CommitOrderKeeps, CoveredIsAtomic, RunsAreAtomic, RunsAreAtomicLiving};
+ghost use Rattle.dynamic_atomicity.specs.Joined.{JoinedIsAtomic, JoinedOrder};
+ghost use Rattle.dynamic_atomicity.specs.Converse.{CoverIsExact, StrongIsExact, UndoBreaks, UndoSerialIsExact, YesIsExact};
+
+use escrow_laws::{
+    firm_after_apply, firm_after_commit, firm_after_strike, firm_is_legal, firm_is_safe,
+    fresh_is_firm, nothing_keeps,
+};
+use object_trait::{checked_is_covered, parts_sort, sorts_equi, sorts_look, struck_part};
+use serial_order::Entry;
+use type_table::{
+    ends_inside, ends_within, equi_extends, legal_ends, lists_forward, runs_along, steps_within,
+};
+
+/// At an object that is covered, each order of the committed transactions that keeps what precedes
+/// there by operations that live is legal, and its end agrees.
+pub fn runs_are_atomic_living()
+    ensures { RunsAreAtomicLiving }
+{
+    firm_after_apply();
+    firm_after_commit();
+    firm_after_strike();
+    firm_is_legal();
+    firm_is_safe();
+    fresh_is_firm();
+    nothing_keeps();
+    runs_along();
+    ends_inside();
+    legal_ends();
+    equi_extends();
+    parts_sort::<Entry>();
+    struck_part::<Entry>();
+    sorts_look::<Entry>();
+    sorts_equi::<Entry>();
+    lists_forward();
+}
+
+/// So it is dynamically atomic, whatever the other objects are.
+pub fn covered_is_atomic()
+    ensures { CoveredIsAtomic }
+{
+    runs_are_atomic_living();
+}
+
+/// Dynamic atomicity: each run over covered objects is dynamically atomic at each of them.
+pub fn runs_are_atomic()
+    ensures { RunsAreAtomic }
+{
+    covered_is_atomic();
+}
+
+/// Commit order is one of the orders.
+pub fn commit_order_keeps()
+    ensures { CommitOrderKeeps }
+{}
+
+/// The transactions of several stores have an order that keeps what precedes at each object: that of
+/// their first commits.
+pub fn joined_order()
+    ensures { JoinedOrder }
+{}
+
+/// Each such order is legal at every object of every store.
+pub fn joined_is_atomic()
+    ensures { JoinedIsAtomic }
+{
+    covered_is_atomic();
+}
+
+/// With update in place, a pair outside the table that doesn't commute gives a run that breaks.
+pub fn undo_breaks()
+    ensures { UndoBreaks }
+{
+    runs_along();
+    legal_ends();
+}
+
+/// A conflict table is enough exactly where each run is dynamically atomic.
+pub fn cover_is_exact()
+    ensures { CoverIsExact }
+{
+    runs_along();
+    legal_ends();
+    covered_is_atomic();
+}
+
+/// And so is a yes of the checker, where the relation is complete and all states of the set are
+/// reached.
+pub fn yes_is_exact()
+    ensures { YesIsExact }
+{
+    steps_within();
+    ends_within();
+    checked_is_covered();
+    cover_is_exact();
+}
+
+/// With update in place, a conflict table is enough exactly where commit order is legal.
+pub fn undo_serial_is_exact()
+    ensures { UndoSerialIsExact }
+{
+    runs_along();
+    legal_ends();
+    covered_is_atomic();
+    commit_order_keeps();
+}
+
+/// And it is so strongly exactly where all orders end equieffective.
+pub fn strong_is_exact()
+    ensures { StrongIsExact }
+{
+    runs_along();
+    legal_ends();
+    covered_is_atomic();
+}

@@ -1,0 +1,13 @@
+//! Dynamic atomicity: in each order that keeps what precedes the committed transactions of a run are
+//! legal, also over several stores; and which conflict tables that needs. Definitions and laws alone.
+#![tactic(auto)]
+
+mod laws;
+
+pub use laws::{
+    commit_order_keeps, cover_is_exact, covered_is_atomic, joined_is_atomic, joined_order,
+    runs_are_atomic, runs_are_atomic_living, strong_is_exact, undo_breaks, undo_serial_is_exact,
+    yes_is_exact,
+};
+
+pub mod worked;
