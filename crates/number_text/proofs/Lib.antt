@@ -1,0 +1,10 @@
+pub mod LongNumbers
+pub mod LongDecimals
+pub mod Accepted
+pub mod Follows
+pub mod CanonicalAccepted
+pub mod Spelled
+pub mod CanonicalRead
+pub mod Tables
+pub mod Writing
+pub mod NumberedNames

@@ -1,0 +1,32 @@
+//! Laws of numbers and of their canonical text: each is a function that does nothing, whose contract is
+//! the law. It calls the laws on which it depends.
+
+ghost use Rattle.number_text.specs.Canonical.{CanonicalIsRead, WrittenIsRead};
+ghost use Rattle.number_text.specs.Operations.{NumberHasTable};
+
+use crate::number_line::NumberLine;
+use escrow_laws::numbers_have_tables;
+use line_text::{canonical_reads_again, names_are_words};
+
+/// The canonical text of a number has a value, and its lines describe this number.
+pub fn canonical_is_read()
+    ensures { CanonicalIsRead }
+{
+    canonical_reads_again::<NumberLine>();
+    names_are_words();
+}
+
+/// What is read from the canonical text of a number is that number.
+pub fn written_is_read()
+    ensures { WrittenIsRead }
+{
+    canonical_is_read();
+}
+
+/// A number each of whose calls lists its amount has a table, and the bounds of its operations are
+/// those of the table's.
+pub fn number_has_table()
+    ensures { NumberHasTable }
+{
+    numbers_have_tables();
+}

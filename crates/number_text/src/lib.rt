@@ -1,0 +1,24 @@
+//! Texts of numbers that have no table: what is read and written of a number file, and the operations
+//! and bounds of its calls.
+#![tactic(auto)]
+
+mod bounds;
+mod build;
+mod digits;
+mod laws;
+mod number_call;
+mod number_file;
+mod number_grammar;
+mod number_line;
+mod ops;
+mod read;
+mod write;
+
+pub use laws::{canonical_is_read, number_has_table, written_is_read};
+pub use line_text::{FaultKind, TextFault};
+pub use number_call::NumberCall;
+pub use number_file::NumberFile;
+pub use read::read_number;
+pub use write::write_number;
+
+pub mod worked;
