@@ -2,6 +2,7 @@
 
 mod checked;
 mod lines;
+mod number_files;
 mod numbers;
 mod relations;
 mod requests;
