@@ -4,8 +4,9 @@ Each seat is an object, and one object more counts the bookings. Two bookings of
 at the counter too: two ups don't conflict. Two guests at one seat come one after the other.
 """
 import itertools
+import threading
 import time
-from typing import List, Optional, Tuple
+from typing import Callable, List, Optional, Tuple, TypeVar
 
 import colock
 from board import Board, Hold, Seen, SeatState, Turn
@@ -22,6 +23,11 @@ WAIT = 1.0
 """How many seconds a call waits for whoever is in its way. A transaction here takes milliseconds."""
 TRIES = 5
 """How often a transaction is tried in all."""
+AT_ONCE = 64
+"""How many transactions run at once. More requests than that wait for their turn outside of the store, which may have
+1,024 open: in it they would only wait for one another."""
+
+T = TypeVar("T")
 
 # ---- the types
 
@@ -97,6 +103,7 @@ class Hall:
         """
         self._store = store
         self._turns = itertools.count(1)
+        self._turnstile = threading.BoundedSemaphore(AT_ONCE)
         states = store.retry(_woken, tries=TRIES)
         sold = store.kept(SOLD)
         if sold != states.count(SeatState.BOOKED):
@@ -125,7 +132,7 @@ class Hall:
             reply, turn = self._turn(t, seat, "hold")
             return self._board.put(seat, guest, turn) if reply == "ok" else self._own(seat, guest, reply)
 
-        hold = self._store.retry(holding, tries=TRIES)
+        hold = self._done(holding)
         self._board.show(seat, SeatState.HELD, hold.turn)
         return hold
 
@@ -139,7 +146,7 @@ class Hall:
             t.call(SOLD, "inc:1", wait=WAIT).executed()
             return turn
 
-        turn = self._store.retry(booking, tries=TRIES)
+        turn = self._done(booking)
         self._board.show(seat, SeatState.BOOKED, turn)
 
     def release(self, name: str, guest: str) -> None:
@@ -184,8 +191,13 @@ class Hall:
                 raise Denied(f"{SEATS[hold.seat]} is held anew.")
             return turn
 
-        turn = self._store.retry(releasing, tries=TRIES)
+        turn = self._done(releasing)
         self._board.show(hold.seat, SeatState.FREE, turn)
+
+    def _done(self, f: Callable[[colock.Transaction], T]) -> T:
+        """A function as a transaction, which is durable behind this."""
+        with self._turnstile:
+            return self._store.retry(f, tries=TRIES)
 
     def _turn(self, t: colock.Transaction, seat: int, call: str) -> Tuple[str, Turn]:
         """The reply of a seat, behind whoever is at it; and the turn, drawn while nobody else can change the seat."""

@@ -16,6 +16,7 @@ from typing import Any, Callable, Dict, List, NamedTuple, Optional, Tuple, Type
 
 import colock
 from board import Shown
+from files import allow_files
 from hall import ROWS, SEATS, SEATS_IN_ROW, SOLD, Denied, Disagree, Hall, NoSeat
 
 PAGE = os.path.join(os.path.dirname(os.path.abspath(__file__)), "hall.html")
@@ -31,6 +32,10 @@ LONGEST_BODY = 200
 SWEEP = 0.5
 # How many seconds requests that are being answered have where the service ends.
 LAST_ANSWERS = 5.0
+# How many clients may knock at the same moment. Who finds the queue full knocks again after a second.
+KNOCKING = 2048
+# How many files it may have open, of which each connection is one.
+FILES = 4096
 
 # The store is gone: this process can only end, and its supervisor starts it anew.
 LOST = (colock.ConnectionLost, colock.OutcomeUnknown, colock.Closed)
@@ -143,10 +148,13 @@ class Requests:
         self._changed = threading.Condition()
         self._count = 0
         self._is_closing = False
+        self.most = 0
+        """How many there were at once at most."""
 
     def __enter__(self) -> bool:
         with self._changed:
             self._count += 1
+            self.most = max(self.most, self._count)
             return not self._is_closing
 
     def __exit__(self, kind: Optional[Type[BaseException]], error: Optional[BaseException], trace: Optional[TracebackType]) -> None:
@@ -165,7 +173,7 @@ class Server(ThreadingHTTPServer):
     """Each connection has a thread, and all of them share the hall."""
 
     daemon_threads = True
-    request_queue_size = 128
+    request_queue_size = KNOCKING
     hall: Hall
 
     def __init__(self, host: str, port: int, is_verbose: bool) -> None:
@@ -236,7 +244,7 @@ class Server(ThreadingHTTPServer):
             self.lost = error
             return
         done = f"{stats.commits} commits, {stats.aborts} aborts, {stats.waits} waits of {stats.waited:.3f} s in all"
-        print(f"service.py: {done}; {stats.busy[SOLD]} times busy at the counter", file=sys.stderr)
+        print(f"service.py: {done}; {stats.busy[SOLD]} times busy at the counter; {self.requests.most} requests at once", file=sys.stderr)
 
     def handle_error(self, request: Any, client_address: Any) -> None:
         """A client that went away is no error of the service."""
@@ -261,6 +269,10 @@ class Handler(BaseHTTPRequestHandler):
 
     do_POST = do_GET
 
+    def handle_expect_100(self) -> bool:
+        """A client that waits for this before it sends the body is told so where the body is read."""
+        return True
+
     def _serve(self, is_open: bool) -> None:
         found = GUEST.search(self.headers.get("Cookie", ""))
         guest = found[1] if found else secrets.token_urlsafe(16)
@@ -284,6 +296,10 @@ class Handler(BaseHTTPRequestHandler):
             raise BadRequest("The length of the body isn't told.")
         if int(length) > LONGEST_BODY:
             raise BadRequest(f"The body has more than {LONGEST_BODY} bytes.")
+        if self.headers.get("Expect", "").lower() == "100-continue":
+            self.send_response_only(100)
+            self.end_headers()
+            self.wfile.flush()
         return self.rfile.read(int(length))
 
     def _answer(self, body: bytes, guest: str) -> Answer:
@@ -365,6 +381,7 @@ def stop_at_signals(server: Server) -> None:
 
 def main(words: Optional[List[str]] = None) -> int:
     chosen = options(words)
+    allow_files(FILES)
     try:
         server = Server(chosen.host, chosen.port, chosen.verbose)
     except (OSError, OverflowError) as error:

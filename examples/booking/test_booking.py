@@ -22,12 +22,15 @@ from typing import Any, Dict, Iterator, List, NamedTuple, Optional, Sequence, Tu
 from unittest import mock
 
 import colock
+from crowd import Crowd
 from hall import SEAT_OPERATIONS, SEATS, SOLD, Denied, Hall, NoSeat
 from load import Asked, Load
 from service import LATER, Server
 
 HERE = os.path.dirname(os.path.abspath(__file__))
 REQUESTS, GUESTS = 2000, 32
+# How many guests ask at the same moment.
+CROWD = 2000
 # How many seconds anything here may take before it counts as a failure.
 LIMIT = 60.0
 
@@ -332,6 +335,27 @@ class LoadTest(ServiceTest):
         self.assertEqual(shown["sold"], states[SOLD])
         self.assertEqual(self.service.terminate(), 0)
         self.assertNotIn(HELD, self.audited()[:SOLD])
+
+
+class CrowdTest(ServiceTest):
+    options = ("--hold-seconds", "600")
+
+    def test_all_ask_at_once(self) -> None:
+        source = random.Random(5)
+        seats = [source.choice(SEATS) for _ in range(CROWD)]
+        with Crowd(self.service.address, CROWD) as crowd:
+            held, booked = crowd.ask("hold", seats), crowd.ask("book", seats)
+        shown = Client(self.service).seats()
+        self.assertEqual(self.service.terminate(), 0)
+        self.assertIn(f"; {CROWD} requests at once\n", self.service.said())
+        for asked in held, booked:
+            self.assertEqual({one.status for one in asked}, {200, 409})
+        # one guest holds each seat that was asked for, and books it
+        winners = [[(one.guest, one.seat) for one in asked if one.status == 200] for asked in (held, booked)]
+        self.assertEqual(sorted(seat for _, seat in winners[0]), sorted(set(seats)))
+        self.assertEqual(winners[1], winners[0])
+        self.assertEqual({name for name, state in shown["seats"].items() if state == "booked"}, set(seats))
+        self.assertEqual(self.audited()[SOLD], len(set(seats)))
 
 
 class AnswersTest(ServiceTest):

@@ -214,6 +214,22 @@ class Outcomes(Files):
         with self.open() as store:
             self.assertIsNone(store.committed(ids[0]))
 
+    def test_earlier_lives_of_an_archived_epoch(self):
+        archive = os.path.join(self.folder, "archive")
+        store = self.open([COUNTER], create=True, archive=archive)
+        t = store.begin()
+        t.abort()
+        early = [*self.up(store), t.id, *self.up(store)]
+        self.killed(store)
+        with self.open(archive=archive) as store:
+            late = self.up(store)[0]
+            self.assertEqual([store.committed(id) for id in early], [True, False, True])
+        # the epoch had two lives, and its history has the name of the second
+        self.assertEqual(os.listdir(archive), ["2.history"])
+        with self.open(archive=archive) as store:
+            self.assertEqual((late, store.committed(late), store.committed("2.9")), ("2.3", True, None))
+            self.assertEqual([store.committed(id) for id in [*early, "1.9"]], [None] * 4)
+
     def test_commits_in_flight(self):
         store = self.open([COUNTER], create=True)
         ids = self.up(store, 2)

@@ -41,6 +41,23 @@ enum Look {
     Again,
 }
 
+/// Who was in the way of a call, and how often operations had been taken back when it was asked.
+#[derive(Clone, Copy)]
+pub(crate) struct InTheWay {
+    pub(crate) blocker: u64,
+    pub(crate) since: u64,
+}
+
+impl InTheWay {
+    /// Whom to wait for, where that one hasn't let go since.
+    fn look(self, state: &State) -> Look {
+        match &state.held {
+            Held::Child(served) if served.has_let_go(self.blocker, self.since) => Look::Again,
+            _ => Look::Behind { blocker: self.blocker, by_gate: false },
+        }
+    }
+}
+
 /// A call that waits, with its limit.
 #[derive(Clone, Copy)]
 struct Wait {
@@ -54,7 +71,7 @@ struct Wait {
 impl SharedStore {
     /// A call that is answered at once.
     pub(crate) fn call_now(&self, ticket: Ticket, object: u32, call: Call<'_>) -> Result<Reply, Error> {
-        self.call_within_turn(self.lock(), ticket, object, call, Lock::GivenUp).1
+        self.call_within_turn(self.enter()?, ticket, object, call, Lock::GivenUp).1
     }
 
     /// The same, with a lock that is given up, or kept.
@@ -93,7 +110,7 @@ impl SharedStore {
     }
 
     /// The number and the name of a call.
-    fn resolved<'n>(&'n self, object: u32, call: Call<'n>) -> Result<(u8, &'n str), Error> {
+    pub(crate) fn resolved<'n>(&'n self, object: u32, call: Call<'n>) -> Result<(u8, &'n str), Error> {
         let calls = self.calls_at(object)?;
         match call {
             Call::Name(name) => calls.number(name).map(|number| (number, name)),
@@ -145,7 +162,7 @@ impl SharedStore {
     }
 
     /// The reply of a line that answers a call.
-    fn reply_of(&self, text: &str, object: u32, call: u8) -> Result<Reply, Error> {
+    pub(crate) fn reply_of(&self, text: &str, object: u32, call: u8) -> Result<Reply, Error> {
         let reply = match answer(text) {
             Some(Answer::Reply(name)) => self.calls_at(object)?.operation(call, name).map(Reply::Operation),
             Some(Answer::Busy(id)) => Some(Reply::Busy { blocker: id.number }),
@@ -188,14 +205,20 @@ fn of_open(error: Error) -> Error {
 // ---- calls that wait
 
 impl SharedStore {
-    /// A call that waits for who is in its way, as long as the limit lets it. A victim has been aborted.
-    pub(crate) fn call_waiting(&self, ticket: Ticket, object: u32, call: Call<'_>, limit: Duration) -> Result<Reply, Error> {
+    /// Counts a call that was busy.
+    pub(crate) fn count_busy(&self, object: u32) {
+        self.lock().stats.count_busy(object);
+    }
+
+    /// A call that waits for who is in its way, up to a moment. A victim has been aborted. Where it was made already, it
+    /// is known who was in its way then.
+    pub(crate) fn call_waiting(&self, ticket: Ticket, object: u32, call: Call<'_>, deadline: Option<Instant>, first: Option<InTheWay>) -> Result<Reply, Error> {
         let Ok((number, _)) = self.resolved(object, call) else {
             return self.call_now(ticket, object, call); // which tells what is wrong
         };
         let asker = Asker { number: ticket.id.number, age: ticket.age, object, call: number };
-        let wait = Wait { ticket, asker, deadline: Instant::now().checked_add(limit) };
-        let (mut guard, done) = self.waited(self.lock(), wait);
+        let wait = Wait { ticket, asker, deadline };
+        let (mut guard, done) = self.waited(self.enter()?, wait, first);
         if guard.is_of_life(ticket).is_ok() {
             guard.waiting.leave(asker.number);
         }
@@ -204,6 +227,7 @@ impl SharedStore {
             Err(Error::Deadlock { .. }) => {
                 guard.stats.deadlocks += 1;
                 abort_at_once(&mut guard, ticket);
+                self.leave(guard);
             }
             _ => {}
         }
@@ -211,24 +235,29 @@ impl SharedStore {
     }
 
     /// Looks, and sleeps where somebody is in the way, until the call is done.
-    fn waited<'s>(&'s self, mut guard: Guard<'s>, wait: Wait) -> (Guard<'s>, Result<Reply, Error>) {
-        let mut verb = Verb::Call;
-        loop {
-            let (looked, look) = self.look(guard, wait, verb);
-            guard = looked;
-            // behind the first look the store is asked without an event
-            verb = Verb::Would;
-            let (blocker, by_gate) = match look {
-                Ok(Look::Done(reply)) => return (guard, Ok(reply)),
-                Ok(Look::Behind { blocker, by_gate }) => (blocker, by_gate),
-                Ok(Look::Again) => continue,
-                Err(error) => return (guard, Err(error)),
-            };
-            let (woken, slept) = self.sleep(guard, wait, blocker, by_gate);
-            guard = woken;
-            if let Err(error) = slept {
-                return (guard, Err(error));
+    fn waited<'s>(&'s self, guard: Guard<'s>, wait: Wait, first: Option<InTheWay>) -> (Guard<'s>, Result<Reply, Error>) {
+        let (mut guard, mut look) = match first {
+            None => self.look(guard, wait, Verb::Call),
+            Some(first) => {
+                let look = first.look(&guard);
+                (guard, Ok(look))
             }
+        };
+        loop {
+            match look {
+                Ok(Look::Done(reply)) => return (guard, Ok(reply)),
+                Ok(Look::Behind { blocker, by_gate }) => {
+                    let (woken, slept) = self.sleep(guard, wait, blocker, by_gate);
+                    guard = woken;
+                    if let Err(error) = slept {
+                        return (guard, Err(error));
+                    }
+                }
+                Ok(Look::Again) => {}
+                Err(error) => return (guard, Err(error)),
+            }
+            // behind the first look the store is asked without an event
+            (guard, look) = self.look(guard, wait, Verb::Would);
         }
     }
 
@@ -282,10 +311,10 @@ impl SharedStore {
     }
 
     /// Waits for the end of a transaction, at most so long, and holds nothing meanwhile.
-    pub(crate) fn wait_for_end(&self, life: u64, number: u64, limit: Duration) {
+    pub(crate) fn wait_for_end(&self, life: Option<u64>, number: u64, limit: Duration) {
         let deadline = Instant::now().checked_add(limit);
-        let mut guard = self.lock();
-        if guard.life != life || !guard.is_open(number) || self.lost().is_some() {
+        let Ok(mut guard) = self.enter() else { return };
+        if life != Some(guard.life) || !guard.is_open(number) || self.lost().is_some() {
             return;
         }
         let bed = guard.waiting.look_on(number);
@@ -424,7 +453,7 @@ pub(crate) fn abort_at_once(state: &mut State, ticket: Ticket) {
             let _ = abort_in_memory(state, ticket);
         }
         Held::Child(served) => {
-            if served.conversation.send_off(Request::Abort(ticket.id)).is_ok() {
+            if served.send(Request::Abort(ticket.id)).is_ok() {
                 counts_as_ended(state, ticket, true);
             }
         }

@@ -1,6 +1,7 @@
 //! The child process `colock serve`, the thread that reads what it answers, and the requests to it.
 
 use crate::error::Error;
+use crate::fork::{self, Unforked};
 use crate::locks::locked;
 use crate::past::Found;
 use crate::program::{found_in, nameless_file, said_in};
@@ -10,7 +11,8 @@ use crate::store_state::State;
 use crate::waiting::Verdict;
 use std::collections::VecDeque;
 use std::fs::File;
-use std::io::{BufRead, BufReader, Read, Write};
+use std::io::{self, ErrorKind, Read, Write};
+use std::mem;
 use std::os::unix::process::CommandExt;
 use std::process::{Child, ChildStdin, ChildStdout, Command, Stdio};
 use std::sync::{Arc, Mutex, OnceLock, Weak};
@@ -18,7 +20,10 @@ use std::thread;
 use std::time::{Duration, Instant};
 
 /// The most bytes of a line that is an answer.
-const LONGEST_ANSWER: u64 = 4096;
+const LONGEST_ANSWER: usize = 4096;
+
+/// How many bytes of answers are read at once.
+const READ_AT_ONCE: usize = 65_536;
 
 /// How long a child that has closed its output may take to end, between two looks.
 const BETWEEN_LOOKS: Duration = Duration::from_millis(1);
@@ -27,33 +32,80 @@ const BETWEEN_LOOKS: Duration = Duration::from_millis(1);
 #[derive(Debug)]
 pub(crate) struct Link {
     child: Mutex<Child>,
+    /// Of whom writes what is in flight. It is gone where the child was reaped.
+    input: Mutex<Option<Unforked<ChildStdin>>>,
     flight: Mutex<Flight>,
     /// What it says on standard error.
     said: File,
     limit: Duration,
+    /// Of which fork of a process it is the child.
+    forks: u32,
     /// Why it is lost, by whoever found it first.
     reason: OnceLock<String>,
     /// The store whose sleepers are woken where the child is lost.
     store: OnceLock<Weak<Mutex<State>>>,
 }
 
-/// What was asked and isn't answered, in the order in which it was written.
+/// What was asked and isn't answered, in the order in which it was asked.
 #[derive(Debug)]
 struct Flight {
     queue: VecDeque<Pending>,
+    /// The lines of the last of them, which aren't written yet.
+    lines: Vec<u8>,
+    /// Whether a thread writes, which then writes what comes meanwhile, too.
+    is_written: bool,
     /// Whether the end was asked for.
     is_ending: bool,
     /// Why nothing can be asked any more.
     lost: Option<String>,
 }
 
+/// Requests that were answered, each with the last line of its answer.
+type Whole<'l> = Vec<(Pending, &'l str)>;
+
+impl Flight {
+    /// The lines that aren't written, where no thread writes.
+    fn unwritten(&mut self) -> Option<Vec<u8>> {
+        if self.is_written || self.lines.is_empty() {
+            return None;
+        }
+        self.is_written = true;
+        Some(mem::take(&mut self.lines))
+    }
+
+    /// Takes a line. Where an answer is whole by it, the request is answered.
+    fn take<'l>(&mut self, line: &'l [u8], whole: &mut Whole<'l>) -> Result<(), String> {
+        let text = line.strip_suffix(b"\n").and_then(|text| std::str::from_utf8(text).ok()).ok_or_else(|| no_line(line))?;
+        let head = self.queue.front().ok_or_else(|| format!("an answer that nobody asked for: {text}"))?;
+        let answer = head.own(text).ok_or_else(|| format!("an answer to another request: {text}"))?;
+        if !head.ends_with(answer) {
+            head.add(answer);
+        } else if let Some(head) = self.queue.pop_front() {
+            whole.push((head, answer));
+        }
+        Ok(())
+    }
+}
+
+/// Reads what is there; how many bytes that are.
+fn read_more(output: &mut Unforked<ChildStdout>, room: &mut [u8]) -> io::Result<usize> {
+    loop {
+        match output.read(room) {
+            Err(error) if error.kind() == ErrorKind::Interrupted => {}
+            count => return count,
+        }
+    }
+}
+
+/// That a line isn't one.
+fn no_line(line: &[u8]) -> String {
+    format!("no whole line of text: {}", shown(line))
+}
+
 impl Link {
     /// Starts a child in a process group of its own, so that an interrupt from the keyboard ends its client first.
     /// Its greeting comes into the slot.
-    ///
-    /// The pipes are closed where this process executes another program. One that forks by itself, without that,
-    /// isn't looked after: it holds the pipes too.
-    pub(crate) fn start(mut command: Command, limit: Duration) -> Result<(Arc<Link>, ChildStdin, Arc<Slot>), String> {
+    pub(crate) fn start(mut command: Command, limit: Duration) -> Result<(Arc<Link>, Arc<Slot>), String> {
         let said = nameless_file().map_err(|error| format!("no file for standard error: {error}"))?;
         let error = said.try_clone().map_err(|error| format!("no file for standard error: {error}"))?;
         command.stdin(Stdio::piped()).stdout(Stdio::piped()).stderr(error).process_group(0);
@@ -61,14 +113,16 @@ impl Link {
         let (Some(input), Some(output)) = (child.stdin.take(), child.stdout.take()) else {
             return Err("the child has no pipes".to_string());
         };
+        let (input, output) = (Mutex::new(Some(Unforked::new(input))), Unforked::new(output));
         let greeting = Arc::new(Slot::default());
-        let first = Pending { tag: 0, form: Form::Greeting, commits: None, slot: Some(Arc::clone(&greeting)) };
-        let flight = Mutex::new(Flight { queue: VecDeque::from([first]), is_ending: false, lost: None });
-        let link = Arc::new(Link { child: Mutex::new(child), flight, said, limit, reason: OnceLock::new(), store: OnceLock::new() });
+        let first = Pending { tag: 0, form: Form::Greeting, commits: None, slot: Arc::clone(&greeting) };
+        let flight = Flight { queue: VecDeque::from([first]), lines: Vec::new(), is_written: false, is_ending: false, lost: None };
+        let (child, flight, forks) = (Mutex::new(child), Mutex::new(flight), fork::count());
+        let link = Arc::new(Link { child, input, flight, said, limit, forks, reason: OnceLock::new(), store: OnceLock::new() });
         let reading = Arc::clone(&link);
         let reader = thread::Builder::new().name("colock answers".to_string()).spawn(move || reading.read_all(output));
         match reader {
-            Ok(_) => Ok((link, input, greeting)),
+            Ok(_) => Ok((link, greeting)),
             Err(error) => {
                 link.kill();
                 Err(format!("no thread for answers: {error}"))
@@ -98,40 +152,37 @@ impl Link {
     // ---- the reader
 
     /// Takes each answer, until none comes any more.
-    fn read_all(&self, output: ChildStdout) {
-        let mut output = BufReader::with_capacity(65_536, output);
-        let mut line = Vec::new();
+    fn read_all(&self, mut output: Unforked<ChildStdout>) {
+        let (mut room, mut lines) = (vec![0; READ_AT_ONCE], Vec::new());
         let words = loop {
-            line.clear();
-            match output.by_ref().take(LONGEST_ANSWER).read_until(b'\n', &mut line) {
-                Ok(0) => break "the program ended".to_string(),
-                Ok(_) => {}
+            match read_more(&mut output, &mut room) {
+                Ok(0) if lines.is_empty() => break "the program ended".to_string(),
+                Ok(0) => break no_line(&lines),
+                Ok(count) => lines.extend_from_slice(&room[..count]),
                 Err(error) => break format!("no answer can be read: {error}"),
             }
-            if let Err(words) = self.take(&line) {
+            let whole = lines.iter().rposition(|byte| *byte == b'\n').map_or(0, |place| place + 1);
+            if let Err(words) = self.take(&lines[..whole]) {
                 break words;
+            }
+            lines.drain(..whole);
+            if lines.len() > LONGEST_ANSWER {
+                break no_line(&lines);
             }
         };
         self.is_over(&words);
     }
 
-    /// Takes a line: it goes to whoever asked first of those that aren't answered.
-    fn take(&self, line: &[u8]) -> Result<(), String> {
-        let text = line.strip_suffix(b"\n").and_then(|text| std::str::from_utf8(text).ok());
-        let text = text.ok_or_else(|| format!("no whole line of text: {}", shown(line)))?;
-        let mut flight = locked(&self.flight);
-        let head = flight.queue.front().ok_or_else(|| format!("an answer that nobody asked for: {text}"))?;
-        let answer = head.own(text).ok_or_else(|| format!("an answer to another request: {text}"))?;
-        if !head.ends_with(answer) {
-            head.add(answer);
-            return Ok(());
-        }
-        let head = flight.queue.pop_front();
-        drop(flight);
-        if let Some(head) = head {
-            head.close(answer);
-        }
-        Ok(())
+    /// Takes whole lines: each goes to whoever asked first of those that aren't answered.
+    fn take(&self, lines: &[u8]) -> Result<(), String> {
+        let mut whole = Vec::new();
+        let taken = {
+            let mut flight = locked(&self.flight);
+            lines.split_inclusive(|byte| *byte == b'\n').try_for_each(|line| flight.take(line, &mut whole))
+        };
+        // without the lock, which they want who are woken
+        whole.iter().for_each(|(pending, answer)| pending.close(answer));
+        taken
     }
 
     /// No more answers come.
@@ -176,10 +227,22 @@ impl Link {
     }
 
     fn kill(&self) {
+        if self.is_here().is_err() {
+            return; // it is the child of another process
+        }
         let mut child = locked(&self.child);
         // both fail only where it was reaped before
         let _ = child.kill();
         let _ = child.wait();
+    }
+
+    /// That this process has the child, and isn't a fork of the one that has.
+    #[inline]
+    pub(crate) fn is_here(&self) -> Result<(), Error> {
+        if fork::count() == self.forks {
+            return Ok(());
+        }
+        Err(Error::ConnectionLost("the process is a fork of the one that opened the store".to_string()))
     }
 
     /// Why nothing can be asked any more.
@@ -195,19 +258,42 @@ impl Link {
 
     // ---- requests
 
-    /// Puts a request behind those that aren't answered, before it is written.
-    fn expect(&self, pending: Pending, is_end: bool) -> Result<(), Error> {
+    /// Puts requests behind those that aren't answered. Where the child is lost they fail.
+    fn expect(&self, requests: &mut Vec<Pending>, lines: &[u8]) -> Result<(), Error> {
         let mut flight = locked(&self.flight);
         if let Some(words) = &flight.lost {
+            requests.drain(..).for_each(|pending| pending.fail(words));
             return Err(Error::ConnectionLost(words.clone()));
         }
-        flight.is_ending |= is_end;
-        flight.queue.push_back(pending);
+        flight.is_ending |= requests.iter().any(|pending| pending.form == Form::End);
+        flight.queue.extend(requests.drain(..));
+        flight.lines.extend_from_slice(lines);
         Ok(())
+    }
+
+    /// Writes what was asked up to now, where no other thread does. It is called without a lock that others want who
+    /// ask, so that one write takes the lines of many.
+    pub(crate) fn write(&self) {
+        let Some(mut lines) = locked(&self.flight).unwritten() else { return };
+        while !lines.is_empty() {
+            let written = match &mut *locked(&self.input) {
+                Some(input) => input.write_all(&lines),
+                None => Err(ErrorKind::BrokenPipe.into()),
+            };
+            if let Err(error) = written {
+                // the slots have the failure
+                self.lose(&format!("nothing can be asked: {error}"));
+            }
+            lines.clear();
+            let mut flight = locked(&self.flight);
+            mem::swap(&mut lines, &mut flight.lines);
+            flight.is_written = !lines.is_empty();
+        }
     }
 
     /// The answer to a request, which is waited for. Where none comes within the limit, the child is lost.
     pub(crate) fn answered(&self, slot: &Slot) -> Result<String, Error> {
+        self.write();
         if let Some(answer) = slot.answer_until(Instant::now().checked_add(self.limit)) {
             return answer;
         }
@@ -218,6 +304,7 @@ impl Link {
 
     /// Waits for the child that was asked for the end, and kills it where it doesn't end within the limit.
     pub(crate) fn reap(&self) {
+        drop(locked(&self.input).take());
         let start = Instant::now();
         while start.elapsed() < self.limit {
             if !matches!(locked(&self.child).try_wait(), Ok(None)) {
@@ -233,47 +320,57 @@ impl Link {
 #[derive(Debug)]
 pub(crate) struct Conversation {
     link: Arc<Link>,
-    input: ChildStdin,
-    line: Vec<u8>,
+    /// The lines that aren't asked yet, and their requests.
+    lines: Vec<u8>,
+    requests: Vec<Pending>,
     tag: u64,
 }
 
 impl Conversation {
-    pub(crate) fn new(link: Arc<Link>, input: ChildStdin) -> Conversation {
-        Conversation { link, input, line: Vec::new(), tag: 0 }
+    pub(crate) fn new(link: Arc<Link>) -> Conversation {
+        Conversation { link, lines: Vec::new(), requests: Vec::new(), tag: 0 }
     }
 
-    /// Writes a request, whose answer comes into the slot.
-    pub(crate) fn send(&mut self, request: Request<'_>) -> Result<Arc<Slot>, Error> {
-        let slot = Arc::new(Slot::default());
-        self.write(request, Some(Arc::clone(&slot)))?;
-        Ok(slot)
-    }
-
-    /// Writes a request whose answer nobody waits for.
-    pub(crate) fn send_off(&mut self, request: Request<'_>) -> Result<(), Error> {
-        self.write(request, None)
-    }
-
-    /// Writes a request and waits for its answer, with the lock.
-    pub(crate) fn ask(&mut self, request: Request<'_>) -> Result<String, Error> {
-        let slot = self.send(request)?;
-        self.link.answered(&slot)
-    }
-
-    fn write(&mut self, request: Request<'_>, slot: Option<Arc<Slot>>) -> Result<(), Error> {
+    /// Puts a request behind those that are to be asked. Its answer comes into the slot, behind `ask_all`.
+    pub(crate) fn put(&mut self, request: Request<'_>) -> Arc<Slot> {
         self.tag += 1;
-        self.line.clear();
         // a write into memory doesn't fail
-        let _ = writeln!(self.line, "{} {request}", self.tag);
-        let form = if request.is_list() { Form::List } else { Form::One };
-        let pending = Pending { tag: self.tag, form, commits: request.committed(), slot };
-        self.link.expect(pending, matches!(request, Request::End))?;
-        if let Err(error) = self.input.write_all(&self.line) {
-            // the slot has the failure
-            self.link.lose(&format!("nothing can be asked: {error}"));
+        let _ = writeln!(self.lines, "{} {request}", self.tag);
+        let form = match request {
+            Request::End => Form::End,
+            _ if request.is_list() => Form::List,
+            _ => Form::One,
+        };
+        let slot = Arc::new(Slot::default());
+        self.requests.push(Pending { tag: self.tag, form, commits: request.committed(), slot: Arc::clone(&slot) });
+        slot
+    }
+
+    /// That something can be asked, as far as is known.
+    pub(crate) fn check(&self) -> Result<(), Error> {
+        match self.link.reason.get() {
+            Some(_) => self.link.lost().map_or(Ok(()), Err),
+            None => Ok(()),
         }
-        Ok(())
+    }
+
+    /// Asks what was put. It is to be written by `Link::write`, which `Link::answered` does.
+    pub(crate) fn ask_all(&mut self) -> Result<(), Error> {
+        if self.requests.is_empty() {
+            return Ok(());
+        }
+        // before any lock that is needed for it: in a fork it may be held for ever
+        self.link.is_here()?;
+        let asked = self.link.expect(&mut self.requests, &self.lines);
+        self.lines.clear();
+        asked
+    }
+
+    /// Asks for something and waits for the answer, with the lock.
+    pub(crate) fn ask(&mut self, request: Request<'_>) -> Result<String, Error> {
+        let slot = self.put(request);
+        self.ask_all()?;
+        self.link.answered(&slot)
     }
 }
 

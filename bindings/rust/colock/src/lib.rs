@@ -145,6 +145,7 @@
 //! What each call of the library does is proved, and so is what the program `colock serve` answers. This crate is
 //! tested only: its layer of `unsafe` calls, and all of the waiting and of the child.
 
+mod beginning;
 mod bounds;
 mod calling;
 mod calls;
@@ -152,6 +153,7 @@ mod child;
 mod creating;
 mod error;
 mod event;
+mod fork;
 mod handle;
 mod locks;
 mod opening;

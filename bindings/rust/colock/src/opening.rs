@@ -12,7 +12,7 @@ use crate::types::{Kind, Type};
 use std::fs;
 use std::io;
 use std::path::{Path, PathBuf};
-use std::process::{ChildStdin, Command};
+use std::process::Command;
 use std::sync::Arc;
 use std::time::Duration;
 
@@ -152,8 +152,8 @@ impl<'t> OpenOptions<'t> {
             command.arg("--drain").arg(seconds.to_string());
         }
         command.arg(&path);
-        let (link, input, greeting) = Link::start(command, self.limit).map_err(Error::CannotOpen)?;
-        let opened = self.greeted(&link, input, &greeting, archive);
+        let (link, greeting) = Link::start(command, self.limit).map_err(Error::CannotOpen)?;
+        let opened = self.greeted(&link, &greeting, archive);
         opened.map_err(|error| {
             link.lose("it wasn't opened");
             as_not_opened(error)
@@ -161,9 +161,9 @@ impl<'t> OpenOptions<'t> {
     }
 
     /// The store of a child that was started, when it has greeted and told its objects.
-    fn greeted(&self, link: &Arc<Link>, input: ChildStdin, greeting: &Slot, archive: Option<PathBuf>) -> Result<SharedStore, Error> {
+    fn greeted(&self, link: &Arc<Link>, greeting: &Slot, archive: Option<PathBuf>) -> Result<SharedStore, Error> {
         let life = life_of(&link.answered(greeting)?)?;
-        let mut conversation = Conversation::new(Arc::clone(link), input);
+        let mut conversation = Conversation::new(Arc::clone(link));
         let objects = objects_of(listed(link, &conversation.ask(Request::Objects)?)?, link)?;
         let texts = texts_of(listed(link, &conversation.ask(Request::Types)?)?);
         let made = Made::of(&objects, &texts).map_err(|wrong| wrong.unwrap_or_else(|| link.broken("objects without types")))?;

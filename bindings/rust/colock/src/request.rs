@@ -59,6 +59,11 @@ impl Request<'_> {
         matches!(self, Request::Objects | Request::Types | Request::Events(..))
     }
 
+    /// Whether it asks for what all transactions have done.
+    pub(crate) fn is_of_store(&self) -> bool {
+        matches!(self, Request::Events(..) | Request::Stats)
+    }
+
     /// The transaction that it commits.
     pub(crate) fn committed(&self) -> Option<Id> {
         match self {

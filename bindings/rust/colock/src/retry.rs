@@ -116,16 +116,23 @@ impl SharedStore {
         let mut age = None;
         let mut attempt = 1;
         loop {
-            let transaction = self.begin_aged(0, age)?;
-            let ticket = transaction.ticket();
-            age = Some(ticket.age);
-            let error = match tried(transaction, &mut f) {
-                Ok(told) => return Ok(told),
-                Err(error) => error,
+            let mut transaction = self.begin_aged(0, age)?;
+            age = Some(transaction.age());
+            let done = tried(&mut transaction, &mut f);
+            let life = transaction.life();
+            let error = match done {
+                Ok(told) => match transaction.commit() {
+                    Ok(()) => return Ok(told),
+                    Err(error) => E::from(error),
+                },
+                Err(error) => {
+                    drop(transaction); // which aborts it
+                    error
+                }
             };
             match error.cause_in_store() {
                 Some(_) if attempt >= how.tries => return Err(error),
-                Some(Error::Deadlock { waited_for }) => self.wait_for_end(ticket.id.life, *waited_for, LONGEST_LOOK),
+                Some(Error::Deadlock { waited_for }) => self.wait_for_end(life, *waited_for, LONGEST_LOOK),
                 Some(Error::Busy { .. } | Error::TimedOut | Error::EpochEnded) => thread::sleep(drawn(how.backoff, attempt)),
                 _ => return Err(error),
             }
@@ -134,15 +141,14 @@ impl SharedStore {
     }
 }
 
-/// One try. Where it fails, the transaction is aborted.
-fn tried<T, E: From<Error>>(mut transaction: SharedTransaction<'_>, f: &mut impl FnMut(&mut SharedTransaction<'_>) -> Result<T, E>) -> Result<T, E> {
-    let told = f(&mut transaction)?;
-    if let Some(error) = transaction.deadlock() {
+/// One try, up to its commit.
+fn tried<T, E: From<Error>>(transaction: &mut SharedTransaction<'_>, f: &mut impl FnMut(&mut SharedTransaction<'_>) -> Result<T, E>) -> Result<T, E> {
+    let told = f(transaction)?;
+    match transaction.deadlock() {
         // that it was aborted isn't to be lost where `f` said nothing of it
-        return Err(error.into());
+        Some(error) => Err(error.into()),
+        None => Ok(told),
     }
-    transaction.commit()?;
-    Ok(told)
 }
 
 /// A random time up to the backoff of this try.

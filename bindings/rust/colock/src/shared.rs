@@ -4,8 +4,9 @@ use crate::error::{Error, NotFollowed};
 use crate::event::Event;
 use crate::locks::locked;
 use crate::past::Past;
-use crate::request::{self, answer, Answer, Id, Request};
+use crate::request::{self, Id, Request};
 use crate::shared_transaction::SharedTransaction;
+use crate::slot::Slot;
 use crate::stats::Stats;
 use crate::store::Store;
 use crate::store_state::{Held, State, Ticket};
@@ -15,14 +16,9 @@ use std::fmt;
 use std::mem;
 use std::sync::atomic::{AtomicU64, Ordering};
 use std::sync::{Arc, Mutex, MutexGuard};
-use std::thread;
-use std::time::{Duration, Instant};
 
 /// The most events that a child tells at once.
 const MOST_EVENTS: u32 = 65_536;
-
-/// How long it is waited before a full epoch is asked again for a begin.
-const WHILE_FULL: Duration = Duration::from_millis(5);
 
 /// A store of objects that threads share, in memory or in a file, whose calls may wait.
 ///
@@ -91,9 +87,26 @@ impl SharedStore {
         SharedStore { state, calls, behind: Some(Behind { link, past, commits: AtomicU64::new(0) }), is_closed: false }
     }
 
+    /// The lock, where this process isn't a fork: there whoever had it may be gone.
+    #[inline]
+    pub(crate) fn enter(&self) -> Result<Guard<'_>, Error> {
+        if let Some(behind) = &self.behind {
+            behind.link.is_here()?;
+        }
+        Ok(self.lock())
+    }
+
     #[inline]
     pub(crate) fn lock(&self) -> Guard<'_> {
         locked(&self.state)
+    }
+
+    /// Gives the lock back, and writes what was asked with it and isn't awaited.
+    pub(crate) fn leave(&self, guard: Guard<'_>) {
+        drop(guard);
+        if let Some(behind) = &self.behind {
+            behind.link.write();
+        }
     }
 
     /// What is beside the lock, where the store is behind a child.
@@ -112,9 +125,16 @@ impl SharedStore {
 
     /// Asks a child, and has the lock again behind the answer.
     pub(crate) fn ask<'s>(&'s self, mut guard: Guard<'s>, request: Request<'_>, lock: Lock) -> (Guard<'s>, Result<String, Error>) {
-        let sent = guard.send(request);
-        let (Some(behind), Ok(slot)) = (&self.behind, &sent) else {
-            return (guard, Err(sent.err().unwrap_or(Error::NotOpen)));
+        match guard.send(request) {
+            Ok(slot) => self.awaited(guard, &slot, lock),
+            Err(error) => (guard, Err(error)),
+        }
+    }
+
+    /// Waits for an answer of a child, and has the lock again behind it.
+    pub(crate) fn awaited<'s>(&'s self, guard: Guard<'s>, slot: &Slot, lock: Lock) -> (Guard<'s>, Result<String, Error>) {
+        let Some(behind) = &self.behind else {
+            return (guard, Err(Error::NotOpen));
         };
         if lock == Lock::Kept {
             let told = behind.link.answered(slot);
@@ -131,7 +151,7 @@ impl SharedStore {
 
     /// The answer to a question that isn't one of a transaction.
     fn asked(&self, behind: &Behind, request: Request<'_>) -> Result<String, Error> {
-        let (guard, told) = self.ask(self.lock(), request, Lock::GivenUp);
+        let (guard, told) = self.ask(self.enter()?, request, Lock::GivenUp);
         drop(guard);
         let text = told?;
         if request.is_list() {
@@ -154,6 +174,9 @@ impl SharedStore {
     // ---- transactions
 
     /// Begins a transaction. Where it is dropped, it aborts.
+    ///
+    /// Over a child its begin may go there only with what is asked next, by this thread or of the whole store. Then what
+    /// keeps it from beginning is told by its first call.
     ///
     /// ```
     /// # use colock::{Kind, SharedStore, Type};
@@ -193,7 +216,7 @@ impl SharedStore {
     pub(crate) fn begin_aged(&self, worker: u8, age: Option<u64>) -> Result<SharedTransaction<'_>, Error> {
         let (mut guard, id) = match &self.behind {
             Some(_) if worker != 0 => return Err(Error::InMemoryOnly),
-            Some(behind) => self.begin_served(behind, Lock::GivenUp)?,
+            Some(behind) => return self.begin_over_child(behind, age),
             None => self.begin_in_memory(worker)?,
         };
         let age = age.unwrap_or_else(|| guard.waiting.next_age());
@@ -207,28 +230,6 @@ impl SharedStore {
         let number = guard.memory()?.begin_as(worker)?.leave().number();
         let id = Id { life: guard.life, number };
         Ok((guard, id))
-    }
-
-    /// Begins a transaction over a child, where the epoch isn't full, or the next one has begun within the limit.
-    pub(crate) fn begin_served(&self, behind: &Behind, lock: Lock) -> Result<(Guard<'_>, Id), Error> {
-        let start = Instant::now();
-        loop {
-            let (mut guard, told) = self.ask(self.lock(), Request::Begin, lock);
-            let text = told?;
-            match answer(&text) {
-                Some(Answer::Ok(id)) => {
-                    let id = id.parse::<Id>().map_err(|()| behind.link.broken(&text))?;
-                    guard.began(id);
-                    return Ok((guard, id));
-                }
-                Some(Answer::Refused(error)) => return Err(error),
-                Some(Answer::Drain) if start.elapsed() < behind.link.limit() => {}
-                Some(Answer::Drain) => return Err(Error::TimedOut),
-                _ => return Err(behind.link.broken(&text)),
-            }
-            drop(guard);
-            thread::sleep(WHILE_FULL);
-        }
     }
 
     // ---- what is read
@@ -359,7 +360,10 @@ impl SharedStore {
     /// # Ok::<(), colock::Error>(())
     /// ```
     pub fn stats(&self) -> Stats {
-        let mut stats = self.lock().stats.clone();
+        let Ok(guard) = self.enter() else {
+            return Stats::default(); // in a fork nothing is counted
+        };
+        let mut stats = guard.stats.clone();
         if let Some(behind) = &self.behind {
             stats.commits += behind.commits.load(Ordering::Relaxed);
         }

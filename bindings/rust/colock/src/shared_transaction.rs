@@ -1,10 +1,16 @@
-use crate::calling::{abort_at_once, Call, Verb};
+use crate::beginning::FirstTold;
+use crate::calling::{abort_at_once, Call, InTheWay, Verb};
 use crate::error::Error;
+use crate::locks::locked;
+use crate::request::Id;
 use crate::shared::{Lock, SharedStore};
 use crate::store_state::Ticket;
 use crate::transaction::Reply;
-use std::mem;
-use std::time::Duration;
+use std::sync::{Mutex, OnceLock};
+use std::time::{Duration, Instant};
+
+/// The name of what couldn't begin, which is no transaction's: a history has fewer events than that.
+const NOBODY: Id = Id { life: 0, number: u32::MAX as u64 };
 
 /// A transaction of a [`SharedStore`]. Where it is dropped, it aborts.
 ///
@@ -22,18 +28,57 @@ use std::time::Duration;
 #[must_use = "a transaction that is dropped aborts"]
 pub struct SharedTransaction<'s> {
     store: &'s SharedStore,
-    ticket: Ticket,
+    /// Its name, where it isn't put off.
+    name: OnceLock<Id>,
+    /// Held while it begins, where that was put off.
+    beginning: Mutex<()>,
+    age: u64,
+    worker: u8,
     /// For whom it waited where it was aborted as a victim.
     victim_of: Option<u64>,
+    /// Whether its end was asked for.
+    is_over: bool,
 }
 
 impl<'s> SharedTransaction<'s> {
+    /// One that has begun.
     pub(crate) fn of(store: &'s SharedStore, ticket: Ticket) -> SharedTransaction<'s> {
-        SharedTransaction { store, ticket, victim_of: None }
+        let mut begun = SharedTransaction::put_off(store, ticket.age);
+        begun.name = OnceLock::from(ticket.id);
+        begun.worker = ticket.worker;
+        begun
     }
 
-    pub(crate) fn ticket(&self) -> Ticket {
-        self.ticket
+    /// One whose begin is put off.
+    pub(crate) fn put_off(store: &'s SharedStore, age: u64) -> SharedTransaction<'s> {
+        SharedTransaction { store, name: OnceLock::new(), beginning: Mutex::new(()), age, worker: 0, victim_of: None, is_over: false }
+    }
+
+    pub(crate) fn age(&self) -> u64 {
+        self.age
+    }
+
+    /// The life in which it began, where it has.
+    pub(crate) fn life(&self) -> Option<u64> {
+        self.name.get().map(|id| id.life)
+    }
+
+    /// What each call needs, but for the first one. Where its begin was put off it begins now.
+    fn ticket(&self) -> Result<Ticket, Error> {
+        self.begun(None).map(|id| Ticket { id, age: self.age, worker: self.worker })
+    }
+
+    /// Its name, where it has begun or does so now. A full epoch is waited for so long.
+    fn begun(&self, patience: Option<Duration>) -> Result<Id, Error> {
+        if let Some(id) = self.name.get() {
+            return Ok(*id);
+        }
+        let _beginning = locked(&self.beginning);
+        if let Some(id) = self.name.get() {
+            return Ok(*id); // meanwhile, by another thread
+        }
+        let id = self.store.begin_at_last(self.age, patience)?;
+        Ok(*self.name.get_or_init(|| id))
     }
 
     /// Why it isn't open any more, where it was a victim.
@@ -41,7 +86,8 @@ impl<'s> SharedTransaction<'s> {
         self.victim_of.map(|waited_for| Error::Deadlock { waited_for })
     }
 
-    /// Its number: that of the transactions before it, since the store began, or began anew.
+    /// Its number: that of the transactions before it, since the store began, or began anew. One that couldn't begin, as
+    /// its next call tells, has a number that is no transaction's.
     ///
     /// ```
     /// # use colock::{Kind, SharedStore, Type};
@@ -51,7 +97,7 @@ impl<'s> SharedTransaction<'s> {
     /// # Ok::<(), colock::Error>(())
     /// ```
     pub fn number(&self) -> u64 {
-        self.ticket.id.number
+        self.begun(None).unwrap_or(NOBODY).number
     }
 
     /// Its name `S.N`: the life of the store in which it began, and its number. In memory the life is how often the
@@ -64,7 +110,7 @@ impl<'s> SharedTransaction<'s> {
     /// # Ok::<(), colock::Error>(())
     /// ```
     pub fn id(&self) -> String {
-        self.ticket.id.to_string()
+        self.begun(None).unwrap_or(NOBODY).to_string()
     }
 
     fn is_open(&self) -> Result<(), Error> {
@@ -92,8 +138,7 @@ impl<'s> SharedTransaction<'s> {
     /// [`Error::NotOpen`], [`Error::NoObject`], [`Error::NoCall`], [`Error::HistoryFull`] or [`Error::NoMemory`]; over
     /// a child [`Error::EpochEnded`] or [`Error::ConnectionLost`] too.
     pub fn call(&mut self, object: u32, name: &str) -> Result<Reply, Error> {
-        self.is_open()?;
-        self.store.call_now(self.ticket, object, Call::Name(name))
+        self.called(object, Call::Name(name))
     }
 
     /// As [`SharedTransaction::call`], by the number that [`SharedStore::call_number`] tells.
@@ -110,8 +155,31 @@ impl<'s> SharedTransaction<'s> {
     ///
     /// As of [`SharedTransaction::call`].
     pub fn call_op(&mut self, object: u32, call: u8) -> Result<Reply, Error> {
+        self.called(object, Call::Number(call))
+    }
+
+    fn called(&mut self, object: u32, call: Call<'_>) -> Result<Reply, Error> {
         self.is_open()?;
-        self.store.call_now(self.ticket, object, Call::Number(call))
+        match self.first_told(object, call)? {
+            None => self.store.call_now(self.ticket()?, object, call),
+            Some(first) => {
+                if let Ok(Reply::Busy { .. }) = first.reply {
+                    self.store.count_busy(object);
+                }
+                first.reply
+            }
+        }
+    }
+
+    /// What was told of a first call that was made together with the begin.
+    fn first_told(&mut self, object: u32, call: Call<'_>) -> Result<Option<FirstTold>, Error> {
+        if self.name.get().is_some() {
+            return Ok(None);
+        }
+        Ok(self.store.first_call(self.age, object, call)?.and_then(|first| {
+            let _ = self.name.set(first.id);
+            first.told
+        }))
     }
 
     /// Calls, and waits for who is in the way, at most so long in all. It is never [`Reply::Busy`]. A call that waits
@@ -167,7 +235,13 @@ impl<'s> SharedTransaction<'s> {
 
     fn waited(&mut self, object: u32, call: Call<'_>, limit: Duration) -> Result<Reply, Error> {
         self.is_open()?;
-        let done = self.store.call_waiting(self.ticket, object, call, limit);
+        let deadline = Instant::now().checked_add(limit);
+        let in_the_way = match self.first_told(object, call)? {
+            None => None,
+            Some(FirstTold { reply: Ok(Reply::Busy { blocker }), since }) => Some(InTheWay { blocker, since }),
+            Some(first) => return first.reply,
+        };
+        let done = self.store.call_waiting(self.ticket()?, object, call, deadline, in_the_way);
         if let Err(Error::Deadlock { waited_for }) = done {
             self.victim_of = Some(waited_for);
         }
@@ -208,7 +282,8 @@ impl<'s> SharedTransaction<'s> {
 
     fn asked(&self, object: u32, call: Call<'_>) -> Result<Reply, Error> {
         self.is_open()?;
-        self.store.reply(self.store.lock(), self.ticket, object, call, (Verb::Would, Lock::GivenUp)).1
+        let ticket = self.ticket()?;
+        self.store.reply(self.store.enter()?, ticket, object, call, (Verb::Would, Lock::GivenUp)).1
     }
 
     /// Takes back its last operations, over all objects together. It stays open.
@@ -230,7 +305,8 @@ impl<'s> SharedTransaction<'s> {
     /// [`SharedTransaction::call`].
     pub fn rollback(&mut self, operations: u64) -> Result<(), Error> {
         self.is_open()?;
-        self.store.take_back(self.store.lock(), self.ticket, operations, Lock::GivenUp).1
+        let ticket = self.ticket()?;
+        self.store.take_back(self.store.enter()?, ticket, operations, Lock::GivenUp).1
     }
 
     /// Commits it. Over a child it is durable then.
@@ -247,11 +323,17 @@ impl<'s> SharedTransaction<'s> {
     ///
     /// [`Error::NotOpen`] where it was aborted before. Over a child [`Error::EpochEnded`], [`Error::ConnectionLost`],
     /// or [`Error::OutcomeUnknown`] where the child was lost before it answered.
-    pub fn commit(self) -> Result<(), Error> {
-        let (store, ticket, open) = (self.store, self.ticket, self.is_open());
-        mem::forget(self);
-        open?;
-        store.commit(store.lock(), ticket)
+    pub fn commit(mut self) -> Result<(), Error> {
+        let ticket = self.ended()?;
+        self.store.commit(self.store.enter()?, ticket)
+    }
+
+    /// Its end is asked for by the caller.
+    fn ended(&mut self) -> Result<Ticket, Error> {
+        self.is_open()?;
+        let ticket = self.ticket()?;
+        self.is_over = true;
+        Ok(ticket)
     }
 
     /// Aborts it: nothing stays of its operations. A drop does the same and tells no error.
@@ -267,18 +349,22 @@ impl<'s> SharedTransaction<'s> {
     ///
     /// [`Error::NotOpen`] where it was aborted before. Over a child [`Error::EpochEnded`] or
     /// [`Error::ConnectionLost`].
-    pub fn abort(self) -> Result<(), Error> {
-        let (store, ticket, open) = (self.store, self.ticket, self.is_open());
-        mem::forget(self);
-        open?;
-        store.abort(store.lock(), ticket)
+    pub fn abort(mut self) -> Result<(), Error> {
+        let ticket = self.ended()?;
+        self.store.abort(self.store.enter()?, ticket)
     }
 }
 
 impl Drop for SharedTransaction<'_> {
     fn drop(&mut self) {
-        if self.victim_of.is_none() {
-            abort_at_once(&mut self.store.lock(), self.ticket);
+        if self.is_over || self.victim_of.is_some() {
+            return;
+        }
+        // what was put off begins too, so that its history is the same everywhere; but a full epoch isn't waited for
+        let Ok(id) = self.begun(Some(Duration::ZERO)) else { return };
+        if let Ok(mut guard) = self.store.enter() {
+            abort_at_once(&mut guard, Ticket { id, age: self.age, worker: self.worker });
+            self.store.leave(guard);
         }
     }
 }

@@ -19,6 +19,7 @@ pub(crate) struct Slot {
 struct Told {
     text: String,
     outcome: Option<Result<(), Error>>,
+    is_awaited: bool,
 }
 
 impl Slot {
@@ -34,8 +35,11 @@ impl Slot {
         let mut told = locked(&self.told);
         told.text.push_str(line);
         told.outcome = Some(outcome);
+        let is_awaited = told.is_awaited;
         drop(told); // whom it wakes takes the lock
-        self.is_there.notify_one();
+        if is_awaited {
+            self.is_there.notify_one();
+        }
     }
 
     /// The answer, where it comes before then; with no limit it is waited for as long as that takes.
@@ -46,6 +50,7 @@ impl Slot {
                 let text = mem::take(&mut told.text);
                 return Some(outcome.map(|()| text));
             }
+            told.is_awaited = true;
             told = match limit {
                 None => self.is_there.wait(told).unwrap_or_else(PoisonError::into_inner),
                 Some(limit) => {
@@ -68,6 +73,8 @@ pub(crate) enum Form {
     One,
     /// Some lines, and then `ok` or a refusal.
     List,
+    /// As `One`, of the last answer of all.
+    End,
 }
 
 /// A request that was written, or is about to be, and isn't answered.
@@ -76,8 +83,7 @@ pub(crate) struct Pending {
     pub(crate) tag: u64,
     pub(crate) form: Form,
     pub(crate) commits: Option<Id>,
-    /// None where nobody waits.
-    pub(crate) slot: Option<Arc<Slot>>,
+    pub(crate) slot: Arc<Slot>,
 }
 
 impl Pending {
@@ -96,15 +102,11 @@ impl Pending {
     }
 
     pub(crate) fn add(&self, answer: &str) {
-        if let Some(slot) = &self.slot {
-            slot.add(answer);
-        }
+        self.slot.add(answer);
     }
 
     pub(crate) fn close(&self, answer: &str) {
-        if let Some(slot) = &self.slot {
-            slot.close(answer, Ok(()));
-        }
+        self.slot.close(answer, Ok(()));
     }
 
     /// The child is lost.
@@ -113,9 +115,7 @@ impl Pending {
             Some(id) => Error::OutcomeUnknown(id.to_string()),
             None => Error::ConnectionLost(words.to_string()),
         };
-        if let Some(slot) = &self.slot {
-            slot.close("", Err(error));
-        }
+        self.slot.close("", Err(error));
     }
 }
 
@@ -129,7 +129,7 @@ mod tests {
 
     fn pending(form: Form, commits: Option<Id>) -> (Pending, Arc<Slot>) {
         let slot = Arc::new(Slot::default());
-        (Pending { tag: 12, form, commits, slot: Some(Arc::clone(&slot)) }, slot)
+        (Pending { tag: 12, form, commits, slot: Arc::clone(&slot) }, slot)
     }
 
     #[test]

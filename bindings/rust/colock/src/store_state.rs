@@ -1,5 +1,6 @@
 //! What is under the one lock of a shared store.
 
+use crate::beginning::Begins;
 use crate::child::Conversation;
 use crate::error::Error;
 use crate::request::{Id, Request};
@@ -23,6 +24,7 @@ pub(crate) enum Held {
 #[derive(Debug)]
 pub(crate) struct Served {
     pub(crate) conversation: Conversation,
+    pub(crate) begins: Begins,
     /// Who is open, and the last moment at which operations were taken back.
     pub(crate) open: BTreeMap<u64, u64>,
     /// How often operations were taken back.
@@ -63,7 +65,7 @@ impl State {
 
     /// Writes a request to the child, whose answer comes into the slot.
     pub(crate) fn send(&mut self, request: Request<'_>) -> Result<Arc<Slot>, Error> {
-        self.served()?.conversation.send(request)
+        self.served()?.send(request)
     }
 
     /// The store behind a child.
@@ -113,7 +115,7 @@ impl State {
 
 impl Served {
     pub(crate) fn new(conversation: Conversation) -> Served {
-        Served { conversation, open: BTreeMap::new(), moment: 0 }
+        Served { conversation, begins: Begins::default(), open: BTreeMap::new(), moment: 0 }
     }
 
     /// Whether a blocker that was told of may have let go since a moment.

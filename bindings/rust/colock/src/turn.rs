@@ -54,7 +54,7 @@ impl SharedStore {
     fn turn(&self) -> Result<Turn<'_>, Error> {
         let (mut guard, id) = match self.child() {
             None => self.begin_in_memory(0)?,
-            Some(behind) => self.begin_served(behind, Lock::Kept)?,
+            Some(behind) => self.begin_served(behind, self.enter()?, Lock::Kept)?,
         };
         let age = guard.waiting.next_age();
         Ok(Turn { store: self, guard: Some(guard), ticket: Ticket { id, age, worker: 0 } })
@@ -221,8 +221,9 @@ impl<'s> Turn<'s> {
 
 impl Drop for Turn<'_> {
     fn drop(&mut self) {
-        if let Some(guard) = &mut self.guard {
-            abort_at_once(guard, self.ticket);
+        if let Some(mut guard) = self.guard.take() {
+            abort_at_once(&mut guard, self.ticket);
+            self.store.leave(guard);
         }
     }
 }

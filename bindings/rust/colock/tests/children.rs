@@ -197,8 +197,8 @@ struct Known {
 fn commit_on(store: &SharedStore, known: &Mutex<Known>) {
     loop {
         let Ok(mut t) = store.begin() else { return };
-        let id = t.id();
         let Ok(Reply::Operation(_)) = t.call(0, "tick") else { return };
+        let id = t.id(); // told with the answer to the call
         match t.commit() {
             Ok(()) => known.lock().unwrap().answered.push(id),
             Err(Error::OutcomeUnknown(of)) => {
@@ -298,8 +298,56 @@ fn an_archive_tells_of_epochs_that_ended() {
     store.close().unwrap();
     let store = options.open(folder.file("a.db")).unwrap();
     assert!(archive.join("4.history").exists());
-    // by the archive alone that may be another transaction of the epoch
-    assert_eq!((store.committed("3.0"), store.committed("3.1"), store.committed("1.0")), (Ok(None), Ok(Some(false)), Ok(Some(true))));
+    // by the archive alone 3.0 may be another transaction of the epoch, and 3.1 one of an epoch that isn't archived
+    assert_eq!((store.committed("3.0"), store.committed("3.1"), store.committed("1.0")), (Ok(None), Ok(None), Ok(Some(true))));
+}
+
+#[test]
+fn of_earlier_lives_of_an_archived_epoch_nothing_is_told() {
+    let folder = Folder::new();
+    let archive = folder.file("old");
+    fs::create_dir(&archive).unwrap();
+    let options = options(&[kept(wheel())]).archive(&archive);
+    let up = |store: &SharedStore| {
+        let mut t = store.begin().unwrap();
+        t.call(0, "tick").unwrap().executed().unwrap();
+        let id = t.id();
+        t.commit().map(|()| id).unwrap()
+    };
+    let store = options.clone().open(folder.file("a.db")).unwrap();
+    let mut early = vec![up(&store), store.begin().unwrap().id()];
+    early.push(up(&store));
+    kill(&store);
+    drop(store);
+    let store = options.clone().open(folder.file("a.db")).unwrap();
+    let late = up(&store);
+    assert_eq!(early.iter().map(|id| store.committed(id)).collect::<Vec<_>>(), [Ok(Some(true)), Ok(Some(false)), Ok(Some(true))]);
+    store.close().unwrap();
+    // the epoch had two lives, and its history has the name of the second
+    assert!(archive.join("2.history").exists() && !archive.join("1.history").exists());
+    let store = options.open(folder.file("a.db")).unwrap();
+    assert_eq!((late.as_str(), store.committed(&late), store.committed("2.9")), ("2.3", Ok(Some(true)), Ok(None)));
+    for id in early.iter().map(String::as_str).chain(["1.9"]) {
+        assert_eq!(store.committed(id), Ok(None), "{id}");
+    }
+}
+
+#[test]
+fn many_begin_and_one_too_many_is_told_so() {
+    let folder = Folder::new();
+    let store = options(&[kept(wheel())]).open(folder.file("a.db")).unwrap();
+    let mut all = Vec::new();
+    while let Ok(t) = store.begin() {
+        all.push(t);
+    }
+    assert_eq!((all.len(), store.begin().err(), store.open_count()), (1024, Some(Error::TooManyOpen), Ok(1024)));
+    for (number, t) in all.iter_mut().enumerate() {
+        assert_eq!((t.call(0, "tick"), t.number()), (Ok(Reply::Operation(0)), number as u64));
+    }
+    drop(all.pop());
+    assert_eq!(store.begin().unwrap().number(), 1024);
+    all.into_iter().for_each(|t| t.commit().unwrap());
+    assert_eq!((store.kept(0), store.open_count(), store.stats().aborts), (Ok(1023 % SIZE), Ok(0), 2));
 }
 
 #[test]

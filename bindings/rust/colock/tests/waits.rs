@@ -464,7 +464,8 @@ fn stats_count(make: Make) {
     let stats = store.stats();
     assert_eq!((stats.commits, stats.aborts, &stats.busy[..], stats.waits), (3, 1, &[0, 2][..], 1));
     assert_eq!((stats.timeouts, stats.deadlocks), (1, 0));
-    assert!((SHORT..SHORT + AT_ONCE).contains(&stats.waited), "{:?}", stats.waited);
+    // the limit is that of the whole call, of which the sleep is a part
+    assert!((SHORT / 2..SHORT + AT_ONCE).contains(&stats.waited), "{:?}", stats.waited);
 }
 
 /// A store of counters up to 5 in escrow, each with so many pieces.
