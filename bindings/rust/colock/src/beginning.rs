@@ -176,11 +176,12 @@ impl Served {
     /// Writes a begin that was put off together with a call. Nothing is written where the begin was written before, or
     /// its name can't be foretold.
     fn send_both(&mut self, age: u64, object: u32, name: &str) -> Result<Option<Both>, Error> {
-        if self.begins.sent.contains_key(&age) {
+        if self.begins.sent.contains_key(&age) || self.begins.names.next().is_none() {
             return Ok(None);
         }
         self.begins.let_go(age);
         self.put_due(Some(thread::current().id()));
+        // behind those that were just put
         let Some(foretold) = self.begins.names.next() else { return Ok(None) };
         let begin = self.put_begin();
         let call = self.conversation.put(Request::Call(foretold, object, name));

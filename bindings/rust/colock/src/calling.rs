@@ -425,7 +425,7 @@ impl SharedStore {
         }
     }
 
-    /// Asks a child for the end of a transaction. As soon as the line is written it counts as ended, since the child
+    /// Asks a child for the end of a transaction. As soon as it is asked for it counts as ended, since the child
     /// takes the lines in their order.
     fn end_served(&self, behind: &Behind, mut guard: Guard<'_>, ticket: Ticket, request: Request<'_>) -> Result<(), Error> {
         guard.is_of_life(ticket)?;
