@@ -2,6 +2,7 @@
 
 use crate::error::Error;
 use crate::fork::{self, Unforked};
+use crate::gather::Gather;
 use crate::locks::locked;
 use crate::past::Found;
 use crate::program::{found_in, nameless_file, said_in};
@@ -24,6 +25,12 @@ const LONGEST_ANSWER: usize = 4096;
 
 /// How many bytes of answers are read at once.
 const READ_AT_ONCE: usize = 65_536;
+
+/// How long who writes waits for those who were just answered.
+const LONGEST_GATHERING: Duration = Duration::from_micros(50);
+
+/// How many bytes of requests are written at once at most.
+const WRITTEN_AT_ONCE: usize = 32_768;
 
 /// How long a child that has closed its output may take to end, between two looks.
 const BETWEEN_LOOKS: Duration = Duration::from_millis(1);
@@ -50,10 +57,12 @@ pub(crate) struct Link {
 #[derive(Debug)]
 struct Flight {
     queue: VecDeque<Pending>,
-    /// The lines of the last of them, which aren't written yet.
+    /// The lines of the last of them, which aren't written yet, and how many these are.
     lines: Vec<u8>,
-    /// Whether a thread writes, which then writes what comes meanwhile, too.
-    is_written: bool,
+    unwritten: usize,
+    /// Whether a thread is about to write.
+    is_writing: bool,
+    gather: Gather,
     /// Whether the end was asked for.
     is_ending: bool,
     /// Why nothing can be asked any more.
@@ -64,13 +73,24 @@ struct Flight {
 type Whole<'l> = Vec<(Pending, &'l str)>;
 
 impl Flight {
-    /// The lines that aren't written, where no thread writes.
-    fn unwritten(&mut self) -> Option<Vec<u8>> {
-        if self.is_written || self.lines.is_empty() {
-            return None;
+    /// Whether a thread is to write what was asked, or is about to be, since all that was written is answered, and no other
+    /// thread does. It is told so once.
+    fn is_to_write(&mut self) -> bool {
+        let is_to_write = !self.is_writing && self.queue.len() == self.unwritten;
+        self.is_writing |= is_to_write;
+        is_to_write
+    }
+
+    /// The lines that are written now. Who writes them never waits for the child to read: its pipe takes more.
+    fn taken(&mut self) -> Vec<u8> {
+        if self.lines.len() <= WRITTEN_AT_ONCE {
+            self.unwritten = 0;
+            return mem::take(&mut self.lines);
         }
-        self.is_written = true;
-        Some(mem::take(&mut self.lines))
+        let end = self.lines[..WRITTEN_AT_ONCE].iter().rposition(|byte| *byte == b'\n').map_or(self.lines.len(), |place| place + 1);
+        let later = self.lines.split_off(end);
+        self.unwritten = later.iter().filter(|byte| **byte == b'\n').count();
+        mem::replace(&mut self.lines, later)
     }
 
     /// Takes a line. Where an answer is whole by it, the request is answered.
@@ -115,8 +135,16 @@ impl Link {
         };
         let (input, output) = (Mutex::new(Some(Unforked::new(input))), Unforked::new(output));
         let greeting = Arc::new(Slot::default());
-        let first = Pending { tag: 0, form: Form::Greeting, commits: None, slot: Arc::clone(&greeting) };
-        let flight = Flight { queue: VecDeque::from([first]), lines: Vec::new(), is_written: false, is_ending: false, lost: None };
+        let first = Pending { tag: 0, form: Form::Greeting, commits: None, wakes: false, slot: Arc::clone(&greeting) };
+        let flight = Flight {
+            queue: VecDeque::from([first]),
+            lines: Vec::new(),
+            unwritten: 0,
+            is_writing: false,
+            gather: Gather::default(),
+            is_ending: false,
+            lost: None,
+        };
         let (child, flight, forks) = (Mutex::new(child), Mutex::new(flight), fork::count());
         let link = Arc::new(Link { child, input, flight, said, limit, forks, reason: OnceLock::new(), store: OnceLock::new() });
         let reading = Arc::clone(&link);
@@ -176,12 +204,17 @@ impl Link {
     /// Takes whole lines: each goes to whoever asked first of those that aren't answered.
     fn take(&self, lines: &[u8]) -> Result<(), String> {
         let mut whole = Vec::new();
-        let taken = {
+        let (taken, is_to_write) = {
             let mut flight = locked(&self.flight);
-            lines.split_inclusive(|byte| *byte == b'\n').try_for_each(|line| flight.take(line, &mut whole))
+            let taken = lines.split_inclusive(|byte| *byte == b'\n').try_for_each(|line| flight.take(line, &mut whole));
+            flight.gather.answers(whole.iter().filter(|(pending, _)| pending.wakes).count() as u64);
+            (taken, flight.is_to_write())
         };
         // without the lock, which they want who are woken
         whole.iter().for_each(|(pending, answer)| pending.close(answer));
+        if is_to_write {
+            self.write_gathered();
+        }
         taken
     }
 
@@ -266,17 +299,31 @@ impl Link {
             return Err(Error::ConnectionLost(words.clone()));
         }
         flight.is_ending |= requests.iter().any(|pending| pending.form == Form::End);
+        flight.unwritten += requests.len();
         flight.queue.extend(requests.drain(..));
         flight.lines.extend_from_slice(lines);
+        flight.gather.asks();
         Ok(())
     }
 
-    /// Writes what was asked up to now, where no other thread does. It is called without a lock that others want who
-    /// ask, so that one write takes the lines of many.
+    /// Writes what was asked up to now, where no other thread is about to and all that was written is answered: else it is
+    /// written behind these answers. It is called without a lock that others want who ask.
     pub(crate) fn write(&self) {
-        let Some(mut lines) = locked(&self.flight).unwritten() else { return };
-        while !lines.is_empty() {
+        let is_to_write = {
+            let mut flight = locked(&self.flight);
+            !flight.lines.is_empty() && flight.is_to_write()
+        };
+        if is_to_write {
+            self.write_gathered();
+        }
+    }
+
+    /// Writes what is asked, by a thread that was told to.
+    fn write_gathered(&self) {
+        loop {
+            let lines = self.gathered();
             let written = match &mut *locked(&self.input) {
+                _ if lines.is_empty() => Ok(()),
                 Some(input) => input.write_all(&lines),
                 None => Err(ErrorKind::BrokenPipe.into()),
             };
@@ -284,10 +331,26 @@ impl Link {
                 // the slots have the failure
                 self.lose(&format!("nothing can be asked: {error}"));
             }
-            lines.clear();
             let mut flight = locked(&self.flight);
-            mem::swap(&mut lines, &mut flight.lines);
-            flight.is_written = !lines.is_empty();
+            flight.is_writing = false;
+            // that was answered meanwhile, and more was asked
+            if flight.lines.is_empty() || !flight.is_to_write() {
+                return;
+            }
+        }
+    }
+
+    /// The lines that are to be written, when those were waited for who are about to ask.
+    fn gathered(&self) -> Vec<u8> {
+        let start = Instant::now();
+        loop {
+            let mut flight = locked(&self.flight);
+            if flight.gather.is_whole() || start.elapsed() >= LONGEST_GATHERING {
+                flight.gather.writes();
+                return flight.taken();
+            }
+            drop(flight);
+            thread::yield_now();
         }
     }
 
@@ -342,7 +405,8 @@ impl Conversation {
             _ => Form::One,
         };
         let slot = Arc::new(Slot::default());
-        self.requests.push(Pending { tag: self.tag, form, commits: request.committed(), slot: Arc::clone(&slot) });
+        let wakes = !matches!(request, Request::Begin | Request::Abort(_));
+        self.requests.push(Pending { tag: self.tag, form, commits: request.committed(), wakes, slot: Arc::clone(&slot) });
         slot
     }
 

@@ -154,6 +154,7 @@ mod creating;
 mod error;
 mod event;
 mod fork;
+mod gather;
 mod handle;
 mod locks;
 mod opening;

@@ -83,6 +83,8 @@ pub(crate) struct Pending {
     pub(crate) tag: u64,
     pub(crate) form: Form,
     pub(crate) commits: Option<Id>,
+    /// Whether a thread waits for it that may ask again at once.
+    pub(crate) wakes: bool,
     pub(crate) slot: Arc<Slot>,
 }
 
@@ -129,7 +131,7 @@ mod tests {
 
     fn pending(form: Form, commits: Option<Id>) -> (Pending, Arc<Slot>) {
         let slot = Arc::new(Slot::default());
-        (Pending { tag: 12, form, commits, slot: Arc::clone(&slot) }, slot)
+        (Pending { tag: 12, form, commits, wakes: true, slot: Arc::clone(&slot) }, slot)
     }
 
     #[test]

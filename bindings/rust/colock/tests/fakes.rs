@@ -208,8 +208,8 @@ fn a_commit_wakes_before_it_is_answered() {
     let body = "begin) echo \"$tag ok 1.$((n + 0))\"; n=$((n + 1)) ;;
     call) if [ -z \"$told\" ]; then case \"$rest\" in 1.1*) told=1; echo \"$tag busy 1.0\" ;; *) echo \"$tag reply ok\" ;; esac
         else echo \"$tag reply ok\"; fi ;;
-    would) echo \"$late ok\"; late=; echo \"$tag reply ok\" ;;
-    commit) if [ \"$rest\" = 1.0 ]; then late=$tag; else echo \"$tag ok\"; fi ;;";
+    would) echo \"$tag reply ok\" ;;
+    commit) if [ \"$rest\" = 1.0 ]; then sleep 0.3; fi; echo \"$tag ok\" ;;";
     let fake = Fake::serving(body);
     let store = fake.open().unwrap();
     let (mut first, mut second) = (store.begin().unwrap(), store.begin().unwrap());
@@ -217,19 +217,19 @@ fn a_commit_wakes_before_it_is_answered() {
     thread::scope(|scope| {
         let waiter = scope.spawn(move || second.call_within(0, "dec:1", LONG).and_then(|reply| second.commit().map(|()| reply)));
         until_asleep(&store, 1);
-        // answered when the second one asks, which it does since this one is written
+        // answered late, when the second one has asked, which it does since this one was asked for
         assert_eq!(first.commit(), Ok(()));
         assert_eq!(waiter.join().unwrap(), Ok(Reply::Operation(1)));
     });
     assert_eq!(store.stats().commits, 2);
 }
 
-/// A program that answers the call of the second transaction when the first one ends or rolls back, with what was so before.
+/// A program that answers the call of the second transaction late, with what was so before the first one ends or rolls back.
 /// A file beside it tells that it has the call.
 const BELATED: &str = r#"begin) echo "$tag ok 1.$((n + 0))"; n=$((n + 1)) ;;
-    call) case "$rest" in 1.1*) if [ -z "$told" ]; then told=1; late=$tag; : > "$0.called"; else echo "$tag reply ok"; fi ;;
+    call) case "$rest" in 1.1*) if [ -z "$told" ]; then told=1; : > "$0.called"; sleep 0.3; echo "$tag busy 1.0"; else echo "$tag reply ok"; fi ;;
         *) echo "$tag reply ok" ;; esac ;;
-    rollback | commit | abort) if [ -n "$late" ]; then echo "$late busy 1.0"; late=; fi; echo "$tag ok" ;;
+    rollback | commit | abort) echo "$tag ok" ;;
     would) echo "$tag reply ok" ;;
     end) echo "$tag ok"; exit 0 ;;"#;
 
