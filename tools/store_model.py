@@ -1,6 +1,6 @@
 """A slow model of a store that is served: what a line asks, and what it is answered.
 
-It is written from docs/formats.md and docs/model.md and shares nothing with the program. For each line it works out
+It is written from docs/formats.md and docs/theory.md and shares nothing with the program. For each line it works out
 from the whole history, anew, who is open, what lives, what a transaction sees and who is in its way. Of a deferred
 object it keeps the serial state; so it is a model of types whose texts relate no two states. Of an object in escrow it
 goes through all fronts of what each transaction did, and through all numbers that such fronts may leave.
