@@ -3,7 +3,7 @@
 mod common;
 
 use colock::{Error, OpenOptions, Reply, SharedStore, SharedTransaction};
-use common::{until_asleep, Folder, LONG};
+use common::{until_asleep, write_program, Folder, COUNTER_ARMS, LONG};
 use std::fs;
 use std::os::unix::fs::PermissionsExt;
 use std::sync::{Mutex, MutexGuard, PoisonError};
@@ -16,25 +16,12 @@ const LIMIT: Duration = Duration::from_millis(500);
 /// More than the limit, and less than what a test waits for a hang.
 const SOON: Duration = Duration::from_secs(5);
 
-/// A program that greets, and tells of one counter from 0 to 2. Further arms of its `case` come in the place of BODY.
-const SERVED: &str = r#"#!/bin/sh
-echo "colock 1 1"
-while read -r tag verb rest; do
-    case "$verb" in
-    objects) echo "$tag object undo 0"; echo "$tag ok" ;;
-    types)
-        for line in "type counter" "states 3" "initial 0" "op inc:1 ok" "op dec:1 ok" \
-            "step 0 0 1" "step 1 0 2" "step 1 1 0" "step 2 1 1" "conflict undo 0 1" "conflict undo 1 0" "end" ""; do
-            echo "$tag $line"
-        done
-        echo "$tag ok" ;;
-    BODY
-    esac
-done
-"#;
+/// A program that greets, and serves one counter from 0 to 2, with more arms of its `case`.
+fn served(arms: &str) -> String {
+    format!("#!/bin/sh\necho \"colock 1 1\"\nwhile read -r tag verb rest; do\n    case \"$verb\" in\n{COUNTER_ARMS}\n    {arms}\n    esac\ndone\n")
+}
 
-/// A folder with a program. One test at a time: a script that is written can't be started while it is open, and another
-/// test that starts its own just then would have it open.
+/// A folder with a program. One test at a time, since they have half a second for an answer.
 struct Fake {
     folder: Folder,
     _turn: MutexGuard<'static, ()>,
@@ -46,22 +33,20 @@ impl Fake {
         static TURN: Mutex<()> = Mutex::new(());
         let turn = TURN.lock().unwrap_or_else(PoisonError::into_inner);
         let folder = Folder::new();
-        let program = folder.file("fake");
-        fs::write(&program, text).unwrap();
-        fs::set_permissions(&program, fs::Permissions::from_mode(0o755)).unwrap();
+        write_program(&folder.file("fake"), text);
         fs::write(folder.file("a.db"), "").unwrap();
         Fake { folder, _turn: turn }
     }
 
     /// A program that serves, with more arms of its `case`.
     fn serving(arms: &str) -> Fake {
-        Fake::of(&SERVED.replace("BODY", arms))
+        Fake::of(&served(arms))
     }
 
     /// The same turn, with another program.
     fn serving_again(self, arms: &str) -> Fake {
         let Fake { folder, _turn } = self;
-        fs::write(folder.file("fake"), SERVED.replace("BODY", arms)).unwrap();
+        write_program(&folder.file("fake"), &served(arms));
         Fake { folder, _turn }
     }
 

@@ -4,33 +4,23 @@
 mod common;
 
 use colock::{Error, OpenOptions, Reply, SharedStore};
-use common::{counter, lines, over_a_child, Folder, LONG};
+use common::{counter, lines, over_a_child, write_program, Folder, COUNTER_ARMS, LONG};
 use std::fs;
-use std::os::unix::fs::PermissionsExt;
 use std::sync::Barrier;
 use std::thread;
 use std::time::Duration;
 
 /// A program that serves a counter from 0 to 2, and writes down what it is asked. The first two transactions are 1.0 and
-/// 1.1; a test says what is answered behind them: the third begin, the call behind it, and so on, a line each.
-const TOLD: &str = r#"#!/bin/sh
-echo "colock 1 1"
-exec 3< "$0.answers"
-while read -r tag verb rest; do
-    echo "$verb $rest" >> "$0.asked"
-    case "$verb" in
-    objects) echo "$tag object undo 0"; echo "$tag ok" ;;
-    types)
-        for line in "type counter" "states 3" "initial 0" "op inc:1 ok" "op dec:1 ok" \
-            "step 0 0 1" "step 1 0 2" "step 1 1 0" "step 2 1 1" "conflict undo 0 1" "conflict undo 1 0" "end" ""; do
-            echo "$tag $line"
-        done
-        echo "$tag ok" ;;
-    end) echo "$tag ok"; exit 0 ;;
-    *) read -r answer <&3; echo "$tag $answer" ;;
-    esac
-done
-"#;
+/// 1.1; a test says what is answered after them: the third begin, the call after it, and so on, a line each.
+fn told() -> String {
+    [
+        "#!/bin/sh\necho \"colock 1 1\"\nexec 3< \"$0.answers\"\nwhile read -r tag verb rest; do",
+        "    echo \"$verb $rest\" >> \"$0.asked\"\n    case \"$verb\" in",
+        COUNTER_ARMS,
+        "    end) echo \"$tag ok\"; exit 0 ;;\n    *) read -r answer <&3; echo \"$tag $answer\" ;;\n    esac\ndone\n",
+    ]
+    .join("\n")
+}
 
 struct Teller(Folder);
 
@@ -38,8 +28,7 @@ impl Teller {
     /// A program that answers so.
     fn of(answers: &[&str]) -> Teller {
         let folder = Folder::new();
-        fs::write(folder.file("teller"), TOLD).unwrap();
-        fs::set_permissions(folder.file("teller"), fs::Permissions::from_mode(0o755)).unwrap();
+        write_program(&folder.file("teller"), &told());
         fs::write(folder.file("teller.answers"), answers.join("\n") + "\n").unwrap();
         fs::write(folder.file("a.db"), "").unwrap();
         Teller(folder)
@@ -49,15 +38,15 @@ impl Teller {
         OpenOptions::new().program(self.0.file("teller")).limit(Duration::from_secs(20)).open(self.0.file("a.db")).unwrap()
     }
 
-    /// What it was asked behind the opening.
+    /// What it was asked after the opening.
     fn asked(&self) -> Vec<String> {
         let asked = fs::read_to_string(self.0.file("teller.asked")).unwrap();
         asked.lines().skip(2).map(|line| line.trim_end().to_string()).collect()
     }
 }
 
-/// What came of a first call behind a transaction 1.0, the name that its transaction has then, and what was asked of a
-/// program that answers so behind that.
+/// What came of a first call after a transaction 1.0, the name that its transaction has then, and what was asked of a
+/// program that answers so after that.
 fn first_call(answers: &[&str]) -> (Result<Reply, Error>, String, Vec<String>) {
     let teller = Teller::of(&[&["ok 1.0", "ok"], answers].concat());
     let store = teller.open();

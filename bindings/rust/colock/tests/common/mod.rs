@@ -4,9 +4,10 @@
 use colock::{Kind, OpenOptions, SharedStore, Type};
 use std::env;
 use std::fs;
+use std::io::Write;
 use std::ops::Deref;
 use std::path::{Path, PathBuf};
-use std::process;
+use std::process::{self, Command, Stdio};
 use std::sync::atomic::{AtomicU64, Ordering};
 use std::thread;
 use std::time::{Duration, Instant};
@@ -44,6 +45,23 @@ impl Drop for Folder {
     fn drop(&mut self) {
         let _ = fs::remove_dir_all(&self.0);
     }
+}
+
+/// What a program in shell says of its objects, one counter from 0 to 2, and of their types: arms of its `case` of a verb.
+pub const COUNTER_ARMS: &str = r#"    objects) echo "$tag object undo 0"; echo "$tag ok" ;;
+    types)
+        for line in "type counter" "states 3" "initial 0" "op inc:1 ok" "op dec:1 ok" \
+            "step 0 0 1" "step 1 0 2" "step 1 1 0" "step 2 1 1" "conflict undo 0 1" "conflict undo 1 0" "end" ""; do
+            echo "$tag $line"
+        done
+        echo "$tag ok" ;;"#;
+
+/// Writes a program in shell. Another process does: what this one has open to be written can't be started, and each program
+/// that another thread starts meanwhile has it open for a moment.
+pub fn write_program(path: &Path, text: &str) {
+    let mut writer = Command::new("sh").args(["-c", "cat > \"$0\" && chmod 755 \"$0\""]).arg(path).stdin(Stdio::piped()).spawn().unwrap();
+    writer.stdin.take().unwrap().write_all(text.as_bytes()).unwrap();
+    assert!(writer.wait().unwrap().success());
 }
 
 /// A store, with the folder of its file where it has one.
