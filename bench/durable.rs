@@ -34,7 +34,7 @@ fn greeted(program: &str, database: &str, options: &[String]) -> (Child, ChildSt
     (child, input, output)
 }
 
-/// So many transactions, so many at a time: each begins, makes a call and commits. How many reads of the answers there were.
+/// `count` transactions, `window` at a time: each begins, makes a call and commits. How many reads of the answers there were.
 fn transactions(input: &mut ChildStdin, output: &mut ChildStdout, window: usize, count: usize) -> usize {
     let mut buffer = vec![0; 1 << 16];
     let (mut begun, mut ended, mut reads) = (0, 0, 0);

@@ -41,7 +41,7 @@ def syncs(colock, program, folder, window, options):
 
 
 def postgres(folder):
-    """Commits a second at one row with so many clients, where PostgreSQL is on the machine."""
+    """Commits a second at one row with this many clients, where PostgreSQL is on the machine."""
     if not all(map(shutil.which, ("initdb", "pg_ctl", "pgbench", "runuser"))):
         return {}
     room = os.path.join(folder, "postgres")

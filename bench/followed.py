@@ -35,7 +35,7 @@ def plain_program(folder):
 
 
 def follow_batch(folder, programs, kind, seed, histories):
-    """Lets stores follow so many histories of a seed: how many changed events were made."""
+    """Lets stores follow this many histories of a seed: how many changed events were made."""
     benches, plain = programs
     types = [os.path.join(folder, name) for name in TYPES[kind]]
     numbers = os.path.join(folder, "numbers")
@@ -49,7 +49,7 @@ def follow_batch(folder, programs, kind, seed, histories):
 
 
 def follow_kind(folder, programs, kind, histories):
-    """Lets stores of a kind follow so many histories, and prints what came of them."""
+    """Lets stores of a kind follow this many histories, and prints what came of them."""
     batches = [min(BATCH, histories - at) for at in range(0, histories, BATCH)]
     made = sum(follow_batch(folder, programs, kind, seed, count) for seed, count in enumerate(batches))
     print(f"{kind}: {histories:,} histories followed; of as many changed events {made:,} made by a command, "

@@ -2,7 +2,7 @@
  *
  *     library KIND FILE OBJECTS OPEN CALLS MODE COMMANDS ROUNDS
  *
- * prints the least nanoseconds of a run of so many commands, and what came of them, as `benches store` does. MODE is
+ * prints the least nanoseconds of a run of COMMANDS commands, and what came of them, as `benches store` does. MODE is
  * `plain`: the other two aren't made here. */
 #define _POSIX_C_SOURCE 199309L
 #include "colock.h"

@@ -1,4 +1,4 @@
-"""Times of the store behind its library: the same commands from Rattle, C and Rust, and what Python comes to.
+"""Times of the store by its library: the same commands from Rattle, C and Rust, and what Python comes to.
 
 From Rattle they are given to a store of objects of any kind of recovery, as the library's is, and to one of objects of
 one kind.

@@ -1,5 +1,5 @@
 #!/usr/bin/env python3
-"""lines_script.py COMMANDS: writes a script of so many commands to standard output.
+"""lines_script.py COMMANDS: writes a script of COMMANDS commands to standard output.
 
 Sixteen transactions are always open, over four objects. Each makes seven calls and then ends, five
 of a hundred by an abort, and another begins in its place. What goes on is taken from a small

@@ -45,7 +45,7 @@ def write_types(folder):
 
 
 def once(command, output):
-    """The seconds, the processor's seconds and the bytes at the most of a run, and its status."""
+    """The seconds, the processor's seconds and the most bytes of a run, and its status."""
     start = time.perf_counter()
     run = subprocess.Popen(command, stdout=output)
     _, status, used = os.wait4(run.pid, 0)
@@ -60,7 +60,7 @@ def digest(path):
 
 
 def outputs(folder, programs, words):
-    """Where each program's output lies, of which the bytes must be the same."""
+    """Where each program's output is, of which the bytes must be the same."""
     paths = [os.path.join(folder, f"output{place}") for place in range(len(programs))]
     for program, path in zip(programs, paths):
         with open(path, "wb") as file:

@@ -10,7 +10,7 @@ SEED = 1988
 
 
 class Script:
-    """Commands that are being made; so many transactions are always open."""
+    """Commands that are being made; this many transactions are always open."""
 
     def __init__(self, seed, objects, calls):
         self.random = random.Random(seed)
@@ -32,8 +32,8 @@ class Script:
 
 
 def script(kind, calls, commands, seed=SEED):
-    """The lines of a script of so many commands. A transaction makes four calls on average, and all
-    are ended behind the last call, so that no command is refused."""
+    """The lines of a script of this many commands. A transaction makes four calls on average, and all
+    are ended after the last call, so that no command is refused."""
     made = Script(seed, OBJECTS, calls)
     for _ in range(OPEN):
         made.begin()
@@ -97,13 +97,13 @@ class History:
 
 
 def history(events, transactions, objects, most, seed=SEED):
-    """The lines of a serial history of so many events and transactions, of which OPEN are open at a
+    """The lines of a serial history of this many events and transactions, of which OPEN are open at a
     time; one of a hundred other events is a rollback."""
     made = History(seed, objects, most)
     while made.begun < transactions:
         while len(made.open) < OPEN and made.begun < transactions:
             made.begin()
-        # With the ends of those that are open, as many events as so many transactions have on average.
+        # With the ends of those that are open, as many events as these transactions have on average.
         while len(made.lines) + len(made.open) < events * made.begun // transactions:
             place = made.random.randrange(len(made.open))
             if made.random.randrange(100) == 0:

@@ -83,12 +83,12 @@ def of_one_state(name, ops, steps, pairs):
 
 
 def names(calls):
-    """So many calls, each with one operation."""
+    """This many calls, each with one operation."""
     return of_one_state(f"names{calls}", [f"call:{k} ok" for k in range(calls)], range(calls), [])
 
 
 def replies(ops):
-    """One call with so many operations, of which the last alone is legal."""
+    """One call with this many operations, of which the last alone is legal."""
     return of_one_state(f"replies{ops}", [f"call reply:{k}" for k in range(ops)], [ops - 1], [])
 
 
@@ -206,7 +206,7 @@ def show_following(folder, program, rounds):
 
 
 def show_lasting(folder, program, kind, millions):
-    """The first and the last million of so many million events, and the most memory of the run."""
+    """The first and the last of this many million events, and the most memory of the run."""
     words = [*program, kind, os.path.join(folder, "counter.type"), millions]
     with subprocess.Popen(words, stdout=subprocess.PIPE, text=True) as run:
         lines = [line.split() for line in run.stdout]

@@ -24,7 +24,7 @@ CALLS = {
 MOST_TRIES = 100
 
 # The jobs of a run where nobody thinks, of all workers together, and the tries of each. With no more of
-# them no history is full, so such runs are short, and a round has so many. More jobs, where no call can be
+# them no history is full, so such runs are short, and a round has RUNS. More jobs, where no call can be
 # busy.
 JOBS, TRIES, RUNS = 8_000, 40, 10
 JOBS_WITHOUT_CONFLICTS = 320_000

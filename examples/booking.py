@@ -2,7 +2,7 @@
 """booking.py PROGRAM DATABASE: sixteen guests in threads book at one `colock serve`, each the first seat that is free.
 
 Make the database first: `colock create seats.db seats.objects seats.type`, where seats.type is what `colock make
-set 0 a1 a2 b1` writes, and seats.objects has the two lines `object undo 0` and `end`.
+seats 3` writes, and seats.objects has the two lines `object undo 0` and `end`.
 """
 import queue
 import random
@@ -11,7 +11,7 @@ import sys
 import threading
 import time
 
-SEATS = ["a1", "a2", "b1"]
+SEATS = [1, 2, 3]
 
 
 class Store:
@@ -51,13 +51,13 @@ def book(store, name, booked):
                 # the epoch is full, and the next one begins soon
                 time.sleep(0.01)
                 continue
-            answer = store.ask("call", t, "0", f"member:{seat}")
-            if answer == ["reply", "false"] and store.ask("call", t, "0", f"insert:{seat}") == ["reply", "ok"]:
+            answer = store.ask("call", t, "0", f"hold:{seat}")
+            if answer == ["reply", "ok"] and store.ask("call", t, "0", f"book:{seat}") == ["reply", "ok"]:
                 if store.ask("commit", t) == ["ok"]:
                     booked.append((seat, name))
                 return
             store.ask("abort", t)
-            if answer == ["reply", "true"]:
+            if answer == ["reply", "taken"]:
                 break
             time.sleep(random.random() / 1000)
 

@@ -16,7 +16,7 @@ import sys
 import tempfile
 
 # What the names of tests end with that say what comes of refused memory.
-TESTS = ("want_memory", "wants_memory", "memory_is_wanted", "runs_are_played", "scenes_are_played_in_place",
+TESTS = ("refused_memory", "memory_is_refused", "runs_are_played", "scenes_are_played_in_place",
          "scenes_are_played_deferred", "scripts_are_folds_of_their_commands")
 
 SHIM = r"""
@@ -82,7 +82,7 @@ def run(words, library, place):
 
 
 def sweep(words, library):
-    """How many allocations there are, and how many of them were wanted."""
+    """How many allocations there are, and without how many of them nothing is written."""
     expected, _ = run(words, library, 0)
     place, starved = 1, 0
     while True:

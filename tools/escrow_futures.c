@@ -71,7 +71,7 @@ static int step(int number, int op) {
     return number >= ops[op].low && number <= ops[op].high ? number + ops[op].move : -1;
 }
 
-/* The number behind the first operations of d, or -1. */
+/* The number after the first operations of d, or -1. */
 static int run(int number, const done *d, int count) {
     for (int i = 0; i < count && number >= 0; i++) number = step(number, d->ops[i]);
     return number;

@@ -1,6 +1,6 @@
 #!/usr/bin/env python3
 """misused_store.py: whether the toolchain refuses a store that is let go without `close`, one that is
-handed to `drop` or is a field of what is dropped, and one that is used behind `close`.
+handed to `drop` or is a field of what is dropped, and one that is used after `close`.
 
 Such a program isn't proved wrong, but refused before anything is proved, so it can't be among the
 wrong bodies of `must-fail/`. Each body is put into a copy of the sources, and a program over the crate
@@ -25,7 +25,7 @@ pub struct Around<R: Recovery> {
 
 """
 
-# (what is done, the text that stands in the file, what is put in its place, the refusal)
+# (what is done, the text that is in the file, what is put in its place, the refusal)
 MISUSES = [
     ("let go", "let (history, _) = store.close();", "let history = store.history();", "linear-value-let-go"),
     ("handed to `drop`", "let (history, _) = store.close();\n    history.len()", "drop(store);\n    0", "unsatisfied-bound"),

@@ -1,14 +1,14 @@
 """A slow model of a store that is served: what a line asks, and what it is answered.
 
 It is written from docs/formats.md and docs/theory.md and shares nothing with the program. For each line it works out
-from the whole history, anew, who is open, what lives, what a transaction sees and who is in its way. Of a deferred
+from the whole history, anew, who is open, what survives, what a transaction sees and who is in its way. Of a deferred
 object it keeps the serial state; so it is a model of types whose texts relate no two states. Of an object in escrow it
 goes through all fronts of what each transaction did, and through all numbers that such fronts may leave.
 """
 import re
 
 LONGEST, MOST_OPEN, MOST_TOLD = 256, 1024, 65_536
-# What is behind each verb: a transaction, a number or a name.
+# What comes after each verb: a transaction, a number or a name.
 WORDS = {"begin": "", "call": "txn", "would": "txn", "commit": "t", "abort": "t", "rollback": "tx", "kept": "x",
          "objects": "", "types": "", "events": "xx", "stats": "", "end": ""}
 
@@ -37,7 +37,7 @@ def transaction(word):
 
 
 def asked(words):
-    """The verb and what is behind it."""
+    """The verb and what comes after it."""
     if not words or words[0] not in WORDS:
         raise Fault("UnknownVerb")
     form = WORDS[words[0]]
@@ -77,7 +77,7 @@ class Type:
         self.text = "".join(" ".join(line) + "\n" for line in lines)
 
     def run(self, state, operations):
-        """The state behind these operations, or none."""
+        """The state after these operations, or none."""
         for k in operations:
             state = self.next.get((state, k))
         return state
@@ -137,7 +137,7 @@ class Number:
 
 
 class Seen:
-    """What a history says: who began, committed and is open, and which operations live."""
+    """What a history says: who began, committed and is open, and which operations survive."""
 
     def __init__(self, events):
         self.begun, self.committed, self.aborted, self.stands = 0, [], set(), []
@@ -159,7 +159,7 @@ class Seen:
             self.strike(t, rest[0])
 
     def strike(self, t, count):
-        """The last operations of a transaction live no more."""
+        """The last operations of a transaction survive no more."""
         left = len(self.by(t)) - count
         kept = []
         for entry in self.stands:
@@ -178,7 +178,7 @@ class Seen:
         return [t for t in range(self.begun) if t not in self.ended]
 
     def at(self, x, t):
-        """The operations of a transaction that live at an object."""
+        """The operations of a transaction that survive at an object."""
         return [k for u, y, k in self.stands if u == t and y == x]
 
     def serial(self, x):
@@ -186,7 +186,7 @@ class Seen:
 
 
 class Model:
-    """A store in a file: the states where the epoch began, its whole history, how many of these events are told to be
+    """A store in a file: the states where the epoch began, its whole history, how many of these events are answered as
     durable, and the number of its life."""
 
     def __init__(self, objects, types):
@@ -289,7 +289,7 @@ class Model:
         return [self.told(event) if verb in ("call", "would") else "ok"]
 
     def answer(self, line):
-        """The lines of the answer, each behind the tag."""
+        """The lines of the answer, each after the tag."""
         tag, request = line_asked(line)
         if isinstance(request, Fault):
             return [f"{tag} fault {request}\n"]

@@ -29,7 +29,7 @@ pub fn words_of(event: &Event) -> Words {
     }
 }
 
-/// The event with a number near the old one in one of its fields. Behind the least number comes the
+/// The event with a number near the old one in one of its fields. After the least number comes the
 /// greatest.
 fn with_another_number(random: &mut Random, event: Words) -> Words {
     let mut words = event;

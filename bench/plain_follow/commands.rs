@@ -121,7 +121,7 @@ pub fn random_run<R: Recovery>(
     (commands, store)
 }
 
-/// A store that was given these commands up to so many events.
+/// A store that was given these commands up to this many events.
 pub fn run_up_to<R: Recovery>(
     types: &[Arc<Type>],
     commands: &[(u8, Command)],

@@ -71,7 +71,7 @@ fn write_history<R: Recovery>(
     Ok(())
 }
 
-/// Writes so many histories of a seed.
+/// Writes this many histories of a seed.
 fn write_histories<R: Recovery>(seed: u32, histories: u32, types: &[Arc<Type>]) -> Result<()> {
     let mut output = BufWriter::new(stdout());
     let mut random = Random::of_seed(u64::from(seed));

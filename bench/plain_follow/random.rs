@@ -4,7 +4,7 @@
 pub struct Random(u64);
 
 impl Random {
-    /// The generator of a seed: seeds side by side lie far apart.
+    /// The generator of a seed: neighbouring seeds give generators far apart.
     pub fn of_seed(seed: u64) -> Random {
         let word = (seed + 1).wrapping_mul(0x9e37_79b9_7f4a_7c15);
         Random(word.max(1))

@@ -19,7 +19,7 @@ enum Word {
 }
 
 impl Word {
-    /// How many numbers stand behind it.
+    /// How many numbers come after it.
     #[inline]
     fn count(self) -> usize {
         match self {
@@ -64,7 +64,7 @@ const NONE: Key = Key::new(b"none ");
 const ABORT: Key = Key::new(b"abort ");
 const ROLLBACK: Key = Key::new(b"rollback");
 
-/// So many numbers, the last with a LF behind it, and the place behind that.
+/// This many numbers, the last with a LF after it, and the place after that.
 #[inline(always)]
 fn numbers<const N: usize>(text: &[u8], mut at: usize) -> Option<([u32; 5], usize)> {
     let mut numbers = [0; 5];

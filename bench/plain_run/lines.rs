@@ -5,7 +5,7 @@
 
 use std::io::Read;
 
-/// How many bytes of value 0 stand behind a text, so that eight bytes can be read anywhere in it.
+/// How many bytes of value 0 come after a text, so that eight bytes can be read anywhere in it.
 pub const PADDING: usize = 16;
 
 /// The most words that a line of any form has.
@@ -42,11 +42,11 @@ pub struct ObjectLine {
     pub file: u8,
 }
 
-/// What stands between the object lines and the end.
+/// What comes between the object lines and the end.
 pub trait Entries {
     type Entry;
 
-    /// Whether a `max` line stands before the objects.
+    /// Whether a `max` line comes before the objects.
     const HAS_MAX: bool;
 
     /// A whole line of the canonical text, and its length with the LF.
@@ -56,7 +56,7 @@ pub trait Entries {
     fn entry(&mut self, words: &[&[u8]]) -> Result<Option<Self::Entry>, FaultKind>;
 }
 
-/// What stands before the entries.
+/// What comes before the entries.
 pub struct Head {
     pub max: u32,
     pub objects: Vec<ObjectLine>,
@@ -101,7 +101,7 @@ pub fn padded(path: &str) -> std::io::Result<Vec<u8>> {
 pub fn eight(text: &[u8], at: usize) -> u64 {
     debug_assert!(at + PADDING <= text.len());
     // SAFETY: a place in a text is at most its length, as no byte of the padding is passed over, and
-    // behind the text stands the padding.
+    // after the text comes the padding.
     unsafe { text.as_ptr().add(at).cast::<u64>().read_unaligned() }.to_le()
 }
 
@@ -146,7 +146,7 @@ pub fn digits(word: u64) -> Option<(u32, usize)> {
     Some((all as u32, count))
 }
 
-/// The number from here on with this byte behind it, and the place behind that byte.
+/// The number from here on with this byte after it, and the place after that byte.
 #[inline(always)]
 pub fn number_before(text: &[u8], at: usize, behind: u8) -> Option<(u32, usize)> {
     let word = eight(text, at);
@@ -198,7 +198,7 @@ impl<E: Entries> Lines<'_, E> {
         }
     }
 
-    /// Reads the line at a place, and answers the entry that it is and the place behind it.
+    /// Reads the line at a place, and answers the entry that it is and the place after it.
     #[inline(always)]
     fn next(&mut self, text: &[u8], at: usize) -> Result<(Option<E::Entry>, usize), FaultKind> {
         if self.takes_entries()
@@ -299,8 +299,8 @@ impl<E: Entries> Lines<'_, E> {
     }
 }
 
-/// Hands each entry of a text that has its padding on, until one isn't wanted, and answers what
-/// stands before the entries, or the text's first fault.
+/// Hands each entry of a text that has its padding on, until one isn't asked for, and answers what
+/// comes before the entries, or the text's first fault.
 #[inline(always)]
 pub fn read_each<E: Entries>(
     text: &[u8],

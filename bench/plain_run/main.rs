@@ -87,7 +87,7 @@ impl Types {
     }
 }
 
-/// The types of the objects, each of which is accepted for its kind where that is wanted.
+/// The types of the objects, each of which is accepted for its kind where that is asked for.
 fn types_of(path: &str, objects: &[ObjectLine], words: &[String], is_checked: bool) -> Types {
     let texts: Vec<String> = words.iter().map(|word| type_text(word)).collect();
     let (mut seen, mut types) = (

@@ -130,7 +130,7 @@ pub fn write_objects<W: Write>(objects: &[ObjectLine], output: &mut Output<W>) -
     Ok(())
 }
 
-/// Aborts what is open, and writes what comes behind the commands.
+/// Aborts what is open, and writes what comes after the commands.
 pub fn finish<W: Write>(
     store: &mut Store<Either>,
     objects: usize,

@@ -44,7 +44,7 @@ impl Commands {
         place
     }
 
-    /// The place of the name from here on with a LF behind it, and the place behind the LF.
+    /// The place of the name from here on with a LF after it, and the place after the LF.
     #[inline(always)]
     fn name_before_lf(&mut self, text: &[u8], at: usize) -> Option<(u32, usize)> {
         let word = eight(text, at);
@@ -71,7 +71,7 @@ impl Commands {
     }
 }
 
-/// How many bytes of these eight stand before the first LF; 8 where none is a LF.
+/// How many bytes of these eight come before the first LF; 8 where none is a LF.
 #[inline]
 fn length_before_lf(word: u64) -> usize {
     let others = word ^ 0x0a0a_0a0a_0a0a_0a0a;

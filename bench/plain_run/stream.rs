@@ -15,7 +15,7 @@ fn no_text(fault: TextFault) -> Error {
     Error::other(format!("line {}: {:?}", fault.line, fault.kind))
 }
 
-/// What stands before the entries of a text.
+/// What comes before the entries of a text.
 fn head_of<E: Entries>(text: &[u8], grammar: &mut E) -> Result<Head> {
     read_each(text, grammar, |_, _| false).map_err(no_text)
 }

@@ -62,7 +62,7 @@ impl Intentions {
         self.log.truncate(kept);
     }
 
-    /// The state after t's entries, of which there are so many.
+    /// The state after t's entries, of which there are this many.
     #[inline]
     fn walk(&self, table: &Type, t: u32, count: u32) -> u16 {
         let from = self.place_of_last(t, count);

@@ -2,7 +2,7 @@
 //! structures, with neither proofs nor the tests that they make needless.
 //!
 //! `plain_store KIND FILE OBJECTS OPEN CALLS MODE COMMANDS ROUNDS` prints the least nanoseconds of a
-//! run of so many commands, and what came of them.
+//! run of COMMANDS commands, and what came of them.
 
 mod intentions;
 mod locks;

@@ -14,7 +14,7 @@ pub struct Outcome {
 }
 
 impl Outcome {
-    /// Writes it, behind the least nanoseconds of a run and the bytes of an event.
+    /// Writes it, after the least nanoseconds of a run and the bytes of an event.
     pub fn print(&self, least: u128, event_bytes: usize) {
         println!("nanoseconds {least}\nevent_bytes {event_bytes}");
         println!("refused {}\nops {}\nbusy {}", self.refused, self.ops, self.busy);

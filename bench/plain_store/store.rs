@@ -125,7 +125,7 @@ impl<R: Recovery> Store<R> {
         &self.history
     }
 
-    /// Whether there is room for so many further events and the end of each open transaction.
+    /// Whether there is room for this many further events and the end of each open transaction.
     #[inline]
     fn room(&self, further: usize) -> Result<(), Refusal> {
         let wanted = self.history.len() + self.transactions.slots.len() + further;
@@ -225,7 +225,7 @@ impl<R: Recovery> Store<R> {
         Ok(())
     }
 
-    /// Strikes t's operations but the first, so many as `left` says, at each object once.
+    /// Strikes t's operations but the first `left`, at each object once.
     #[inline]
     fn strike(&mut self, t: u32, slot: usize, left: usize) {
         let places = &self.transactions.slots[slot].places.as_slice()[left..];

@@ -8,7 +8,7 @@ const ENDED: u16 = u16::MAX;
 /// How many places stay inline.
 const INLINE: usize = 16;
 
-/// The objects of a transaction's operations that live, in order; the first few of them inline.
+/// The objects of a transaction's operations that survive, in order; the first few of them inline.
 pub struct Places {
     count: u8,
     inline: [u8; INLINE],

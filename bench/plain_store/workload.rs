@@ -39,7 +39,7 @@ pub enum Mode {
     Rollback,
 }
 
-/// So many open transactions, each of which makes so many calls and ends.
+/// This many open transactions, each of which makes this many calls and ends.
 pub struct Workload {
     pub objects: u32,
     pub open: u32,

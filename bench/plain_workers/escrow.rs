@@ -44,7 +44,7 @@ struct Receipt {
 }
 
 /// The number that is committed, what the open transactions take and give together, what happened, and
-/// what each worker was told.
+/// what each worker noted.
 struct Shared {
     number: i64,
     takes: i64,

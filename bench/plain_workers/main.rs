@@ -5,10 +5,10 @@
 //! `plain_workers LOCK KIND FILE WORKERS JOBS TRIES MICROSECONDS CALL...` prints the nanoseconds from
 //! the first worker's start to the last one's end, how many jobs committed, and how many calls were
 //! answered `Busy` and `None`. LOCK is `object`,
-//! `operations` or `escrow`. Each worker has a list of so many jobs. A
-//! job is a begin, one of the CALLs in turn, and a commit, and is tried so often at the most: where the
-//! call has no reply, the transaction aborts. Between the call and the end the worker sleeps so many
-//! microseconds, if any. Built with `--cfg pausing`, a worker waits as those of `run_workers` do.
+//! `operations` or `escrow`. Each worker has a list of JOBS jobs. A
+//! job is a begin, one of the CALLs in turn, and a commit, and is tried TRIES times at most: where the
+//! call has no reply, the transaction aborts. Between the call and the end the worker sleeps MICROSECONDS
+//! microseconds. Built with `--cfg pausing`, a worker waits as those of `run_workers` do.
 
 #[path = "../plain_store/intentions.rs"]
 mod intentions;

@@ -19,7 +19,7 @@ struct Receipt {
     event: crate::store::Event,
 }
 
-/// A store, and what each worker was told.
+/// A store, and what each worker noted.
 struct Shared<R> {
     store: Store<R>,
     receipts: Vec<Vec<Receipt>>,

@@ -1,4 +1,4 @@
-//! How a worker waits, for the lock and behind a broken try. A program has one of the two manners: with
+//! How a worker waits, for the lock and after a broken try. A program has one of the two manners: with
 //! both in it, less of the store would be laid out in line.
 
 use std::sync::{Mutex, MutexGuard, TryLockError};
@@ -8,14 +8,14 @@ use std::thread;
 const LOOKS: u32 = 10;
 /// Pauses between looks double up to the one of this number.
 const LONGEST_BETWEEN_LOOKS: u32 = 6;
-/// Pauses in front of a try double up to the one of this number.
+/// Pauses before a try double up to the one of this number.
 const LONGEST_BEFORE_A_TRY: u32 = 3;
 
 pub trait Manner {
     /// Takes the lock.
     fn take<T>(mutex: &Mutex<T>) -> MutexGuard<'_, T>;
 
-    /// What a worker does in front of a try where so many tries of its job were broken.
+    /// What a worker does before a try where this many tries of its job were broken.
     fn wait_for_a_try(broken: u32);
 }
 

@@ -20,7 +20,7 @@
  *
  * - Each pointer is there (not NULL, not even where its count is 0), is aligned, and points at as many values
  *   as its count says, which may be written where the pointer isn't const.
- * - What the pointers of one call point at lies apart: no two of them share a byte.
+ * - What the pointers of one call point at is apart: no two of them share a byte.
  * - A handle is COLOCK_HANDLE (zeros) before its first call. It is never copied or written by others. Before
  *   its memory goes, colock_close is called, or what it holds is lost.
  * - A handle is in one call at a time; for more threads there is a lock of the caller round each call. Any
@@ -87,7 +87,7 @@ typedef enum colock_code {
 typedef enum colock_kind {
     COLOCK_UNDO = 0,       /* it is updated in place, and operations are taken back */
     COLOCK_INTENTIONS = 1, /* each transaction keeps its operations by itself until it commits */
-    COLOCK_ESCROW = 2      /* the same of a number: what has to wait is told by how far others may move it */
+    COLOCK_ESCROW = 2      /* the same of a number: how far others may move it says what has to wait */
 } colock_kind;
 
 typedef enum colock_answer_kind {
@@ -119,9 +119,9 @@ typedef enum colock_fault_kind {
     COLOCK_UNKNOWN_WORD = 4,  /* an unknown keyword, a wrong number of words, or a word that is no name or kind */
     COLOCK_BAD_NUMBER = 5,    /* a word that isn't a number */
     COLOCK_OUT_OF_RANGE = 6,  /* a number out of its range, or too many lines of a section */
-    COLOCK_OUT_OF_ORDER = 7,  /* a section or an entry behind its place */
+    COLOCK_OUT_OF_ORDER = 7,  /* a section or an entry after its place */
     COLOCK_MISSING = 8,       /* a section that must be there isn't, or the text has no `end` */
-    COLOCK_AFTER_END = 9,     /* a line behind `end` */
+    COLOCK_AFTER_END = 9,     /* a line after `end` */
     COLOCK_TWICE_OP = 10      /* an operation that came before */
 } colock_fault_kind;
 
@@ -130,7 +130,7 @@ typedef enum colock_fault_kind {
 typedef enum colock_refusal {
     COLOCK_INITIAL_OUTSIDE = 1, /* the initial state isn't in the set of states */
     COLOCK_NOT_CLOSED = 2,      /* from state `first` operation `second` leads out of the set */
-    COLOCK_NOT_SIMULATION = 3,  /* `first` looks like `second` by the text, and operation `third` tells them apart */
+    COLOCK_NOT_SIMULATION = 3,  /* `first` looks like `second` by the text, and operation `third` distinguishes them */
     COLOCK_NOT_COMMUTING = 4,   /* requested `first` and held `second` have no conflict and fail in state `third` */
     COLOCK_NOT_NUMERIC = 5      /* state `second` shows that operation `first` isn't one of numbers */
 } colock_refusal;
@@ -169,8 +169,8 @@ typedef struct colock_event {
  * COLOCK_REFUSED or COLOCK_NO_MEMORY too. `fault` is written at COLOCK_BAD_TEXT and COLOCK_REFUSED alone.
  *
  * For COLOCK_ESCROW a type has to be numeric: its states are numbers, and each operation is legal from a lowest
- * to a highest one and moves all of these as far. A counter and an account are, a set isn't, and a semiqueue is
- * where it has one element, or a capacity of 1. */
+ * to a highest one and moves all of these as far. A counter, a stock and an account are, a set isn't, a semiqueue
+ * and a queue are where they have one element, or a capacity of 1, and seats are where there is one. */
 
 /* The type of a text, with its own tables, which for COLOCK_ESCROW aren't looked at. COLOCK_BAD_TEXT. */
 uint32_t colock_type_read(colock_handle *type, uint32_t kind, const char *text, size_t text_count,
@@ -186,6 +186,10 @@ uint32_t colock_type_account(colock_handle *type, uint32_t kind, uint64_t cap, c
 /* A counter of 0 to `cap`: calls inc:A and dec:A for each amount A. As an account. */
 uint32_t colock_type_counter(colock_handle *type, uint32_t kind, uint64_t cap, const uint64_t *amounts,
                              size_t amounts_count, colock_fault *fault);
+/* A stock of 0 to `cap`: calls give:A and take:A for each amount A, whose refusals, full and short, are replies. As
+ * an account. */
+uint32_t colock_type_stock(colock_handle *type, uint32_t kind, uint64_t cap, const uint64_t *amounts,
+                           size_t amounts_count, colock_fault *fault);
 /* A set of the words of a text of `elements_count` bytes, with spaces between them: calls insert:E, delete:E and
  * member:E for each element E. COLOCK_BAD_PARAMETER, COLOCK_TOO_LARGE. */
 uint32_t colock_type_set(colock_handle *type, uint32_t kind, const char *elements, size_t elements_count,
@@ -194,6 +198,13 @@ uint32_t colock_type_set(colock_handle *type, uint32_t kind, const char *element
  * As a set. */
 uint32_t colock_type_semiqueue(colock_handle *type, uint32_t kind, const char *elements,
                                size_t elements_count, uint64_t capacity, colock_fault *fault);
+/* A queue of at most `capacity` items: calls enq:E for each element E, and deq, whose reply is the item that is
+ * longest there. As a set. */
+uint32_t colock_type_queue(colock_handle *type, uint32_t kind, const char *elements, size_t elements_count,
+                           uint64_t capacity, colock_fault *fault);
+/* `count` seats, 1 to 6, each free, held or booked: calls hold:I, release:I, book:I and cancel:I for each I from 1
+ * to `count`, and free, whose reply is how many are free. COLOCK_BAD_PARAMETER, COLOCK_TOO_LARGE. */
+uint32_t colock_type_seats(colock_handle *type, uint32_t kind, uint64_t count, colock_fault *fault);
 
 /* What is read of a type. COLOCK_NOT_HELD where the handle holds no type. */
 uint32_t colock_type_shape(colock_handle *type, colock_shape *shape);
@@ -207,7 +218,7 @@ uint32_t colock_type_reply(colock_handle *type, uint64_t k, char *room, size_t r
 /* The state to which operation k leads from state s. COLOCK_NO_STATE, COLOCK_NO_OPERATION, COLOCK_NOT_LEGAL. */
 uint32_t colock_type_step(colock_handle *type, uint64_t s, uint64_t k, uint64_t *to);
 /* Whether operation `requested` conflicts with `other`, which another transaction holds: 1 or 0. Of
- * COLOCK_ESCROW it is 0: there is no conflict table, and what has to wait is told by the numbers.
+ * COLOCK_ESCROW it is 0: there is no conflict table, and the numbers say what has to wait.
  * COLOCK_NO_OPERATION. */
 uint32_t colock_type_conflict(colock_handle *type, uint64_t requested, uint64_t other, uint32_t *told);
 
@@ -226,9 +237,9 @@ uint32_t colock_store_open(colock_handle *store, uint64_t max_events);
 /* ---- Transactions
  *
  * Each of these, and of those below, returns COLOCK_NOT_HELD where the handle holds no store. A worker is any
- * number that the events are to tell. */
+ * number that the events are to have. */
 
-/* Begins a transaction, whose number is told: they count from 0. COLOCK_TOO_MANY_OPEN, COLOCK_HISTORY_FULL,
+/* Begins a transaction, and gives its number: they count from 0. COLOCK_TOO_MANY_OPEN, COLOCK_HISTORY_FULL,
  * COLOCK_NO_MEMORY. */
 uint32_t colock_begin(colock_handle *store, uint8_t worker, uint64_t *transaction);
 /* Calls, for a transaction, the call of this name at an object. COLOCK_OK whether the answer is COLOCK_REPLY,
@@ -236,7 +247,7 @@ uint32_t colock_begin(colock_handle *store, uint8_t worker, uint64_t *transactio
  * COLOCK_HISTORY_FULL, COLOCK_NO_MEMORY. */
 uint32_t colock_call(colock_handle *store, uint8_t worker, uint64_t transaction, uint32_t object,
                      const char *name, size_t name_count, colock_answer *answer);
-/* The same by the number of the call, which colock_call_number tells once. */
+/* The same by the number of the call, for which colock_call_number is asked once. */
 uint32_t colock_call_op(colock_handle *store, uint8_t worker, uint64_t transaction, uint32_t object,
                         uint8_t call, colock_answer *answer);
 /* The number of the call of this name at an object: that of the first operation that has it.
@@ -267,7 +278,7 @@ uint32_t colock_abort_all(colock_handle *store);
  *
  * A store's history is what happened, oldest first: events count from 0. */
 
-/* Copies the events from `from` on into the room, as many as there are and it has room for; tells how many.
+/* Copies the events from `from` on into the room, as many as there are and it has room for; gives how many.
  * COLOCK_FORGOTTEN where `from` is below the number of those that were forgotten. */
 uint32_t colock_events(colock_handle *store, uint64_t from, colock_event *room, size_t room_count,
                        uint64_t *count);

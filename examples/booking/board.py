@@ -65,7 +65,7 @@ class Seen(NamedTuple):
 
 
 class Board:
-    """The states of all seats behind the last durable commits, and the holds. Threads share it."""
+    """The states of all seats after the last durable commits, and the holds. Threads share it."""
 
     def __init__(self, states: Sequence[SeatState], sold: int, hold_seconds: float) -> None:
         """The hall as the store has it while nobody holds a seat. A hold lasts `hold_seconds`, which is above 0."""
@@ -86,7 +86,7 @@ class Board:
         return hold
 
     def hold_of(self, seat: int) -> Optional[Hold]:
-        """The hold that was put last at a seat. Where the seat isn't held, it tells nothing."""
+        """The hold that was put last at a seat. Where the seat isn't held, it says nothing."""
         with self._lock:
             return self._holds.get(seat)
 
@@ -103,7 +103,7 @@ class Board:
             return [hold for hold in self._holds.values() if hold.until <= now]
 
     def show(self, seat: int, state: SeatState, turn: Turn) -> None:
-        """A seat has this state behind a turn. It is said behind the durable commit."""
+        """A seat has this state after a turn. It is shown after the durable commit."""
         with self._lock:
             hold = self._holds.get(seat)
             if state is not SeatState.HELD and hold is not None and hold.turn < turn:

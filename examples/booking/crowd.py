@@ -71,7 +71,7 @@ class Guest:
 
 
 class Crowd:
-    """So many guests, all of them connected. A `with` hangs up at its end."""
+    """This many guests, all of them connected. A `with` hangs up at its end."""
 
     def __init__(self, address: str, size: int) -> None:
         """At an address as `http://127.0.0.1:8000`. Raises `OSError`."""
@@ -86,7 +86,7 @@ class Crowd:
             raise
 
     def ask(self, action: str, seats: Sequence[str]) -> List[Asked]:
-        """Each guest asks this at its seat, all at once; those who are told that it can't be done now, once more."""
+        """Each guest asks this at its seat, all at once; those whose answer is that it can't be done now, once more."""
         statuses: Dict[int, int] = {}
         while len(statuses) < len(seats):
             asked = self._ask_once(action, {guest: seat for guest, seat in enumerate(seats) if guest not in statuses})

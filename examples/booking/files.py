@@ -3,7 +3,7 @@ import resource
 
 
 def allow_files(count: int) -> None:
-    """Lets this process have so many, or as many as it may have."""
+    """Lets this process have this many open files, or as many as it may have."""
     soft, hard = resource.getrlimit(resource.RLIMIT_NOFILE)
     most = count if hard == resource.RLIM_INFINITY else min(count, hard)
     if soft != resource.RLIM_INFINITY and soft < most:

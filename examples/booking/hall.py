@@ -17,7 +17,7 @@ SEATS = tuple(f"{row}{place}" for row in ROWS for place in range(1, SEATS_IN_ROW
 NUMBERS = {name: number for number, name in enumerate(SEATS)}
 
 SOLD = len(SEATS)
-"""The object behind those of the seats: how many are booked."""
+"""The object after those of the seats: how many are booked."""
 
 WAIT = 1.0
 """How many seconds a call waits for whoever is in its way. A transaction here takes milliseconds."""
@@ -48,7 +48,7 @@ SEAT_OPERATIONS = [
 
 
 def seat_step(state: SeatState, operation: Tuple[str, str]) -> Optional[SeatState]:
-    """The state behind an operation, or None where a seat doesn't reply so."""
+    """The state after an operation, or None where a seat doesn't reply so."""
     call, reply = operation
     if call in CHANGES and state is CHANGES[call][0]:
         return CHANGES[call][1] if reply == "ok" else None
@@ -195,12 +195,12 @@ class Hall:
         self._board.show(hold.seat, SeatState.FREE, turn)
 
     def _done(self, f: Callable[[colock.Transaction], T]) -> T:
-        """A function as a transaction, which is durable behind this."""
+        """A function as a transaction, which is durable after this."""
         with self._turnstile:
             return self._store.retry(f, tries=TRIES)
 
     def _turn(self, t: colock.Transaction, seat: int, call: str) -> Tuple[str, Turn]:
-        """The reply of a seat, behind whoever is at it; and the turn, drawn while nobody else can change the seat."""
+        """The reply of a seat, after whoever is there; and the turn, drawn while nobody else can change the seat."""
         reply = t.call(seat, call, wait=WAIT).executed().reply
         return reply, Turn(int(t.id.partition(".")[0]), next(self._turns))
 

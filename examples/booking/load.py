@@ -38,7 +38,7 @@ class Load:
     """Requests by guests in threads, from `start` to the end of `join`."""
 
     def __init__(self, address: str, requests: int, guests: int, seed: int) -> None:
-        """To an address as `http://127.0.0.1:8000`, so many requests in all."""
+        """To an address as `http://127.0.0.1:8000`, this many requests in all."""
         parts = urlsplit(address)
         self.host, self.port = parts.hostname or "127.0.0.1", parts.port or 80
         self._lock = threading.Lock()

@@ -1,5 +1,5 @@
 #!/usr/bin/env python3
-"""A service that books the seats of a hall over HTTP. `service.py --help` tells its options, README.md the rest."""
+"""A service that books the seats of a hall over HTTP. `service.py --help` lists its options, README.md the rest."""
 import argparse
 import json
 import os
@@ -82,7 +82,7 @@ def refused(status: int, words: str, *headers: Tuple[str, str]) -> Answer:
 
 
 def later(words: str) -> Answer:
-    """It isn't done, or nobody knows: in a moment the service can tell."""
+    """It isn't done, or nobody knows: in a moment the service can say."""
     return refused(503, words, ("Retry-After", "1"))
 
 
@@ -102,19 +102,19 @@ def seat_of(body: bytes) -> str:
 
 
 def hold(hall: Hall, seat: str, guest: str) -> Json:
-    """Holds a seat; what is told of it."""
+    """Holds a seat; what is answered."""
     held = hall.hold(seat, guest)
     return {"seat": seat, "state": Shown.MINE.value, "left": round(held.left(), 1)}
 
 
 def book(hall: Hall, seat: str, guest: str) -> Json:
-    """Books a seat; what is told of it."""
+    """Books a seat; what is answered."""
     hall.book(seat, guest)
     return {"seat": seat, "state": Shown.BOOKED.value}
 
 
 def release(hall: Hall, seat: str, guest: str) -> Json:
-    """Releases a seat; what is told of it."""
+    """Releases a seat; what is answered."""
     hall.release(seat, guest)
     return {"seat": seat, "state": Shown.FREE.value}
 
@@ -139,9 +139,9 @@ def seats(hall: Hall, guest: str) -> Json:
 
 
 class Requests:
-    """How many requests are being answered, so that the service ends behind them. A `with` counts one.
+    """How many requests are being answered, so that the service ends after them. A `with` counts one.
 
-    It tells whether the request is to be done: not where the service is closing.
+    It says whether the request is to be done: not where the service is closing.
     """
 
     def __init__(self) -> None:
@@ -163,7 +163,7 @@ class Requests:
             self._changed.notify_all()
 
     def close(self, limit: float) -> None:
-        """From now on none is done. Waits for those that are, at most so many seconds."""
+        """From now on none is done. Waits for those that are, at most this many seconds."""
         with self._changed:
             self._is_closing = True
             self._changed.wait_for(lambda: self._count == 0, limit)
@@ -228,7 +228,7 @@ class Server(ThreadingHTTPServer):
         return later("The store is lost. Nothing was done. Try again in a moment.")
 
     def end(self) -> int:
-        """Ends behind the requests that are being answered. The status of the process."""
+        """Ends after the requests that are being answered. The status of the process."""
         self.shutdown()
         self.requests.close(LAST_ANSWERS)
         self.server_close()
@@ -270,7 +270,7 @@ class Handler(BaseHTTPRequestHandler):
     do_POST = do_GET
 
     def handle_expect_100(self) -> bool:
-        """A client that waits for this before it sends the body is told so where the body is read."""
+        """A client that waits for this before it sends the body gets it where the body is read."""
         return True
 
     def _serve(self, is_open: bool) -> None:
@@ -347,7 +347,7 @@ class Handler(BaseHTTPRequestHandler):
 
 
 def failed(words: str) -> int:
-    """Says why the service ends, and the status that tells its supervisor to start it anew."""
+    """Says why the service ends, and returns the status at which its supervisor starts it anew."""
     print(f"service.py: {words}", file=sys.stderr, flush=True)
     return 1
 

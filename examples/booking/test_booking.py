@@ -77,7 +77,7 @@ class Service:
         return f"http://127.0.0.1:{self.port}"
 
     def start(self) -> None:
-        """Starts it, as its supervisor does. It is there behind this."""
+        """Starts it, as its supervisor does. It is there after this."""
         words = [sys.executable, os.path.join(HERE, "service.py"), self.path, "--port", str(self.port), *self._options]
         with open(self._said, "ab") as said:
             process = self._process = subprocess.Popen(words, stdout=subprocess.PIPE, stderr=said, text=True)
@@ -280,7 +280,7 @@ class LoadTest(ServiceTest):
         self.audited()
 
     def _behind(self, guests: Load, count: int) -> None:
-        """Waits until so many requests were asked."""
+        """Waits until this many requests were asked."""
         end = time.monotonic() + LIMIT
         while len(guests.asked()) < count:
             self.assertFalse(guests.is_over(), "the guests have gone")

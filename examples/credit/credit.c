@@ -1,4 +1,4 @@
-/* Two accounts and transfers between them, each one transaction. Built behind `make library` in bindings/c:
+/* Two accounts and transfers between them, each one transaction. Built after `make library` in bindings/c:
  *
  *     cc credit.c -I../../bindings/c ../../bindings/c/build/libcolock.a -o credit && ./credit
  *
@@ -19,7 +19,7 @@ typedef struct bank {
     colock_handle store;
 } bank;
 
-/* Ends the program where a call has a code that it can't have here but for want of memory. */
+/* Ends the program where a call has a code that it can't have here but where memory was refused. */
 static void must(uint32_t code) {
     if (code == COLOCK_OK) return;
     fprintf(stderr, "credit: code %" PRIu32 "\n", code);

@@ -1,9 +1,9 @@
 //! The commands of `benches store` through libcolock, from Rust:
 //!
-//! `library KIND FILE OBJECTS OPEN CALLS MODE COMMANDS ROUNDS` prints the least nanoseconds of a run of so many
+//! `library KIND FILE OBJECTS OPEN CALLS MODE COMMANDS ROUNDS` prints the least nanoseconds of a run of COMMANDS
 //! commands, and what came of them, as `benches store` does.
 
-// `bench/plain_store` makes the same commands, and tells the same of what came of them.
+// `bench/plain_store` makes the same commands, and says the same of what came of them.
 #[path = "../../plain_store/outcome.rs"]
 mod outcome;
 #[path = "../../plain_store/workload.rs"]

@@ -41,13 +41,16 @@ static void make_type(int h) {
     const char *text = texts[draw(5)], *words = elements[draw(5)];
     colock_fault fault = {UNTOUCHED, UNTOUCHED, UNTOUCHED, UNTOUCHED, UNTOUCHED};
     uint32_t kind = (uint32_t)(draw(9) ? draw(3) : number()), code = 0;
-    switch (draw(6)) {
+    switch (draw(9)) {
     case 0: code = colock_type_read(&handles[h], kind, TEXT(text), &fault); break;
     case 1: code = colock_type_tables(&handles[h], kind, TEXT(text), &fault); break;
     case 2: code = colock_type_account(&handles[h], kind, number(), amounts, draw(4), &fault); break;
     case 3: code = colock_type_counter(&handles[h], kind, number(), amounts, draw(4), &fault); break;
     case 4: code = colock_type_set(&handles[h], kind, TEXT(words), &fault); break;
     case 5: code = colock_type_semiqueue(&handles[h], kind, TEXT(words), number(), &fault); break;
+    case 6: code = colock_type_stock(&handles[h], kind, number(), amounts, draw(4), &fault); break;
+    case 7: code = colock_type_queue(&handles[h], kind, TEXT(words), number(), &fault); break;
+    case 8: code = colock_type_seats(&handles[h], kind, number(), &fault); break;
     }
     WANT((code == COLOCK_IN_USE) == (holds[h] != NOTHING));
     WANT((code == COLOCK_BAD_TEXT || code == COLOCK_REFUSED) == (fault.line != UNTOUCHED));

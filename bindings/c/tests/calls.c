@@ -70,6 +70,9 @@ static void makers_refuse(colock_handle *held) {
     WANT(colock_type_counter(&type, UINT32_MAX, 5, one, 1, &f) == COLOCK_BAD_KIND);
     WANT(colock_type_set(&type, 3, TEXT("a"), &f) == COLOCK_BAD_KIND);
     WANT(colock_type_semiqueue(&type, 3, TEXT("a"), 2, &f) == COLOCK_BAD_KIND);
+    WANT(colock_type_stock(&type, 3, 5, one, 1, &f) == COLOCK_BAD_KIND);
+    WANT(colock_type_queue(&type, 3, TEXT("a"), 2, &f) == COLOCK_BAD_KIND);
+    WANT(colock_type_seats(&type, 3, 2, &f) == COLOCK_BAD_KIND);
     WANT(colock_close(&type) == COLOCK_NOT_HELD);
     WANT(colock_type_read(held, 3, TEXT(CTR2), &f) == COLOCK_IN_USE);
     WANT(colock_type_tables(held, 0, TEXT(CTR2), &f) == COLOCK_IN_USE);
@@ -77,6 +80,9 @@ static void makers_refuse(colock_handle *held) {
     WANT(colock_type_counter(held, 0, 5, one, 1, &f) == COLOCK_IN_USE);
     WANT(colock_type_set(held, 0, TEXT("a"), &f) == COLOCK_IN_USE);
     WANT(colock_type_semiqueue(held, 0, TEXT("a"), 2, &f) == COLOCK_IN_USE);
+    WANT(colock_type_stock(held, 0, 5, one, 1, &f) == COLOCK_IN_USE);
+    WANT(colock_type_queue(held, 0, TEXT("a"), 2, &f) == COLOCK_IN_USE);
+    WANT(colock_type_seats(held, 0, 2, &f) == COLOCK_IN_USE);
     WANT(colock_store_new(held) == COLOCK_IN_USE);
     WANT(is(&f, UNTOUCHED, UNTOUCHED, UNTOUCHED, UNTOUCHED, UNTOUCHED));
 }
@@ -101,6 +107,15 @@ static void families_have_ranges(void) {
     WANT(colock_type_semiqueue(&type, 0, TEXT("a"), 0, &f) == COLOCK_BAD_PARAMETER);
     WANT(colock_type_semiqueue(&type, 0, TEXT("a"), UINT64_MAX, &f) == COLOCK_BAD_PARAMETER);
     WANT(colock_type_semiqueue(&type, 0, TEXT("a b c"), 100, &f) == COLOCK_TOO_LARGE);
+    WANT(colock_type_stock(&type, 0, 5, down, 2, &f) == COLOCK_BAD_PARAMETER);
+    WANT(colock_type_stock(&type, 0, (uint64_t)1 << 40, one, 1, &f) == COLOCK_BAD_PARAMETER);
+    WANT(colock_type_stock(&type, 0, 1023, many, 40, &f) == COLOCK_TOO_LARGE);
+    WANT(colock_type_queue(&type, 0, TEXT("a a"), 2, &f) == COLOCK_BAD_PARAMETER);
+    WANT(colock_type_queue(&type, 0, TEXT("a"), UINT64_MAX, &f) == COLOCK_BAD_PARAMETER);
+    WANT(colock_type_queue(&type, 0, TEXT("a b"), 10, &f) == COLOCK_TOO_LARGE);
+    WANT(colock_type_seats(&type, 0, 0, &f) == COLOCK_BAD_PARAMETER);
+    WANT(colock_type_seats(&type, 0, UINT64_MAX, &f) == COLOCK_BAD_PARAMETER);
+    WANT(colock_type_seats(&type, 0, 7, &f) == COLOCK_TOO_LARGE);
     WANT(is(&f, UNTOUCHED, UNTOUCHED, UNTOUCHED, UNTOUCHED, UNTOUCHED));
     WANT(colock_close(&type) == COLOCK_NOT_HELD);
 }
@@ -221,7 +236,7 @@ static void a_store_is_made(void) {
     WANT(colock_store_open(&store, 9) == COLOCK_NOT_HELD && colock_store_add(&store, &type) == COLOCK_NOT_HELD);
     WANT(colock_store_new(&none) == COLOCK_OK && colock_store_add(&none, &store) == COLOCK_NOT_HELD);
     WANT(colock_close(&none) == COLOCK_OK && colock_close(&type) == COLOCK_OK);
-    WANT(begin(&store, 0) == 0); /* the type lives on in it */
+    WANT(begin(&store, 0) == 0); /* the type is still in it */
     WANT(colock_close(&store) == COLOCK_OK && colock_close(&store) == COLOCK_NOT_HELD);
     is_no_type(&store), is_no_store(&store);
     open_counters(&store, 1, 9); /* the handle may be used again */
@@ -347,6 +362,47 @@ static void a_store_is_used(void) {
     WANT(colock_close(&store) == COLOCK_OK);
 }
 
+/* From the text of a type to the close of all. */
+static void a_store_is_made_and_closed(void) {
+    static const char text[] = "type up\nstates 2\ninitial 0\nop inc ok\nstep 0 0 1\nconflict undo 0 0\nend\n";
+    colock_handle up = COLOCK_HANDLE, store = COLOCK_HANDLE;
+    colock_fault fault = NO_FAULT;
+    colock_answer a = {UNTOUCHED, UNTOUCHED};
+    WANT(colock_type_read(&up, COLOCK_UNDO, TEXT("tipe\n"), &fault) == COLOCK_BAD_TEXT && fault.line == 1);
+    WANT(colock_type_read(&up, COLOCK_UNDO, TEXT(text), &fault) == COLOCK_OK);
+    WANT(colock_store_new(&store) == COLOCK_OK && colock_store_add(&store, &up) == COLOCK_OK);
+    WANT(colock_store_open(&store, 9) == COLOCK_OK && begin(&store, 0) == 0);
+    WANT(is_told(colock_call(&store, 0, 0, 0, TEXT("inc"), &a), &a, COLOCK_REPLY, 0));
+    WANT(colock_commit(&store, 0, 0) == COLOCK_OK && colock_commit(&store, 0, 0) == COLOCK_NOT_OPEN);
+    WANT(colock_commit(&store, 0, (uint64_t)1 << 40) == COLOCK_NOT_OPEN);
+    WANT(colock_close(&store) == COLOCK_OK && colock_close(&store) == COLOCK_NOT_HELD);
+    WANT(colock_close(&up) == COLOCK_OK);
+}
+
+static void open_store_of(colock_handle *store, colock_handle *type) {
+    WANT(colock_store_new(store) == COLOCK_OK && colock_store_add(store, type) == COLOCK_OK);
+    WANT(colock_store_open(store, 10) == COLOCK_OK);
+}
+
+/* What one store did, another of the same type does again, up to what is no event. */
+static void events_cross_and_are_made_again(void) {
+    static const uint64_t amounts[] = {1, (uint64_t)1 << 40};
+    colock_handle counter = COLOCK_HANDLE, store = COLOCK_HANDLE, other = COLOCK_HANDLE;
+    colock_fault fault = NO_FAULT;
+    colock_answer a = {UNTOUCHED, UNTOUCHED};
+    colock_event room[3] = {{0, 0, 0, 0, 0, 0}, {0, 0, 0, 0, 0, 0}, {9, 9, 9, 9, 9, 9}};
+    uint64_t count = UNTOUCHED;
+    WANT(colock_type_counter(&counter, COLOCK_UNDO, 5, amounts, 2, &fault) == COLOCK_BAD_PARAMETER);
+    WANT(colock_type_counter(&counter, COLOCK_UNDO, 5, amounts, 1, &fault) == COLOCK_OK);
+    open_store_of(&store, &counter), open_store_of(&other, &counter);
+    WANT(begin(&store, 3) == 0 && colock_call(&store, 3, 0, 0, TEXT("inc:1"), &a) == COLOCK_OK);
+    WANT(colock_events(&store, 0, room, 3, &count) == COLOCK_OK && count == 2);
+    WANT(is_event(&room[1], COLOCK_EVENT_OP, 3, 0, 0, 0, 0) && is_event(&room[2], 9, 9, 9, 9, 9, 9));
+    WANT(colock_follow(&other, room, 3, &count) == COLOCK_NOT_MADE && count == 2);
+    WANT(colock_renew(&other) == COLOCK_STILL_OPEN);
+    WANT(colock_close(&store) == COLOCK_OK && colock_close(&other) == COLOCK_OK && colock_close(&counter) == COLOCK_OK);
+}
+
 int main(void) {
     WANT(colock_version() == COLOCK_VERSION);
     texts_have_faults();
@@ -356,6 +412,8 @@ int main(void) {
     tables_are_made();
     a_store_is_made();
     a_store_is_used();
+    a_store_is_made_and_closed();
+    events_cross_and_are_made_again();
     puts("each code of each call: as it has to be");
     return 0;
 }

@@ -18,13 +18,18 @@ static bool is_made(uint32_t code, colock_handle *type) {
     return colock_close(type) == COLOCK_OK && shape.kind == COLOCK_ESCROW;
 }
 
-/* A counter moves each number as far, and a balance is legal at one number alone. Of one element, or with room for
- * one item, each operation of a semiqueue is legal from a lowest to a highest number of its states. */
+/* A counter and a stock move each number as far, and a balance is legal at one number alone. Of one element, or with
+ * room for one item, each operation of a semiqueue or a queue is legal from a lowest to a highest number of its states;
+ * so is each of one seat. */
 static void these_are_numeric(void) {
     colock_handle type = COLOCK_HANDLE;
     colock_fault f;
     WANT(is_made(colock_type_counter(&type, COLOCK_ESCROW, 5, AMOUNTS, 2, &f), &type));
     WANT(is_made(colock_type_account(&type, COLOCK_ESCROW, 5, AMOUNTS, 2, &f), &type));
+    WANT(is_made(colock_type_stock(&type, COLOCK_ESCROW, 5, AMOUNTS, 2, &f), &type));
+    WANT(is_made(colock_type_queue(&type, COLOCK_ESCROW, TEXT("a"), 9, &f), &type));
+    WANT(is_made(colock_type_queue(&type, COLOCK_ESCROW, TEXT("a b"), 1, &f), &type));
+    WANT(is_made(colock_type_seats(&type, COLOCK_ESCROW, 1, &f), &type));
     WANT(is_made(colock_type_semiqueue(&type, COLOCK_ESCROW, TEXT("a"), 9, &f), &type));
     WANT(is_made(colock_type_semiqueue(&type, COLOCK_ESCROW, TEXT("a b"), 1, &f), &type));
     WANT(is_made(colock_type_read(&type, COLOCK_ESCROW, TEXT(FIVE), &f), &type));
@@ -44,6 +49,8 @@ static void these_are_not(void) {
     is_refused(colock_type_set(&type, COLOCK_ESCROW, TEXT("a"), &f), &f, COLOCK_NOT_NUMERIC, 0, 1);
     is_refused(colock_type_set(&type, COLOCK_ESCROW, TEXT("a b c"), &f), &f, COLOCK_NOT_NUMERIC, 0, 1);
     is_refused(colock_type_semiqueue(&type, COLOCK_ESCROW, TEXT("a b"), 2, &f), &f, COLOCK_NOT_NUMERIC, 0, 2);
+    is_refused(colock_type_queue(&type, COLOCK_ESCROW, TEXT("a b"), 2, &f), &f, COLOCK_NOT_NUMERIC, 0, 1);
+    is_refused(colock_type_seats(&type, COLOCK_ESCROW, 2, &f), &f, COLOCK_NOT_NUMERIC, 0, 1);
     is_refused(colock_type_read(&type, COLOCK_ESCROW, TEXT(gap), &f), &f, COLOCK_NOT_NUMERIC, 1, 1);
     is_refused(colock_type_tables(&type, COLOCK_ESCROW, TEXT(gap), &f), &f, COLOCK_NOT_NUMERIC, 1, 1);
     is_refused(colock_type_read(&type, COLOCK_UNDO, TEXT(FIVE), &f), &f, COLOCK_INITIAL_OUTSIDE, 0, 0);
@@ -73,7 +80,7 @@ static void a_type_has_no_conflicts(void) {
 
 /* ---- objects */
 
-/* A store of one number of the type of FIVE, with so many open transactions. */
+/* A store of one number of the type of FIVE, with this many open transactions. */
 static void open_five(colock_handle *store, uint64_t transactions) {
     colock_handle type = COLOCK_HANDLE;
     colock_fault fault;

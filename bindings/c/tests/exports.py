@@ -132,7 +132,7 @@ def exported():
     }
 
 
-# ---- what is told of it
+# ---- what is said of it
 
 def header_parameter(text):
     kinds = {"uint8_t": "u8", "uint32_t": "u32", "uint64_t": "u64", "size_t": "usize", "char": "u8"}
@@ -160,7 +160,7 @@ def output_of(files, words):
 
 
 def fields_told(text):
-    """The structs as lines `STRUCT FIELD OFFSET SIZE` and `STRUCT SIZE` tell them."""
+    """The structs as lines `STRUCT FIELD OFFSET SIZE` and `STRUCT SIZE` say them."""
     structs, fields = {name: (None, []) for name in STRUCTS}, {name: [] for name in STRUCTS}
     for words in map(str.split, text.splitlines()):
         if len(words) == 2:
@@ -238,9 +238,9 @@ def of_rust(text, types, errors):
 
 
 def python_parameter(kind, module):
-    """A parameter as it goes over. Python doesn't tell what is const."""
+    """A parameter as it goes over. Python doesn't say what is const."""
     names = {ctypes.c_uint8: "u8", ctypes.c_uint32: "u32", ctypes.c_uint64: "u64", ctypes.c_size_t: "usize", ctypes.c_char_p: "u8*"}
-    # c_size_t is c_uint64 here, so that counts are told by their place
+    # c_size_t is c_uint64 here, so that a count is known by its place
     if kind in names:
         return names[kind]
     return {getattr(module, name.capitalize()): name for name in STRUCTS}.get(kind._type_, names.get(kind._type_)) + "*"
@@ -279,7 +279,7 @@ def unequal(who, what, told, wanted):
 
 
 def for_python(wanted):
-    """The library as Python tells it."""
+    """The library as Python declares it."""
     plain = {name: [kind.replace("const ", "").replace("usize", "u64") for kind in kinds] for name, kinds in wanted["calls"].items()}
     raised = {name: n for name, n in wanted["codes"].items()}
     for name in ("OK", "IN_USE", "BAD_TEXT", "REFUSED", "BAD_KIND", "NOT_FRESH", "NOT_LEGAL", "NO_ROOM"):
@@ -293,7 +293,7 @@ def names_of(words):
 
 
 def differences(texts, wanted):
-    """How what the texts tell differs from the library."""
+    """How the texts differ from the library."""
     told = {"the header": of_header(texts["header"]), "Rust": of_rust(texts["rust"], texts["rust types"], texts["rust errors"])}
     python = of_python(texts["python"], texts["types"], texts["errors"])
     python["calls"] = {name: [kind.replace("usize", "u64") for kind in kinds] for name, kinds in python["calls"].items()}

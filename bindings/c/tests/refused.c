@@ -82,7 +82,7 @@ static void use(colock_handle *store, uint64_t transactions) {
 }
 
 /* The events of the one are those of the run in which nothing was refused, so a refusal has changed nothing.
- * They are made again at the other, in as many steps as memory wants. */
+ * They are made again at the other, in as many steps as memory allows. */
 static void follow(colock_handle *store, colock_handle *other) {
     static colock_event room[100000], first[100000];
     static uint64_t first_count = 0;
@@ -132,7 +132,7 @@ int main(int argc, char **argv) {
         WANT(refusals <= 1);
     }
     for (int line = 0; line < 400; line++) met += is_met[line];
-    WANT(met == 16); /* each call that may want memory, and no other */
+    WANT(met == 16); /* each call that may take memory, and no other */
     printf("%ld allocations, each refused in turn, at %ld calls: one code, the same call is done then, no leak\n", n, met);
     return 0;
 }

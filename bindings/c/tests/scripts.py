@@ -13,9 +13,9 @@ import sys
 import tempfile
 
 EXAMPLES = os.path.join(os.path.dirname(os.path.abspath(__file__)), "..", "..", "..", "examples")
-TYPES = [os.path.join(EXAMPLES, name + ".type") for name in ("ctr2", "stock", "credit", "seats", "pool")]
+TYPES = [os.path.join(EXAMPLES, name + ".type") for name in ("ctr2", "tickets", "credit", "places", "pool", "stock", "seats", "queue")]
 # families, by the words of `colock make`
-FAMILIES = ["counter 9 1 3", "counter 30 1 2 5", "account 6 1 4", "set 0 a", "semiqueue 4 a", "semiqueue 1 a b"]
+FAMILIES = ["counter 9 1 3", "counter 30 1 2 5", "account 6 1 4", "set 0 a", "semiqueue 4 a", "semiqueue 1 a b", "stock 9 1 3", "queue 3 a b", "seats 2"]
 
 
 def made_types(program, folder):

@@ -9,7 +9,7 @@
 #include <stdlib.h>
 #include <string.h>
 
-/* Ends the test where what is wanted isn't so. */
+/* Ends the test where what is asked for isn't so. */
 #define WANT(e) \
     do { \
         if (!(e)) { \
@@ -36,7 +36,7 @@ static const char FIVE[] =
     "step 0 0 1\nstep 0 2 0\nstep 1 0 2\nstep 1 2 1\nstep 2 0 3\nstep 2 1 0\nstep 3 0 4\nstep 3 1 1\nstep 4 0 5\n"
     "step 4 1 2\nstep 5 1 3\nreach 0\nequi 0 1\nconflict undo 0 0\nend\n";
 
-/* A store of so many objects of the type of CTR2, updated in place. */
+/* A store of this many objects of the type of CTR2, updated in place. */
 static inline void open_counters(colock_handle *store, int objects, uint64_t max_events) {
     colock_handle type = COLOCK_HANDLE;
     colock_fault fault;

@@ -24,7 +24,7 @@ A transaction in a `with` commits at its end, and aborts where an exception leav
     0
 
 A call may wait where another transaction is in its way. It sleeps until that one has ended or rolled back, goes
-behind older ones that wait at the object, and is told where it can't be: `TimedOut` at its limit, and `Deadlock`
+after older ones that wait at the object, and raises where it can't be: `TimedOut` at its limit, and `Deadlock`
 where transactions wait for each other, of which the youngest is aborted.
 
     >>> with store.begin() as transaction:
@@ -48,7 +48,7 @@ bounds whatever becomes of them; and what is kept is what is committed:
     >>> third.call(0, "dec:1"), shelf.kept(0)
     (Operation(number=1, reply='ok'), 3)
 
-`Store.open` has the same store in a file, behind a child process, where each commit is durable when it is told:
+`Store.open` has the same store in a file, behind a child process, where each commit is durable when it returns:
 
     with colock.Store.open("shop.db", [counter], create=True) as store:
         store.retry(lambda transaction: transaction.call(0, "inc:1", wait=2.0).executed())

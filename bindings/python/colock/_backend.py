@@ -13,7 +13,7 @@ from ._types import Type
 if TYPE_CHECKING:
     from ._transaction import Transaction
 
-# What is left to do, behind the lock, of what was begun under it.
+# What is left to do, once the lock is free, of what was begun under it.
 Finish = Optional[Callable[[], None]]
 
 
@@ -74,11 +74,11 @@ class Backend(ABC):
 
     @abstractmethod
     def commit(self, t: "Transaction") -> Finish:
-        """Commits it: for all others it has ended behind this."""
+        """Commits it: for all others it has ended after this."""
 
     @abstractmethod
     def abort(self, t: "Transaction") -> Finish:
-        """Aborts it: for all others it has ended behind this."""
+        """Aborts it: for all others it has ended after this."""
 
     @abstractmethod
     def call_number(self, x: int, name: str) -> int:
@@ -112,7 +112,7 @@ class Backend(ABC):
         """The process is a fork: the threads that held the lock aren't there."""
 
     def abort_all(self) -> int:
-        """Aborts each open transaction, and tells how many there were."""
+        """Aborts each open transaction, and returns how many there were."""
         raise InMemoryOnly(InMemoryOnly.__doc__)
 
     def forgotten_count(self) -> int:
@@ -120,7 +120,7 @@ class Backend(ABC):
         raise InMemoryOnly(InMemoryOnly.__doc__)
 
     def forget(self, events: int) -> None:
-        """Forgets the first so many events."""
+        """Forgets the first events, this many."""
         raise InMemoryOnly(InMemoryOnly.__doc__)
 
     def follow(self, events: Iterable[Event]) -> None:

@@ -1,4 +1,4 @@
-"""Between which states the operations of a numeric type are legal, and which of them may be in each other's way."""
+"""Between which states the operations of a numeric type are legal, and which of them may block one another."""
 from typing import Callable, Iterable, NamedTuple, Optional
 
 
@@ -14,7 +14,7 @@ class Bounds(NamedTuple):
         return self.low <= low and high <= self.high
 
     def is_legal_behind(self, other: "Bounds", low: int, high: int) -> bool:
-        """Whether it is legal behind another operation, from one number to another."""
+        """Whether it is legal after another operation, from one number to another."""
         return self.is_legal(low + other.moves, high + other.moves)
 
 
@@ -30,7 +30,7 @@ def _first_legal(states: Iterable[int], step: Callable[[int], Optional[int]]) ->
 
 
 def may_block(one: Optional[Bounds], other: Optional[Bounds]) -> bool:
-    """Whether there is a number at which both are legal, and one of them isn't behind the other."""
+    """Whether there is a number at which both are legal, and one of them isn't legal after the other."""
     if one is None or other is None:
         return False
     low, high = max(one.low, other.low), min(one.high, other.high)

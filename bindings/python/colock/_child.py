@@ -29,7 +29,7 @@ from ._types import Type
 if TYPE_CHECKING:
     from ._transaction import Transaction
 
-# So many events a request for events is answered at most.
+# A request for events is answered with at most this many.
 MOST_TOLD = 65_536
 MOST_EVENTS = 1 << 32
 REFUSALS: Dict[str, Class[ColockError]] = {
@@ -48,7 +48,7 @@ _ILLEGAL = Illegal()
 class Child(Backend):
     """Transactions behind a pipe. Requests are sent under the lock, so their order is that of the decisions here.
 
-    What waits for an answer gives the lock up; the ends of transactions are awaited behind the lock.
+    What waits for an answer gives the lock up; the ends of transactions are awaited without the lock.
     """
 
     def __init__(self, connection: Connection, life: int, types: Sequence[Type], archive: Optional[str]) -> None:
@@ -93,7 +93,7 @@ class Child(Backend):
         raise ConnectionLost(self._connection.lost or "")
 
     def _refuse(self, answer: bytes) -> NoReturn:
-        """Raises what an answer tells that isn't what was asked for."""
+        """Raises what an answer says that isn't what was asked for."""
         words = answer.decode("ascii", "replace").split(" ")
         kind = REFUSALS.get(words[1]) if words[0] == "refused" and len(words) == 2 else None
         if kind is None:
@@ -115,7 +115,7 @@ class Child(Backend):
         if life > self.life:
             self._end_life()
             self.life = life
-        # where another one has told of a later life meanwhile, this one has ended already
+        # where another answer was of a later life meanwhile, this one has ended already
         if life == self.life:
             self._open[number] = 0
         return life, number
@@ -146,7 +146,7 @@ class Child(Backend):
     def is_stale(self, t: "Transaction", blocker: int) -> bool:
         if t._ended or t._life != self.life or t._number not in self._open:
             return True
-        # an end or a rollback that was asked behind the call, while its answer was awaited
+        # an end or a rollback that was asked after the call, while its answer was awaited
         rolled_back = self._open.get(blocker)
         return rolled_back is None or rolled_back > self._answered
 
@@ -213,7 +213,7 @@ class Child(Backend):
         return lambda: self._finish(t, slot)
 
     def _send_end(self, t: "Transaction", verb: str) -> Slot:
-        """Asks for the end of a transaction. What is asked from now on is done behind it, so it counts as ended."""
+        """Asks for the end of a transaction. What is asked from now on is done after it, so it counts as ended."""
         self.check(t)
         slot = self._connection.send(f"{verb} {t._life}.{t._number}")
         t._ended = True
@@ -317,11 +317,11 @@ class Child(Backend):
         if life + 1 == self._first_life:
             return self._of_the_life_before(number)
         # An archived history is named by the last life of its epoch. Of an earlier life of the epoch it isn't certain:
-        # what was lost by a crash left its number to a later transaction. So only the file of this very life tells.
+        # what was lost by a crash left its number to a later transaction. So only the file of this very life says it.
         return outcome_in(archived(self._archive, life), number)
 
     def _of_this_life(self, number: int) -> Optional[bool]:
-        """By the events of this life: those behind what was found and aborted as the store was opened."""
+        """By the events of this life: those after what was found and aborted as the store was opened."""
         if self.life != self._first_life:
             return outcome_in(self._event_lines(0), number)
         return None if self._found is None else outcome_in(self._event_lines(sum(self._found)), number)
@@ -381,7 +381,7 @@ class Child(Backend):
 
 
 def _replies_of(of: Type) -> Dict[int, Dict[bytes, Reply]]:
-    """By the number of a call, and the answer: what is told of it."""
+    """By the number of a call, and the answer: what is said of it."""
     replies: Dict[int, Dict[bytes, Reply]] = {c: {b"none": _ILLEGAL} for c in of._calls.values()}
     for k, operation in enumerate(of.operations):
         replies[of._calls[operation.call]][b"reply " + operation.reply.encode("ascii")] = Operation(k, operation.reply)

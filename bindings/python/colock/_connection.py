@@ -12,9 +12,9 @@ from ._errors import CannotOpen, ConnectionLost
 
 # A line of an answer is shorter by far: a name has at most 32 bytes.
 LONGEST_LINE = 4096
-# So long a program may take to end that has closed its output, or was killed.
+# How long a program may take to end that has closed its output, or was killed.
 SECONDS_TO_END = 1.0
-# So much of what the program said is read.
+# How much of what the program said is read.
 MOST_SAID = 65_536
 FOUND = re.compile(rb": ([0-9]+) events, ([0-9]+) aborted, [0-9]+ ms$", re.MULTILINE)
 
@@ -31,13 +31,13 @@ class Slot:
     def __init__(self, number: int, start: bytes, is_list: bool) -> None:
         self.number, self._start, self.is_list = number, start, is_list
         self.lines: List[bytes] = []
-        # what is behind the tag of its last line; none where the connection was lost
+        # what comes after the tag of its last line; none where the connection was lost
         self.answer: Optional[bytes] = None
         self._bell = threading.Lock()
         self._bell.acquire()
 
     def take(self, line: bytes) -> bool:
-        """Takes a line, and tells whether the answer is whole. Raises `NoAnswer`."""
+        """Takes a line, and returns whether the answer is whole. Raises `NoAnswer`."""
         if not line.startswith(self._start):
             raise NoAnswer(f"the answer {line[:80]!r} came, and not one behind {self._start!r}")
         rest = line[len(self._start) :]
@@ -53,7 +53,7 @@ class Slot:
         self._bell.release()
 
     def wait(self, seconds: float) -> bool:
-        """Waits for the answer, and tells whether it is there, or known not to come."""
+        """Waits for the answer, and returns whether it is there, or known not to come."""
         return self._bell.acquire(timeout=min(max(seconds, 0.0), threading.TIMEOUT_MAX))
 
 
@@ -109,7 +109,7 @@ class Connection:
             # a pipe takes a line of this length whole or not at all
             os.write(self._to, f"{tag} {words}\n".encode("ascii"))
         except OSError as error:
-            # where it has ended the reader tells why, with what it said
+            # where it has ended the reader says why, with what it said
             self._reader.join(2 * SECONDS_TO_END)
             self.lose(f"the program takes no requests: {error}")
             raise ConnectionLost(self.lost or "") from error
@@ -124,7 +124,7 @@ class Connection:
         return slot.answer
 
     def lose(self, words: str) -> None:
-        """The connection is lost: the process is killed, and whoever waits is told. A second time does nothing."""
+        """The connection is lost: the process is killed, and whoever waits is woken. A second time does nothing."""
         with self._losing:
             if self.lost is not None:
                 return
@@ -223,7 +223,7 @@ class Connection:
         return b"\n".join(lines).decode("utf-8", "replace").strip()
 
     def found(self) -> Optional[Tuple[int, int]]:
-        """How many events the file had, and how many aborts were added; None where it isn't told."""
+        """How many events the file had, and how many aborts were added; None where it isn't said."""
         found = FOUND.search(self._all_said())
         return (int(found[1]), int(found[2])) if found else None
 
@@ -265,7 +265,7 @@ class Connection:
 
 
 def _nothing() -> None:
-    """Nobody is told of a loss."""
+    """A loss wakes nobody."""
 
 
 def _ends(process: "subprocess.Popen[bytes]") -> Tuple[int, int]:

@@ -79,7 +79,7 @@ class WasIllegal(ColockError):
 
 
 class ConnectionLost(ColockError):
-    """The program that serves the store is gone, or didn't answer as it has to: `words` tell what was seen.
+    """The program that serves the store is gone, or didn't answer as it has to: `words` say what was seen.
 
     The store isn't to be used any more, but for `close`. What was committed is in its file.
     """
@@ -92,7 +92,7 @@ class ConnectionLost(ColockError):
 class OutcomeUnknown(ColockError):
     """A commit was in flight when the program was lost: it may be durable or not.
 
-    `id` names the transaction: `Store.committed` of a later opening tells what became of it.
+    `id` names the transaction: `Store.committed` of a later opening says what became of it.
     """
 
     def __init__(self, id: str) -> None:
@@ -104,7 +104,7 @@ class OutcomeUnknown(ColockError):
 
 
 class CannotOpen(ColockError):
-    """A store in a file wasn't opened: `words` tell what the program said, or why it wasn't started."""
+    """A store in a file wasn't opened: `words` say what the program said, or why it wasn't started."""
 
     def __init__(self, words: str) -> None:
         super().__init__(words)

@@ -1,4 +1,4 @@
-"""Who waits for whom at a store, and who has to go behind whom.
+"""Who waits for whom at a store, and who has to go after whom.
 
 Everything here is used under the lock of the store, but for `Graph.ring_all`, and for the sleep itself.
 """
@@ -25,7 +25,7 @@ class Bell:
             pass  # it was rung before, and nobody has slept since
 
     def sleep(self, seconds: float) -> bool:
-        """Sleeps until it is rung, or so long. Whether it was rung."""
+        """Sleeps until it is rung, or this long. Whether it was rung."""
         return self._lock.acquire(timeout=min(max(seconds, 0.0), threading.TIMEOUT_MAX))
 
 
@@ -36,7 +36,7 @@ class Sleeper:
 
     def __init__(self, number: int, age: int, object: int, call: int) -> None:
         self.number, self.age, self.object, self.call = number, age, object, call
-        # its edge: whom it was last told to wait for, and whether the gate told so; none while it looks anew
+        # its edge: for whom it waits by the last look, and whether the gate said so; none while it looks anew
         self.blocker: Optional[int] = None
         self.by_gate = False
         self.is_victim = False
@@ -71,7 +71,7 @@ class Graph:
         self._gates.setdefault(sleeper.object, {})[sleeper.number] = sleeper
 
     def leave(self, sleeper: Sleeper) -> None:
-        """A call waits no more, and those that were behind it look anew. A second time does nothing."""
+        """A call waits no more, and those that came after it look anew. A second time does nothing."""
         if self.sleepers.get(sleeper.number) is not sleeper:
             return
         self._take_out(sleeper)
@@ -87,7 +87,7 @@ class Graph:
             del self._gates[sleeper.object]
 
     def ahead(self, number: int, age: int, object: int, call: int) -> Optional[int]:
-        """The number of the oldest sleeper at an object behind which a call has to go, or None.
+        """The number of the oldest sleeper at an object after which a call has to go, or None.
 
         That is an older one whom the call would block, and who doesn't wait for this transaction.
         """

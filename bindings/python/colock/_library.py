@@ -4,7 +4,7 @@ import operator
 import os
 from typing import Any, Callable, Dict
 
-# The version of these calls, which the library has to tell too.
+# The version of these calls, which the library has to have too.
 VERSION = 1
 
 OK = 0
@@ -66,8 +66,11 @@ SIGNATURES: Dict[str, Any] = {
     "type_tables": (_H, _32, _TEXT, _SIZE, _P(Fault)),
     "type_account": (_H, _32, _64, _P(_64), _SIZE, _P(Fault)),
     "type_counter": (_H, _32, _64, _P(_64), _SIZE, _P(Fault)),
+    "type_stock": (_H, _32, _64, _P(_64), _SIZE, _P(Fault)),
     "type_set": (_H, _32, _TEXT, _SIZE, _P(Fault)),
     "type_semiqueue": (_H, _32, _TEXT, _SIZE, _64, _P(Fault)),
+    "type_queue": (_H, _32, _TEXT, _SIZE, _64, _P(Fault)),
+    "type_seats": (_H, _32, _64, _P(Fault)),
     "type_shape": (_H, _P(Shape)),
     "type_name": (_H, _TEXT, _SIZE, _P(_64)),
     "type_call": (_H, _64, _TEXT, _SIZE, _P(_64)),

@@ -15,7 +15,7 @@ from ._types import Kind, Type
 PROGRAM = "colock"
 # The version of what is spoken.
 VERSION = b"1"
-# A process can be waited for no longer than so many seconds.
+# A process can be waited for at most this many seconds.
 LONGEST_WAIT = 86_400.0
 GREETING = re.compile(rb"colock ([^ ]+) (0|[1-9][0-9]{0,9})")
 OBJECT = re.compile(rb"object (undo|intentions|escrow) ([0-9]{1,3})")
@@ -134,11 +134,11 @@ def _create(program: str, opening: Opening) -> None:
 
 
 def _write_type(program: str, folder: str, place: int, of: Type, limit: float) -> str:
-    """Writes the text of a type into a file, and tells its path."""
+    """Writes the text of a type into a file, and returns its path."""
     path, source = os.path.join(folder, f"{place}.type"), of._source
     text = source.text
     if source.words:
-        # behind the hyphens a name may begin with one
+        # after the hyphens a name may begin with one
         text = _told(program, ["make", "--", *source.words], limit)
     elif source.has_made_tables:
         _write(path, text)
@@ -198,7 +198,7 @@ def _listed(connection: Connection, verb: str) -> List[bytes]:
 
 
 def _types(objects: Sequence[bytes], lines: Sequence[bytes]) -> List[Type]:
-    """The type of each object, made of the texts that the program told."""
+    """The type of each object, made of the texts that the program gave."""
     texts = b"\n".join(lines).split(b"\n\n")
     made: Dict[Tuple[bytes, bytes], Type] = {}
     types: List[Type] = []

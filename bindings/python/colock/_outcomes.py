@@ -17,7 +17,7 @@ def read_id(id: str) -> Tuple[int, int]:
 
 
 def outcome_among(events: Iterable[Event], number: int) -> Optional[bool]:
-    """Whether a transaction was committed, True, or aborted, False; None where no event tells."""
+    """Whether a transaction was committed, True, or aborted, False; None where no event says."""
     return next((ENDS[event.kind] for event in events if event.transaction == number and event.kind in ENDS), None)
 
 

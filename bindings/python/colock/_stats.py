@@ -13,7 +13,7 @@ class Stats(NamedTuple):
     waits: int
     """How many sleeps there were."""
     waited: float
-    """So many seconds they slept in all."""
+    """How many seconds they slept in all."""
     deadlocks: int
     """How many victims there were."""
     timeouts: int

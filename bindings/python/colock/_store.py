@@ -23,11 +23,11 @@ from ._waiting import Waiting, finished
 T = TypeVar("T")
 Path = Union[str, "os.PathLike[str]"]
 
-# So long a victim waits for the end of whom it waited for, before it is tried again.
+# How long a victim waits for the end of whom it waited for, before it is tried again.
 SECONDS_FOR_BLOCKER = 10.0
-# So long a try waits at most for its next one.
+# How long a try waits at most for its next one.
 LONGEST_BACKOFF = 1.0
-# So long it is waited for the next epoch, each time.
+# How long it waits for the next epoch, each time.
 SECONDS_OF_DRAIN = 0.01
 
 
@@ -100,7 +100,7 @@ class Store:
     # ---- transactions
 
     def begin(self, worker: int = 0) -> Transaction:
-        """Begins a transaction, as a worker, which is a number below 256 that its events tell.
+        """Begins a transaction, as a worker, which is a number below 256 that its events have.
 
         It is open until it commits or aborts, or the store is closed. In a file, where an epoch is full, it waits
         for the next one. Raises `TooManyOpen`, `HistoryFull`, `NoMemory` or `Closed`; of a store in a file
@@ -157,7 +157,7 @@ class Store:
         return self._run(self._begun(who, age) or self._begun_later(who, age), f)
 
     def _run(self, t: Transaction, f: Callable[[Transaction], T]) -> T:
-        """A try: the transaction has ended behind it."""
+        """A try: the transaction has ended after it."""
         try:
             value = f(t)
             t._commit_at_end()
@@ -167,7 +167,7 @@ class Store:
             raise
 
     def _pause(self, t: Transaction, reason: Exception, behind: int, backoff: float) -> None:
-        """What lies between two tries, of which so many are over."""
+        """What comes between two tries, when this many are over."""
         if isinstance(reason, Deadlock):
             # a victim that began at once would take again what it gave up, before the other one wakes
             self._waiting.await_end(t._life, reason.blocker, SECONDS_FOR_BLOCKER)
@@ -182,7 +182,7 @@ class Store:
     def transact(self, f: Callable[[Transaction], T], worker: int = 0) -> T:
         """Runs a function in a transaction, in one turn of the lock: no call of another thread comes between.
 
-        It is committed behind the function where that hasn't ended it, and the function's value is returned. Calls
+        It is committed after the function where that hasn't ended it, and the function's value is returned. Calls
         can't wait there. An exception of the function aborts it and is handed on. Raises what the function, `begin`
         and `commit` raise.
         """
@@ -199,7 +199,7 @@ class Store:
             time.sleep(SECONDS_OF_DRAIN)
 
     def _turn(self, f: Callable[[Transaction], T], who: int, age: int) -> Optional[Tuple[T, Finish]]:
-        """A turn, under the lock: its value, and what is left to do behind it; None where no transaction begins now.
+        """A turn, under the lock: its value, and what is left to do after it; None where no transaction begins now.
 
         Each call in it takes the lock once more, so what gives that up for an answer keeps the lock of the turn.
         """
@@ -219,11 +219,11 @@ class Store:
             raise
 
     def committed(self, id: str) -> Optional[bool]:
-        """What became of the transaction of this id, `S.N`, as `Transaction.id` and `OutcomeUnknown` tell it.
+        """What became of the transaction of this id, `S.N`, as `Transaction.id` and `OutcomeUnknown` give it.
 
         True where it is committed, False where it never will be, and None where it is open, or where it isn't
-        certain any more: of a store in memory behind `renew` or `forget`, and of one in a file where neither the
-        events nor the archive tell. The life before this opening can always be told until an epoch ends, and then
+        certain any more: of a store in memory after `renew` or `forget`, and of one in a file where neither the
+        events nor the archive say. The life before this opening is always known until an epoch ends, and then
         by the archive. Raises `ValueError` where it isn't an id, and `Closed`, `ConnectionLost` or `OSError`.
         """
         life, number = read_id(id)
@@ -288,7 +288,7 @@ class Store:
             return self._backend.forgotten_count()
 
     def forget(self, events: int) -> None:
-        """Forgets the first so many of the events that are in memory, or all of them.
+        """Forgets the first events, this many of those that are in memory, or all of them.
 
         Raises `Closed` or `InMemoryOnly`.
         """

@@ -16,7 +16,7 @@ class Transaction:
     """A transaction. A `with` commits it, or aborts it where an exception leaves it.
 
     Where it ended in the `with` already, nothing more is done; but where a deadlock ended it and nothing was said of
-    that, `Deadlock` is raised behind the `with`, so that nobody takes it for committed. `Store.begin` makes it.
+    that, `Deadlock` is raised after the `with`, so that nobody takes it for committed. `Store.begin` makes it.
     """
 
     __slots__ = ("_store", "_life", "_worker", "_number", "_age", "_ended", "_deadlock", "__weakref__")
@@ -34,7 +34,7 @@ class Transaction:
 
     @property
     def id(self) -> str:
-        """Its life and its number, `S.N`, by which `Store.committed` tells what became of it.
+        """Its life and its number, `S.N`, by which `Store.committed` says what became of it.
 
         Of a store in memory the life is how often it was renewed.
         """
@@ -45,7 +45,7 @@ class Transaction:
 
         With `wait`, 0 or more seconds, it waits where another transaction is in the way, and isn't answered `Busy`.
         It wakes where that one has ended or rolled back, and tries again, until it is executed or illegal. It goes
-        behind an older transaction that waits at the object and that it would hold up; without `wait` it is then
+        after an older transaction that waits at the object and that it would hold up; without `wait` it is then
         answered `Busy`, too.
 
         Raises `NotOpen`, `NoObject`, `NoCall`, `HistoryFull`, `NoMemory` or `Closed`; of a store in a file
@@ -68,7 +68,7 @@ class Transaction:
         return store._waiting.call(self, x, call, wait)
 
     def call_op(self, object: int, call: int, wait: Optional[float] = None) -> Reply:
-        """Calls the call of this number, which `Store.call_number` tells once. As `call`."""
+        """Calls the call of this number, for which `Store.call_number` is asked once. As `call`."""
         x, c, store = unsigned("the object", object, 32), unsigned("the call", call, 8), self._store
         if wait is not None and self._is_call(x, c):
             return store._waiting.call(self, x, c, wait)
@@ -119,7 +119,7 @@ class Transaction:
         finished(finish)
 
     def commit(self) -> None:
-        """Commits it. Of a store in a file it is durable behind this.
+        """Commits it. Of a store in a file it is durable after this.
 
         Raises `NotOpen` or `Closed`; of a store in a file `EpochEnded`, `ConnectionLost` where it can't be
         committed, or `OutcomeUnknown` where the program was lost before it answered.
@@ -138,7 +138,7 @@ class Transaction:
         finished(finish)
 
     def _abort_quietly(self) -> None:
-        """Aborts it where it is open, at an exception that tells more than that it isn't."""
+        """Aborts it where it is open, at an exception that says more than that it isn't."""
         if self._ended:
             return
         try:

@@ -20,10 +20,11 @@ class Kind(enum.IntEnum):
     INTENTIONS = 1
     """Each transaction keeps its operations by itself until it commits."""
     ESCROW = 2
-    """The same of a number: what has to wait is told by how far others may move it, and by no conflict table.
+    """The same of a number: how far others may move it says what has to wait, and no conflict table does.
 
     A type has to be numeric: each operation is legal from a lowest to a highest state, and moves all of these as far.
-    A counter and an account are, a set isn't, and a semiqueue is where it has one element, or a capacity of 1.
+    A counter, a stock and an account are, a set isn't, a semiqueue and a queue are where they have one element, or a
+    capacity of 1, and seats are where there is one.
     """
 
 
@@ -90,7 +91,7 @@ class Type:
     ) -> "Type":
         """The type of a function, whose conflicts are found out.
 
-        `operations` are 1 to 64 pairs of a call and a reply, and `step` tells the state to which a pair leads from
+        `operations` are 1 to 64 pairs of a call and a reply, and `step` gives the state to which a pair leads from
         a state, or None where it isn't legal. States are hashable, and equal ones are one. They are found from
         `initial` on and numbered as they are found, 1 to 1,024; for `Kind.ESCROW` in ascending order, so that a number
         may begin in the middle. `labels` has them by their numbers. Names are 1 to 32 of `a` to `z`, `0` to `9`, `_`,
@@ -117,6 +118,14 @@ class Type:
         return cls._of_amounts("counter", cap, list(amounts), kind)
 
     @classmethod
+    def stock(cls, cap: int, amounts: Iterable[int], kind: Kind = Kind.UNDO) -> "Type":
+        """A stock of 0 to `cap`: `give:A` and `take:A` for each amount A, whose refusals, `full` and `short`, are replies.
+
+        As `account`.
+        """
+        return cls._of_amounts("stock", cap, list(amounts), kind)
+
+    @classmethod
     def set(cls, elements: Iterable[str], kind: Kind = Kind.UNDO) -> "Type":
         """A set: `insert:E`, `delete:E` and `member:E` for each element E, which are names. As `account`."""
         names = list(elements)
@@ -129,9 +138,31 @@ class Type:
 
         As `account`.
         """
-        names = list(elements)
+        return cls._of_elements("semiqueue", list(elements), capacity, kind)
+
+    @classmethod
+    def queue(cls, elements: Iterable[str], capacity: int, kind: Kind = Kind.UNDO) -> "Type":
+        """A queue of at most `capacity` items: `enq:E` for each element E, and `deq`, whose reply is the item that is
+        longest there.
+
+        As `account`.
+        """
+        return cls._of_elements("queue", list(elements), capacity, kind)
+
+    @classmethod
+    def seats(cls, count: int, kind: Kind = Kind.UNDO) -> "Type":
+        """1 to 6 seats, each free, held or booked: `hold:I`, `release:I`, `book:I` and `cancel:I` for each I from 1 to
+        `count`, and `free`, whose reply is how many are free.
+
+        As `account`.
+        """
+        most = unsigned("the seats", count, 64)
+        return cls._made(_family("seats", most, []), "type_seats", kind, most)
+
+    @classmethod
+    def _of_elements(cls, family: str, names: List[str], capacity: int, kind: Kind) -> "Type":
         content, most = _spaced(names), unsigned("the capacity", capacity, 64)
-        return cls._made(_family("semiqueue", most, names), "type_semiqueue", kind, content, len(content), most)
+        return cls._made(_family(family, most, names), "type_" + family, kind, content, len(content), most)
 
     @classmethod
     def _of_amounts(cls, family: str, cap: int, amounts: List[int], kind: Kind) -> "Type":

@@ -29,7 +29,7 @@ class Waiting:
     # ---- calls that don't wait, where somebody sleeps
 
     def call_now(self, t: "Transaction", x: int, call: int) -> Reply:
-        """A call behind the gate, under the lock."""
+        """A call that has passed the gate, under the lock."""
         self._backend.check(t)
         ahead = self._graph.ahead(t._number, t._age, x, call)
         return self._backend.call_op(t, x, call) if ahead is None else Busy(ahead)
@@ -43,7 +43,7 @@ class Waiting:
     # ---- calls that wait
 
     def call(self, t: "Transaction", x: int, call: int, wait: float) -> Reply:
-        """A call that waits so many seconds at most. The lock isn't held.
+        """A call that waits this many seconds at most. The lock isn't held.
 
         After each sleep all is looked at anew: the gate, whether the call would be free, and then the call itself.
         """
@@ -115,7 +115,7 @@ class Waiting:
         self._backend.check(t)
 
     def _sleep(self, sleeper: Sleeper, deadline: float) -> float:
-        """Sleeps outside the lock, and tells how long."""
+        """Sleeps outside the lock, and returns how long."""
         start = time.monotonic()
         sleeper.bell.sleep(deadline - start)
         return time.monotonic() - start
@@ -141,7 +141,7 @@ class Waiting:
     # ---- waiting for an end
 
     def await_end(self, life: int, number: int, seconds: float) -> None:
-        """Waits until a transaction has ended, so many seconds at most. The lock isn't held."""
+        """Waits until a transaction has ended, this many seconds at most. The lock isn't held."""
         with self._backend.lock:
             if not self._backend.is_open(life, number):
                 return

@@ -1,7 +1,7 @@
 #!/usr/bin/env python3
 """clients_bench.py [SECONDS]: how many transactions a second threads do. Lines `name value`, a value a second.
 
-Each part runs so many seconds (2). Without the program the parts over a child are left out.
+Each part runs this many seconds (2). Without the program the parts over a child are left out.
 """
 import os
 import sys
@@ -33,7 +33,7 @@ end
 
 
 def measured(seconds, work):
-    """How often a second the threads do something, of which `work` is told its number."""
+    """How often a second the threads do something, of which `work` gets the number."""
     over, counts = threading.Event(), [0] * THREADS
 
     def run(worker):

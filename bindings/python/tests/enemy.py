@@ -74,7 +74,7 @@ def types_of(seed):
 # ---- what the threads do
 
 class Work:
-    """Threads at a store, what they were told, and how often anything moved."""
+    """Threads at a store, what they were answered, and how often anything moved."""
 
     def __init__(self, store, transactions, seed, is_child):
         self.store, self.seed, self.is_child = store, seed, is_child
@@ -98,7 +98,7 @@ class Work:
             while self.next() and not self.wrong:
                 source.choice(POLICIES)(Turn(self, source, worker))
                 self.moves[worker] += 1
-        except BaseException as error:  # told by the watch
+        except BaseException as error:  # said by the watch
             self.wrong.append(f"thread {worker}: {error!r}")
             raise
 
@@ -136,7 +136,7 @@ class Turn:
         return self.store.begin(self.said_worker)
 
     def wait(self):
-        """How long a call waits: not at all, or up to so many seconds."""
+        """How long a call waits: not at all, or up to this many seconds."""
         return self.source.choice([None, 0, 0.0005, 0.005, 0.05, 30])
 
     def call(self, t, wait):
@@ -162,7 +162,7 @@ class Turn:
             del self.told[len(self.told) - count :]
 
     def some(self, t, wait=None, must=False):
-        """Some calls and rollbacks. Each `wait` is drawn where none is told."""
+        """Some calls and rollbacks. Each `wait` is drawn where none is given."""
         self.told = []
         for _ in range(self.source.randint(1, 4)):
             reply = self.call(t, wait if wait is not None else self.wait())
@@ -306,7 +306,7 @@ def found(events):
 
 
 def check(work, events):
-    """Compares what was told with the history. Raises `Stuck`."""
+    """Compares what was answered with the history. Raises `Stuck`."""
     told = {int(id.split(".")[1]): done for id, done in work.committed.items()}
     there = found(events)
     if told != there:

@@ -66,7 +66,7 @@ def program():
 
 
 def folder_of(test):
-    """A folder that lives as long as a test."""
+    """A folder that is there as long as a test."""
     folder = tempfile.TemporaryDirectory(prefix="colock-test-")
     test.addCleanup(folder.cleanup)
     return folder.name
@@ -106,7 +106,7 @@ class Run(threading.Thread):
     def run(self):
         try:
             self.value = self.act(*self.arguments)
-        except BaseException as error:  # told by `result`
+        except BaseException as error:  # raised by `result`
             self.error = error
 
     def result(self, seconds=SOON):
@@ -129,7 +129,7 @@ def until(holds, what="it", seconds=SOON):
 
 
 def asleep(store, count):
-    """Waits until so many sleeps have begun at a store, or calls were told Busy."""
+    """Waits until this many sleeps have begun at a store, or calls were answered Busy."""
     until(lambda: sum(store.stats().busy) >= count, f"sleep {count}")
 
 

@@ -15,7 +15,7 @@ import colock
 from colock import Kind, Operation, Store, Type
 
 COUNTER = Type.counter(1000, [1])
-# So many seconds an answer may take, where a test wants that it doesn't come: a program has to start in less.
+# This many seconds an answer may take, where a test has none come: a program has to start in less.
 LIMIT = 2.0
 
 
@@ -254,7 +254,7 @@ class Outcomes(Files):
             self.assertEqual(([store.committed(id) for id in ids], store.kept(0)), ([True, True], 2))
 
     def work(self, store, told, unknown):
-        """Commits until the program is gone; the ids of what was told, and of what isn't known."""
+        """Commits until the program is gone; the ids of what was answered, and of what isn't known."""
         try:
             while True:
                 with store.begin() as t:

@@ -96,13 +96,25 @@ class Types(unittest.TestCase):
             lambda: Type.set([]),
             lambda: Type.semiqueue(["a"], 0),
             lambda: Type.semiqueue(["a"], (1 << 64) - 1),
+            lambda: Type.stock(5, [2, 1]),
+            lambda: Type.stock(1 << 40, [1]),
+            lambda: Type.queue(["a", "a"], 2),
+            lambda: Type.queue(["a"], (1 << 64) - 1),
+            lambda: Type.seats(0),
+            lambda: Type.seats((1 << 64) - 1),
         ]:
             self.assertRaises(colock.BadParameter, make)
         self.assertRaises(colock.TooLarge, Type.account, 1000, [1])
         self.assertRaises(colock.TooLarge, Type.counter, 1023, range(1, 41))
         self.assertRaises(colock.TooLarge, Type.semiqueue, ["a", "b", "c"], 100)
+        self.assertRaises(colock.TooLarge, Type.stock, 1023, range(1, 41))
+        self.assertRaises(colock.TooLarge, Type.queue, ["a", "b"], 10)
+        self.assertRaises(colock.TooLarge, Type.seats, 7)
         self.assertEqual(Type.set(["mon", "tue"]).operations[0], ("insert:mon", "ok"))
         self.assertEqual(Type.semiqueue(["a"], 2, Kind.INTENTIONS).kind, Kind.INTENTIONS)
+        self.assertEqual(Type.stock(1000, [1, 10]).operations[3], ("take:1", "short"))
+        self.assertEqual((Type.queue(["a", "b"], 2).states, Type.queue(["a", "b"], 2).operations[3]), (7, ("deq", "b")))
+        self.assertEqual((Type.seats(3).states, Type.seats(3).operations[1]), (27, ("hold:1", "taken")))
 
     def test_what_is_read(self):
         account = Type.account(5, [1, 2], Kind.INTENTIONS)

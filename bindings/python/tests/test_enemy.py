@@ -22,7 +22,7 @@ class Enemy(unittest.TestCase):
         self.assertGreater(waits, 10)
 
     def test_a_history_that_differs(self):
-        """The comparison sees a transaction that was told otherwise."""
+        """The comparison sees a transaction that was answered otherwise."""
         event = enemy.colock.Event
         kind = enemy.EventKind
         events = [event(kind.BEGIN, 0, 0), event(kind.OP, 0, 0, 1, 2), event(kind.OP, 0, 0, 1, 3), event(kind.ROLLBACK, 0, 0, 0, 0, 1), event(kind.COMMIT, 0, 0)]

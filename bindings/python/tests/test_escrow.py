@@ -18,7 +18,7 @@ class Numbers:
     """Calls."""
 
     def number(self, transactions):
-        """A store of the number of FIVE, which is 3, with so many open transactions."""
+        """A store of the number of FIVE, which is 3, with this many open transactions."""
         store = self.make([Type(FIVE, Kind.ESCROW)])
         return (store, *(store.begin() for _ in range(transactions)))
 
@@ -58,7 +58,7 @@ class Numbers:
         self.assertEqual((self.told(t, "give:1"), self.told(t, "take:2"), self.told(u, "take:2")), (GIVE, TAKE, TAKE))
         self.assertEqual(self.told(v, "take:2"), Busy(t.number))
         t.rollback(1)
-        # of t there is a give alone, which is in no take's way
+        # of t there is a give alone, which blocks no take
         self.assertEqual((self.told(v, "take:2"), self.told(t, "take:2")), (Busy(u.number), TAKE))
         t.commit()
         self.assertEqual(store.kept(0), 2)
@@ -109,7 +109,7 @@ class Waits:
     """Calls that wait."""
 
     def counter(self, pieces, objects=1):
-        """A store of counters up to 5 in escrow, with so many pieces each."""
+        """A store of counters up to 5 in escrow, with this many pieces each."""
         store = self.make([Type.counter(5, [1], Kind.ESCROW)] * objects)
         with store.begin() as t:
             for x in range(objects):
@@ -145,7 +145,7 @@ class Waits:
         self.assertEqual([t.call(0, "dec:1") for _ in range(2)], [DOWN, DOWN])
         waiting = Run(w.call, 0, "dec:1", LONG)
         asleep(store, 1)
-        # a take goes behind the one that waits; a give is in no take's way
+        # a take goes after the one that waits; a give blocks no take
         self.assertEqual((u.call(0, "dec:1"), u.would(0, "dec:1"), u.call(0, "inc:1")), (Busy(w.number), Busy(w.number), UP))
         behind = Run(u.call, 0, "dec:1", LONG)
         asleep(store, 3)
@@ -211,7 +211,7 @@ class Pair:
         self.begun, self.names = {}, sorted(of._calls)
 
     def act(self):
-        """Does something that is drawn, and tells what came of a call."""
+        """Does something that is drawn, and returns what came of a call."""
         draw = self.source.random()
         if len(self.begun) < 3 and (draw < 0.2 or not self.begun):
             t = self.store.begin()

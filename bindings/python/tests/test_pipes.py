@@ -7,7 +7,7 @@ from support import LONG, SOON, Run, Timed, asleep, is_running, pid_of, until
 import colock
 from colock import Busy, Operation
 
-# So many seconds an answer may take, where a test wants that it doesn't come: a program has to start in less.
+# This many seconds an answer may take, where a test has none come: a program has to start in less.
 LIMIT = 3
 
 
@@ -58,7 +58,7 @@ class Pipes(support.Fakes):
                 self.open(body)
 
     def lost(self, answer, act=lambda store: store.begin(), limit=SOON):
-        """What a store tells whose program answers so."""
+        """What a store says whose program answers so."""
         store = self.open(f"for tag, words in opened():\n    {answer}", limit)
         with Timed() as timed:
             with self.assertRaises(colock.ConnectionLost) as raised:

@@ -69,7 +69,7 @@ class Retries:
         def f(t):
             tried.append(t)
             if len(tried) == 1:
-                # it begins behind t, and before the second try
+                # it begins after t, and before the second try
                 others.append(store.begin())
                 others[0].call(1, "take")
                 raise colock.WasBusy(0)

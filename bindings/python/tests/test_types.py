@@ -29,7 +29,7 @@ class FromSteps(unittest.TestCase):
             made, family = Type.from_steps("counter", 0, UP_AND_DOWN, counted(5), kind), Type.counter(5, [1], kind)
             self.assertEqual((made.operations, made.states, made.initial, made.kind), (family.operations, 6, 0, kind))
             self.assertEqual(matrix(made), matrix(family))
-            # by reasoning: in place an up and a down don't commute at the ends; deferred, two ups may want one place
+            # by reasoning: in place an up and a down don't commute at the ends; deferred, two ups may take the one place
             wanted = {Kind.UNDO: [[False, True], [True, False]], Kind.INTENTIONS: [[True, False], [False, True]], Kind.ESCROW: [[False] * 2] * 2}
             self.assertEqual(matrix(made), wanted[kind])
             self.assertEqual((made.labels, family.labels), (tuple(range(6)), None))
@@ -125,14 +125,14 @@ class Numbers(unittest.TestCase):
         self.assertEqual(never._blocks(), {(1, 1)})
 
     def test_what_may_be_in_the_way(self):
-        # two ups may want the last place, and two downs the last piece; an up and a down are never in each other's way
+        # two ups may take the last place, and two downs the last piece; an up and a down never block one another
         self.assertEqual(Type.counter(5, [1], Kind.ESCROW)._blocks(), {(0, 0), (1, 1)})
         # deposit 0, withdraw 2, balance 4: all but two balances, since a withdrawal makes room where there was none
         pairs = {(held, asked) for held in (0, 2, 4) for asked in (0, 2, 4)}
         self.assertEqual(Type.account(5, [1], Kind.ESCROW)._blocks(), pairs - {(4, 4)})
 
     def test_it_is_what_conflicts_in_deferred_update(self):
-        """Of numbers, two operations that can't be done one behind the other are those that don't commute."""
+        """Of numbers, two operations that can't be done one after the other are those that don't commute."""
         for make in [
             lambda kind: Type.counter(7, [1, 2, 5], kind), lambda kind: Type.account(6, [1, 4], kind), lambda kind: Type.semiqueue(["a"], 3, kind),
             lambda kind: Type.semiqueue(["a", "b", "c"], 1, kind),
@@ -147,7 +147,7 @@ class Names(unittest.TestCase):
             for q, held in enumerate(account.operations):
                 told = account.conflicts(p, q)
                 self.assertEqual([account.conflicts(requested, held), account.conflicts(tuple(requested), q), account.conflicts(p, tuple(held))], [told] * 3)
-        # at 0 a withdrawal is legal only behind the deposit
+        # at 0 a withdrawal is legal only after the deposit
         self.assertTrue(account.conflicts(("withdraw:1", "ok"), ("deposit:1", "ok")))
         self.assertFalse(account.conflicts(("withdraw:1", "short"), ("withdraw:1", "short")))
         for unknown in (("withdraw:1", "full"), ("withdraw:3", "ok"), ("", ""), ("withdraw:1",)):

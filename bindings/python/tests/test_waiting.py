@@ -127,7 +127,7 @@ class Deadlocks:
     """Circles of transactions that wait."""
 
     def circle(self, count):
-        """A store in which each of so many transactions has taken at an object of its own."""
+        """A store in which each transaction, this many, has taken at an object of its own."""
         store = self.make([Type(TWO)] * count)
         begun = [store.begin() for _ in range(count)]
         for x, t in enumerate(begun):
@@ -193,7 +193,7 @@ class Deadlocks:
 
 
 class Gates:
-    """Who goes behind whom."""
+    """Who goes after whom."""
 
     def test_the_younger_goes_behind(self):
         store = self.make([Type(TWO)])
@@ -201,7 +201,7 @@ class Gates:
         t.call(0, "take")
         waiting = Run(w.call, 0, "give", LONG)
         asleep(store, 1)
-        # the take of t is in nobody's way but that of w, which is first in turn
+        # the take of t blocks nobody but w, which is first in turn
         self.assertEqual((u.call(0, "take"), u.would(0, "take"), u.would_op(0, 0), u.call_op(0, 0)), (Busy(1), Busy(1), Busy(1), Busy(1)))
         behind = Run(u.call, 0, "take", LONG)
         asleep(store, 4)

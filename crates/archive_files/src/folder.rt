@@ -13,7 +13,7 @@ pub trait Archives {
     /// An archive.
     type Kept: Archive + Drop;
 
-    /// The archive in a folder, and without one an archive that wants no histories.
+    /// The archive in a folder, and without one an archive that keeps no history.
     ///
     /// # Errors
     ///
@@ -43,7 +43,7 @@ impl<'a> Archives for FolderArchives<'a> {
 }
 
 /// A folder that keeps each history as a file of its own, named by its life: `LIFE.history`. Where there is no folder it
-/// wants none.
+/// keeps none.
 #[derive(Drop)]
 pub struct FolderArchive<'a> {
     runtime: &'a HostRuntime,

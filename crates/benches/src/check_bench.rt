@@ -19,19 +19,29 @@ pub fn measure<R: Files + Clock + Print + AllocGlobal + Threads + Sync>(
     rt: &R,
     words: &[String],
 ) -> Result<()> {
-    let Some((kind, path, rounds)) = asked(words) else {
+    let Some(Asked { kind, path, rounds }) = read_words(words) else {
         return Err(Error::msg(USAGE));
     };
     let text = fs::read(rt, path)?;
     measure_text(rt, kind, &text, rounds)
 }
 
-/// The kind, the path and the rounds that the words ask for.
-fn asked(words: &[String]) -> Option<(Kind, &str, u32)> {
+/// What the words ask for.
+#[derive(Clone, Copy)]
+struct Asked<'a> {
+    kind: Kind,
+    path: &'a str,
+    rounds: u32,
+}
+
+fn read_words(words: &[String]) -> Option<Asked<'_>> {
     match words {
         [kind, path, rounds] => {
-            let kind = Kind::of_word(kind.as_bytes())?;
-            Some((kind, path.as_str(), number(rounds)?))
+            Some(Asked {
+                kind: Kind::of_word(kind.as_bytes())?,
+                path: path.as_str(),
+                rounds: number(rounds)?,
+            })
         }
         _ => None,
     }

@@ -27,19 +27,29 @@ const WORDS: usize = 6;
 
 /// Follows what the words ask for, and prints how much that was.
 pub fn measure<R: Files + Print + AllocGlobal>(rt: &R, words: &[String]) -> Result<()> {
-    let Some((kind, path, paths)) = asked(words) else {
+    let Some(Asked { kind, path, paths }) = read_words(words) else {
         return Err(Error::msg(USAGE));
     };
     let numbers = numbers_at(rt, path)?;
     measure_numbers(rt, kind, &numbers, paths)
 }
 
-/// The kind, the path of the numbers and those of the types that the words ask for.
-fn asked(words: &[String]) -> Option<(Kind, &str, &[String])> {
+/// What the words ask for: a kind, the path of the numbers, and those of the types.
+#[derive(Clone, Copy)]
+struct Asked<'a> {
+    kind: Kind,
+    path: &'a str,
+    paths: &'a [String],
+}
+
+fn read_words(words: &[String]) -> Option<Asked<'_>> {
     match words {
         [kind, path, paths @ ..] => {
-            let kind = Kind::of_word(kind.as_bytes())?;
-            Some((kind, path.as_str(), paths))
+            Some(Asked {
+                kind: Kind::of_word(kind.as_bytes())?,
+                path: path.as_str(),
+                paths,
+            })
         }
         _ => None,
     }
@@ -51,7 +61,7 @@ fn numbers_at<R: Files + AllocGlobal>(rt: &R, path: &str) -> Result<Vec<u32>> {
     Ok(numbers_of(rt.alloc(), &text)?)
 }
 
-/// The numbers of a text: what isn't a digit stands between them.
+/// The numbers of a text: what isn't a digit separates them.
 fn numbers_of(alloc: Global, text: &[u8]) -> Result<Vec<u32>, AllocError> {
     let mut numbers = Vec::new(alloc);
     let mut number: Option<u32> = None;
@@ -150,7 +160,7 @@ fn follow_all<M: Fresh>(
 }
 
 /// Follows the first of these histories, which is at this place among all: whether its changed event is
-/// made, and the numbers behind it.
+/// made, and the numbers after it.
 fn follow_first<'a, M: Fresh>(
     alloc: Global,
     types: &[Arc<CheckedType>],
@@ -167,7 +177,7 @@ fn follow_first<'a, M: Fresh>(
     }
 }
 
-/// The first history of these numbers, at so many objects, and the numbers behind it.
+/// The first history of these numbers, at this many objects, and the numbers after it.
 fn first_of(numbers: &[u32], objects: usize) -> Option<(Plain<'_>, &[u32])> {
     let (count, numbers) = numbers.split_first()?;
     let (events, numbers) = numbers.split_at_checked((*count as usize).saturating_mul(WORDS))?;
@@ -303,7 +313,7 @@ fn tells_behind<M: Recovery>(
     Ok(is_left(store, before, plain.other, &kept) && goes_on(store, behind, plain.kept))
 }
 
-/// Whether a store makes an event behind those before it.
+/// Whether a store makes an event after those before it.
 fn is_made<M: Recovery>(store: &mut Store<M>, before: &[Event], event: Event) -> bool {
     follow(store, event).is_ok() && store.history().split_last() == Some((&event, before))
 }

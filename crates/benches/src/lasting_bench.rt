@@ -1,4 +1,4 @@
-//! A store that goes on without end: `lasting KIND FILE MILLIONS` makes so many million events at one object
+//! A store that goes on without end: `lasting KIND FILE MILLIONS` makes MILLIONS million events at one object
 //! of a type, whose calls 0 and 1 take turns, with 16 transactions open, and forgets each 65,536 of them. It
 //! prints the nanoseconds of the first and of the last million.
 
@@ -31,7 +31,14 @@ const WORKER: u8 = 0;
 
 /// Measures what the words ask for, and prints it.
 pub fn measure<R: Files + Clock + Print + AllocGlobal>(rt: &R, words: &[String]) -> Result<()> {
-    let Some((kind, path, millions)) = asked(words) else {
+    let Some(
+        Asked {
+            kind,
+            path,
+            millions,
+        },
+    ) = read_words(words)
+    else {
         return Err(Error::msg(USAGE));
     };
     let checked = checked_at(rt, kind, path)?;
@@ -42,12 +49,22 @@ pub fn measure<R: Files + Clock + Print + AllocGlobal>(rt: &R, words: &[String])
     }
 }
 
-/// The kind, the path and the millions that the words ask for.
-fn asked(words: &[String]) -> Option<(Kind, &str, u32)> {
+/// What the words ask for.
+#[derive(Clone, Copy)]
+struct Asked<'a> {
+    kind: Kind,
+    path: &'a str,
+    millions: u32,
+}
+
+fn read_words(words: &[String]) -> Option<Asked<'_>> {
     match words {
         [kind, path, millions] => {
-            let kind = Kind::of_word(kind.as_bytes())?;
-            Some((kind, path.as_str(), number(millions)?))
+            Some(Asked {
+                kind: Kind::of_word(kind.as_bytes())?,
+                path: path.as_str(),
+                millions: number(millions)?,
+            })
         }
         _ => None,
     }
@@ -81,7 +98,7 @@ fn measure_store<R: Clock + Print, M: Recovery>(
     Ok(())
 }
 
-/// Prints a time, where it is to be told.
+/// Prints a time, where it is to be shown.
 fn show_time<R: Print>(rt: &R, time: u128, is_told: bool) -> Result<()> {
     if is_told {
         return show(rt, &[("nanoseconds", time)]);

@@ -20,19 +20,29 @@ enum Form {
 
 /// Measures what the words ask for, and prints it.
 pub fn measure<R: Files + Clock + Print + AllocGlobal>(rt: &R, words: &[String]) -> Result<()> {
-    let Some((form, path, rounds)) = asked(words) else {
+    let Some(Asked { form, path, rounds }) = read_words(words) else {
         return Err(Error::msg(USAGE));
     };
     let text = fs::read(rt, path)?;
     measure_text(rt, form, &text, rounds)
 }
 
-/// The form, the path and the rounds that the words ask for.
-fn asked(words: &[String]) -> Option<(Form, &str, u32)> {
+/// What the words ask for.
+#[derive(Clone, Copy)]
+struct Asked<'a> {
+    form: Form,
+    path: &'a str,
+    rounds: u32,
+}
+
+fn read_words(words: &[String]) -> Option<Asked<'_>> {
     match words {
         [form, path, rounds] => {
-            let form = form_of(form.as_str())?;
-            Some((form, path.as_str(), number(rounds)?))
+            Some(Asked {
+                form: form_of(form.as_str())?,
+                path: path.as_str(),
+                rounds: number(rounds)?,
+            })
         }
         _ => None,
     }

@@ -1,5 +1,5 @@
 //! Times of a store: `store KIND FILE OBJECTS OPEN CALLS MODE COMMANDS ROUNDS` prints the least
-//! nanoseconds of a run of so many commands, and what came of them. `follow`, with the same words, prints the
+//! nanoseconds of a run of this many commands, and what came of them. `follow`, with the same words, prints the
 //! least nanoseconds of a run, and of a new store that follows its events. `objects` is `store` at objects of any
 //! kind of recovery, as the store of a program and of the library has them.
 
@@ -45,19 +45,36 @@ pub fn measure<R: Files + Clock + Print + AllocGlobal>(
     what: What,
     words: &[String],
 ) -> Result<()> {
-    let Some((kind, path, workload)) = asked(words) else {
+    let Some(
+        Asked {
+            kind,
+            path,
+            workload,
+        },
+    ) = read_words(words)
+    else {
         return Err(Error::msg(USAGE));
     };
     let checked = checked_at(rt, kind, path)?;
     measure_type(rt, what, &checked, workload)
 }
 
-/// The kind, the path and the workload that the words ask for.
-fn asked(words: &[String]) -> Option<(Kind, &str, Workload)> {
+/// What the words ask for.
+#[derive(Clone, Copy)]
+struct Asked<'a> {
+    kind: Kind,
+    path: &'a str,
+    workload: Workload,
+}
+
+fn read_words(words: &[String]) -> Option<Asked<'_>> {
     match words {
         [kind, path, workload @ ..] => {
-            let kind = Kind::of_word(kind.as_bytes())?;
-            Some((kind, path.as_str(), workload_of(workload)?))
+            Some(Asked {
+                kind: Kind::of_word(kind.as_bytes())?,
+                path: path.as_str(),
+                workload: workload_of(workload)?,
+            })
         }
         _ => None,
     }

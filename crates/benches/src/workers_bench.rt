@@ -27,7 +27,15 @@ pub fn measure<H: Files + Clock + Print + AllocGlobal + Threads + Wait + Sync>(
     rt: &H,
     words: &[String],
 ) -> Result<()> {
-    let Some((kind, path, pace, calls)) = asked(words) else {
+    let Some(
+        Asked {
+            kind,
+            path,
+            pace,
+            calls,
+        },
+    ) = read_words(words)
+    else {
         return Err(Error::msg(USAGE));
     };
     let calls = names_of(rt.alloc(), calls)?;
@@ -42,13 +50,24 @@ pub fn measure<H: Files + Clock + Print + AllocGlobal + Threads + Wait + Sync>(
     )
 }
 
-/// The kind, the path, the pace of the work and the words of its calls, of which there is one.
-fn asked(words: &[String]) -> Option<(Kind, &str, Pace, &[String])> {
+/// What the words ask for: a kind, the path of a type, the pace of the work, and the words of its calls.
+#[derive(Clone, Copy)]
+struct Asked<'a> {
+    kind: Kind,
+    path: &'a str,
+    pace: Pace,
+    calls: &'a [String],
+}
+
+fn read_words(words: &[String]) -> Option<Asked<'_>> {
     match words {
         [kind, path, workers, jobs, tries, think, calls @ ..] if !calls.is_empty() => {
-            let kind = Kind::of_word(kind.as_bytes())?;
-            let pace = pace_of(workers, jobs, tries, think)?;
-            Some((kind, path.as_str(), pace, calls))
+            Some(Asked {
+                kind: Kind::of_word(kind.as_bytes())?,
+                path: path.as_str(),
+                pace: pace_of(workers, jobs, tries, think)?,
+                calls,
+            })
         }
         _ => None,
     }

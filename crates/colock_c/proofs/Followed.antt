@@ -6,7 +6,7 @@ use Rattle.store_laws.specs.Stored.{Stored}
 use Rattle.store.specs.Follows.{IsMade, with_event}
 use Rattle.colock_c.specs.Codes.{number}
 use Rattle.colock_c.specs.EventWords.{event_at}
-use Rattle.colock_c.specs.Histories.{AreMade, more, MakesOne, IsFollowed, strays, wanting}
+use Rattle.colock_c.specs.Histories.{AreMade, more, MakesOne, IsFollowed, strays, memory_refused}
 use Rattle.colock_c.specs.declared.code.Code.{Code}
 use Rattle.colock_c.specs.declared.event_words.ColockEvent.{ColockEvent}
 
@@ -28,5 +28,5 @@ module _ (s now new : Stored) (ws : List ColockEvent) (at : ℕ) (w d : ColockEv
             (λ v e got read one.
             let same : v ≡ w = same_Some v w (sym got ∙ slice_get-get_or ws at d inside ∙ ap Some (sym there)) in
             stray.1 e (ap event_at (sym same) ∙ read) (subst (λ (z : Stored). IsMade z e) other.0 one))
-        | inr memory ↦ wanting (ap number memory) inside made
+        | inr memory ↦ memory_refused (ap number memory) inside made
       ]

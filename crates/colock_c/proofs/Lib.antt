@@ -1,6 +1,5 @@
 pub mod Values
 pub mod ReadAgain
-pub mod Living
 pub mod Told
 pub mod Limits
 pub mod Rooms

@@ -2,6 +2,7 @@
 use Rattle.std.proofs.Common.{◌≡◌, ℕ, zero, suc, ◌+◌, ◌-◌, ◌<◌, ◌≤◌, List, [], ◌∷◌, length, set, drop, Option, Some, None, slice_get, refl, sym, ap, ◌∙◌, inl, inr, arith}
 use Rattle.std.proofs.lemmas.Bool.{cases_eq, cases_lt}
 use Rattle.std.proofs.lemmas.Option.{slice_get_past}
+use Rattle.type_table.proofs.Elements.{element_at, found-set, found-set_other}
 use Rattle.object_trait.specs.declared.event.Event.{Event}
 use Rattle.colock_c.specs.Histories.{cell_after, IsFilled}
 use Rattle.colock_c.specs.EventWords.{event_words}
@@ -12,18 +13,6 @@ pub record FilledTo (H : List Event) (from n : ℕ) (old new : List ColockEvent)
   pub done : (j : ℕ) → j < n → slice_get new j ≡ cell_after (slice_get old j) (slice_get H (from + j))
   pub rest : (j : ℕ) → n ≤ j → slice_get new j ≡ slice_get old j
 
-set_here : {X : Type 0} (xs : List X) (i : ℕ) (v : X) → i < length xs → slice_get (set xs i v) i ≡ Some v
-set_here [] i v inside = absurd (omega (arith, inside))
-set_here (x ∷ xs) zero v inside = refl
-set_here (x ∷ xs) (suc i) v inside = set_here xs i v (omega (arith, inside))
-
-set_other : {X : Type 0} (xs : List X) (i j : ℕ) (v : X) → (j ≡ i → ⊥) → slice_get (set xs i v) j ≡ slice_get xs j
-set_other [] i j v other = refl
-set_other (x ∷ xs) zero zero v other = absurd (other refl)
-set_other (x ∷ xs) zero (suc j) v other = refl
-set_other (x ∷ xs) (suc i) zero v other = refl
-set_other (x ∷ xs) (suc i) (suc j) v other = set_other xs i j v (λ e. other (ap suc e))
-
 pub filled_none : (H : List Event) (from : ℕ) (old : List ColockEvent) → FilledTo H from 0 old old
 filled_none H from old = record { done = λ j j_in. absurd (omega (arith, j_in)); rest = λ j _. refl }
 
@@ -31,22 +20,17 @@ filled_none H from old = record { done = λ j j_in. absurd (omega (arith, j_in))
 given : (o : Option ColockEvent) (x : ColockEvent) (e : Event) → o ≡ Some x → cell_after o (Some e) ≡ Some (event_words e)
 given o x e is = ap (λ p. cell_after p (Some e)) is
 
-there : {X : Type 0} (xs : List X) (i : ℕ) → i < length xs → (x : X) × (slice_get xs i ≡ Some x)
-there [] i inside = absurd (omega (arith, inside))
-there (x ∷ xs) zero inside = (x, refl)
-there (x ∷ xs) (suc i) inside = there xs i (omega (arith, inside))
-
 pub filled_more : (H : List Event) (from i : ℕ) (old new : List ColockEvent) (e : Event) → i < length old → length new ≡ length old → slice_get H (from + i) ≡ Some e
     → FilledTo H from i old new → FilledTo H from (i + 1) old (set new i (event_words e))
 filled_more H from i old new e inside long is to = record {
   done = λ j j_in. elim (cases_eq j i) [
     | inl same ↦
-        let x = there old i inside in
-        ap (λ k. slice_get (set new i (event_words e)) k) same ∙ set_here new i (event_words e) (omega (arith, inside, long))
+        let x = element_at old i inside in
+        ap (λ k. slice_get (set new i (event_words e)) k) same ∙ found-set new i (event_words e) (omega (arith, inside, long))
         ∙ sym (ap (λ k. cell_after (slice_get old k) (slice_get H (from + k))) same ∙ ap (cell_after (slice_get old i)) is ∙ given (slice_get old i) (x.0) e (x.1))
-    | inr other ↦ let below : j < i = omega (arith, other, j_in) in set_other new i j (event_words e) other ∙ to.done j below
+    | inr other ↦ let below : j < i = omega (arith, other, j_in) in found-set_other new i j (event_words e) other ∙ to.done j below
   ];
-  rest = λ j past. let apart : j ≡ i → ⊥ = λ same. omega (arith, same, past) in set_other new i j (event_words e) apart ∙ to.rest j (omega (arith, past));
+  rest = λ j past. let apart : j ≡ i → ⊥ = λ same. omega (arith, same, past) in found-set_other new i j (event_words e) apart ∙ to.rest j (omega (arith, past));
 }
 
 untold : (o : Option ColockEvent) (p : Option Event) → (o ≡ None) → cell_after o p ≡ o
@@ -68,7 +52,7 @@ filled_all H from n old new to past i = elim (cases_lt i n) [
 
 -- ---- a history whose front was forgotten
 
--- what is behind so many elements
+-- what comes after this many elements
 got_behind : {X : Type 0} (xs : List X) (f k : ℕ) → slice_get (drop f xs) k ≡ slice_get xs (f + k)
 got_behind xs zero k = let same : k ≡ 0 + k = omega arith in ap (slice_get xs) same
 got_behind [] (suc f) k = refl

@@ -4,7 +4,7 @@ use Rattle.std.proofs.lemmas.Option.{same_Some}
 use Rattle.type_table.specs.declared.kind.Kind.{Kind}
 use Rattle.type_text.specs.declared.type_file.TypeFile.{TypeFile}
 use Rattle.colock_c.specs.Codes.{number}
-use Rattle.colock_c.specs.Types.{IsMade, accepted, not_accepted, no_file, wanting}
+use Rattle.colock_c.specs.Types.{IsMade, accepted, not_accepted, no_file, memory_refused}
 use Rattle.colock_c.specs.declared.code.Code.{Code}
 use Rattle.colock_c.specs.declared.code.Code.TheVariants.{NoMemory}
 use Rattle.colock_c.specs.declared.held.Held.{Held}
@@ -18,14 +18,14 @@ pub of_file : (IsSuch : TypeFile → Type 0) (IsAmiss : ℕ → ColockFault → 
 of_file IsSuch IsAmiss file kind was before n words new such same (accepted f c is type done stays at) = accepted f c (subst IsSuch (sym is) such) type done (stays ∙ same) at
 of_file IsSuch IsAmiss file kind was before n words new such same (not_accepted f is why at) = not_accepted f (subst IsSuch (sym is) such) why at
 of_file IsSuch IsAmiss file kind was before n words new such same (no_file amiss at) = absurd amiss
-of_file IsSuch IsAmiss file kind was before n words new such same (wanting is stays at) = wanting is (stays ∙ same) at
+of_file IsSuch IsAmiss file kind was before n words new such same (memory_refused is stays at) = memory_refused is (stays ∙ same) at
 
 -- or none is
 pub of_none : (IsSuch : TypeFile → Type 0) (IsAmiss : ℕ → ColockFault → Type 0) (kind : Kind) (was : ColockFault) (code : Code) (words : ColockFault) (new : Option Held)
     → ((code ≡ NoMemory) × (words ≡ was)) ⊎ IsAmiss (number code) words → new ≡ None → IsMade IsSuch IsAmiss kind was (number code) words new
 of_none IsSuch IsAmiss kind was code words new why at =
     elim why [
-      | inl memory ↦ wanting (ap number memory.0) memory.1 at
+      | inl memory ↦ memory_refused (ap number memory.0) memory.1 at
       | inr amiss ↦ no_file amiss at
     ]
 
@@ -34,7 +34,7 @@ pub of_no_family : (IsSuch : TypeFile → Type 0) (IsNone : ℕ → Type 0) (kin
     → (code ≡ NoMemory) ⊎ IsNone (number code) → new ≡ None → IsMade IsSuch (λ n words. IsNone n × (words ≡ was)) kind was (number code) was new
 of_no_family IsSuch IsNone kind was code new why at =
     elim why [
-      | inl memory ↦ wanting (ap number memory) refl at
+      | inl memory ↦ memory_refused (ap number memory) refl at
       | inr none ↦ no_file (none, refl) at
     ]
 

@@ -1,11 +1,11 @@
 -- What the calls of a store do to what a handle holds, in the words of the store's own contracts.
 use Rattle.std.specs.Prelude.{◌≡◌, ℕ, ◌<◌, ◌≤◌, List, ◌++◌, length, Option, Some, None, slice_get}
-use Rattle.serial_order.specs.History.{begins, seen}
+use Rattle.serial_order.specs.History.{begins, summary}
 use Rattle.serial_order.specs.Replay.{call_at, open_count}
 use Rattle.serial_order.specs.declared.command.Command.{Command}
 use Rattle.serial_order.specs.declared.command.Command.TheVariants.{Call}
 use Rattle.object_calls.specs.declared.answer.Answer.{Answer}
-use Rattle.store_laws.specs.Stored.{Stored, objects, refusal_of, after}
+use Rattle.store_laws.specs.Stored.{Stored, objects, refusal_of, stored_after}
 use Rattle.store_laws.specs.Words.{as_event}
 use Rattle.store.specs.Calls.{noted, unnumbered}
 use Rattle.store.specs.Ends.{closing}
@@ -20,13 +20,13 @@ use Rattle.colock_c.specs.declared.words.ColockAnswer.{ColockAnswer}
 
 -- ---- a store
 
--- what comes of a worker's command, told by a code: its refusal, which changes nothing, or the event that it makes; or memory was refused,
+-- what comes of a worker's command, by its code: its refusal, which changes nothing, or the event that it makes; or memory was refused,
 -- and nothing has changed
 pub data IsDone (s : Stored) (w : ℕ) (command : Command) (n : ℕ) (new : Stored) : Type 0 where
-  told : n ≡ number (code_of (refusal_of s command)) → new ≡ after s w command → IsDone s w command n new
-  wanting : refusal_of s command ≡ None → n ≡ number NoMemory → new ≡ s → IsDone s w command n new
+  told : n ≡ number (code_of (refusal_of s command)) → new ≡ stored_after s w command → IsDone s w command n new
+  memory_refused : refusal_of s command ≡ None → n ≡ number NoMemory → new ≡ s → IsDone s w command n new
 
--- the answer of t's call c at x is told by the event that was appended
+-- the event that was appended says the answer of t's call c at x
 abbrev pub IsAnswered : Stored → ℕ → ℕ → ℕ → ℕ → ℕ → ColockAnswer → Stored → Type 0
 IsAnswered s w t x c n words new = n ≡ number Done → (a : Answer) × (words ≡ answer_words a) × (new ≡ noted s w (as_event t x c a))
 
@@ -36,9 +36,9 @@ IsUnnumbered s t x c n new =
     ((name : List ℕ) → call_at (slice_get (objects s) x) name ≡ Some c → ⊥) → (n ≡ number (code_of (Some (unnumbered s t x)))) × (new ≡ s)
 
 -- the state that is kept of the object at x, where there is one
-pub data IsKept (s : Stored) (x n state : ℕ) : Type 0 where
-  kept : n ≡ number Done → IsKeptState s x state → IsKept s x n state
-  no_object : n ≡ number NoObject → length (objects s) ≤ x → IsKept s x n state
+pub data IsKeptStateOf (s : Stored) (x n state : ℕ) : Type 0 where
+  kept : n ≡ number Done → IsKeptState s x state → IsKeptStateOf s x n state
+  no_object : n ≡ number NoObject → length (objects s) ≤ x → IsKeptStateOf s x n state
 
 -- the number of the call with this name at the object at x
 pub data IsNumberOf (s : Stored) (x : ℕ) (name : List ℕ) (n c : ℕ) : Type 0 where
@@ -55,9 +55,9 @@ Does (Some (OfType a)) w command n new = (n ≡ number NotHeld) × (new ≡ Some
 Does (Some (OfObjects os)) w command n new = (n ≡ number NotHeld) × (new ≡ Some (OfObjects os))
 Does (Some (OfStore s)) w command n new = (later : Stored) × (new ≡ Some (OfStore later)) × IsDone s w command n later
 
--- what comes of a worker's commit or abort, which wants no memory: its refusal, which changes nothing, or the event that it makes
+-- what comes of a worker's commit or abort, which takes no memory: its refusal, which changes nothing, or the event that it makes
 abbrev pub IsEnded : Stored → ℕ → Command → ℕ → Stored → Type 0
-IsEnded s w command n new = (n ≡ number (code_of (refusal_of s command))) × (new ≡ after s w command)
+IsEnded s w command n new = (n ≡ number (code_of (refusal_of s command))) × (new ≡ stored_after s w command)
 
 abbrev pub Ends : Option Held → ℕ → Command → ℕ → Option Held → Type 0
 Ends None w command n new = (n ≡ number NotHeld) × (new ≡ None)
@@ -91,14 +91,14 @@ DoesNumbered (Some (OfStore s)) w t x c n new =
     × ((name : List ℕ) → call_at (slice_get (objects s) x) name ≡ Some c → IsDone s w (Call t x name) n later) × IsUnnumbered s t x c n later
 
 abbrev pub Keeps : Option Held → ℕ → ℕ → ℕ → Type 0
-Keeps held x n state = (s : Stored) → store_at held ≡ Some s → IsKept s x n state
+Keeps held x n state = (s : Stored) → store_at held ≡ Some s → IsKeptStateOf s x n state
 
 abbrev pub Numbers : Option Held → ℕ → List ℕ → ℕ → ℕ → Type 0
 Numbers held x name n c = (s : Stored) → store_at held ≡ Some s → IsNumberOf s x name n c
 
 -- how many transactions are open
 abbrev pub CountsOpen : Option Held → ℕ → ℕ → Type 0
-CountsOpen held n count = (s : Stored) → store_at held ≡ Some s → (n ≡ number Done) × (count ≡ open_count (seen s.history))
+CountsOpen held n count = (s : Stored) → store_at held ≡ Some s → (n ≡ number Done) × (count ≡ open_count (summary s.history))
 
 -- each open transaction is aborted, in ascending order of numbers, as the worker that began it
 abbrev pub AbortsAll : Option Held → ℕ → Option Held → Type 0

@@ -24,7 +24,7 @@ cell_after (Some old) (Some e) = Some (event_words e)
 abbrev pub IsFilled : List Event → ℕ → List ColockEvent → List ColockEvent → Type 0
 IsFilled H from old new = (i : ℕ) → slice_get new i ≡ cell_after (slice_get old i) (slice_get H (from + i))
 
--- the events from a place on are in the room, as far as there are any and it reaches, and how many they are is told; or those at this
+-- the events from a place on are in the room, as far as there are any and it reaches, and how many they are is given; or those at this
 -- place were forgotten
 pub data IsCopied (s : Stored) (from : ℕ) (old : List ColockEvent) (n : ℕ) (new : List ColockEvent) (count : ℕ) : Type 0 where
   copied : n ≡ number Done → s.forgotten ≤ from → IsFilled s.history from old new → count ≡ min (length old) (length s.history - from)
@@ -64,11 +64,11 @@ MakesOne old w (Err code) new = (new ≡ old) × (((code ≡ NotMade) × ((e : E
 abbrev pub IsStray : Stored → List ColockEvent → ℕ → Type 0
 IsStray s ws place = (w : ColockEvent) (e : Event) → slice_get ws place ≡ Some w → event_at w ≡ Some e → IsMade s e → ⊥
 
--- all are made; or the first of them, as many as is told, and the next isn't, or memory was refused
+-- all are made; or the first of them, as many as is said, and the next isn't, or memory was refused
 pub data IsFollowed (s : Stored) (ws : List ColockEvent) (n made : ℕ) (new : Stored) : Type 0 where
   all : n ≡ number Done → made ≡ length ws → AreMade s ws new → IsFollowed s ws n made new
   strays : n ≡ number NotMade → made < length ws → AreMade s (take made ws) new → IsStray new ws made → IsFollowed s ws n made new
-  wanting : n ≡ number NoMemory → made < length ws → AreMade s (take made ws) new → IsFollowed s ws n made new
+  memory_refused : n ≡ number NoMemory → made < length ws → AreMade s (take made ws) new → IsFollowed s ws n made new
 
 abbrev pub Follows : Option Held → List ColockEvent → ℕ → ℕ → Option Held → Type 0
 Follows None ws n made new = (n ≡ number NotHeld) × (new ≡ None)

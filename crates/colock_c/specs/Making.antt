@@ -11,10 +11,10 @@ use Rattle.colock_c.specs.Holding.{objects_at, store_at}
 use Rattle.colock_c.specs.declared.code.Code.TheVariants.{Done, NoMemory}
 use Rattle.colock_c.specs.declared.held.Held.{Held}
 
--- another object: a new one of this type behind the others, or memory was refused and there are the same
+-- another object: a new one of this type after the others, or memory was refused and there are the same
 pub data Adds (ms : List Meaning) (c : Checked) (n : ℕ) (new : Option Held) : Type 0 where
   added : (m : Meaning) → n ≡ number Done → IsFresh m → m.checked ≡ c → objects_at new ≡ Some (ms ++ m ∷ []) → Adds ms c n new
-  wanting : n ≡ number NoMemory → objects_at new ≡ Some ms → Adds ms c n new
+  memory_refused : n ≡ number NoMemory → objects_at new ≡ Some ms → Adds ms c n new
 
 -- a store of these objects with no event yet, or the code of the refusal and the same objects
 pub data Makes (ms : List Meaning) (max n : ℕ) (new : Option Held) : Type 0 where

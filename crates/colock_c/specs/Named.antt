@@ -14,7 +14,7 @@ use Rattle.colock_c.specs.declared.words.ColockShape.{ColockShape}
 
 -- ---- names
 
--- a name is put at the front of a room, and how many bytes it has is told; or the room is too small
+-- a name is put at the front of a room, and how many bytes it has is given; or the room is too small
 pub data IsPut (name old : List ℕ) (n : ℕ) (new : List ℕ) (count : ℕ) : Type 0 where
   put : n ≡ number Done → length name ≤ length old → new ≡ name ++ drop (length name) old → count ≡ length name → IsPut name old n new count
   small : n ≡ number NoRoom → length old < length name → IsPut name old n new count

@@ -38,7 +38,7 @@ pub data IsMade (IsSuch : TypeFile → Type 0) (IsAmiss : ℕ → ColockFault �
       → IsMade IsSuch IsAmiss kind was n words new
   not_accepted : (file : TypeFile) → IsSuch file → IsRefused kind file n words → new ≡ None → IsMade IsSuch IsAmiss kind was n words new
   no_file : IsAmiss n words → new ≡ None → IsMade IsSuch IsAmiss kind was n words new
-  wanting : n ≡ number NoMemory → words ≡ was → new ≡ None → IsMade IsSuch IsAmiss kind was n words new
+  memory_refused : n ≡ number NoMemory → words ≡ was → new ≡ None → IsMade IsSuch IsAmiss kind was n words new
 
 -- ---- of a text
 

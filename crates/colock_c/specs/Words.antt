@@ -56,6 +56,6 @@ kind_number Undo = 0
 kind_number Intentions = 1
 kind_number Escrow = 2
 
--- what is told of a type at once
+-- what is said of a type at once
 abbrev pub shape_of : Checked → ColockShape
 shape_of c = record { states = c.file.table.states; initial = c.file.table.initial; ops = length c.file.table.ops; kind = kind_number c.kind }

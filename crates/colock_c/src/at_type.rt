@@ -10,7 +10,7 @@ use crate::held::Held;
 use crate::on_type::{conflict, put_call, put_name, put_reply, step};
 use crate::words::{ColockShape, shape_of};
 
-/// Tells of the type at once.
+/// Gives what is said of the type at once.
 pub(crate) fn shape(held: &Held, shape: &mut ColockShape) -> Code
     ensures shaped { IsShaped (Some held.now) (number result) shape.new }
     ensures no_type { type_at (Some held.now) ≡ None → number result ≡ number Code.NotHeld }
@@ -65,7 +65,7 @@ pub(crate) fn reply(held: &Held, k: u64, room: &mut [u8], count: &mut u64) -> Co
     }
 }
 
-/// Tells the state to which an operation leads.
+/// Gives the state to which an operation leads.
 pub(crate) fn leads(held: &Held, s: u64, k: u64, to: &mut u64) -> Code
     ensures step { Leads (Some held.now) s k (number result) to.new }
     ensures no_type { type_at (Some held.now) ≡ None → number result ≡ number Code.NotHeld }
@@ -78,7 +78,7 @@ pub(crate) fn leads(held: &Held, s: u64, k: u64, to: &mut u64) -> Code
     }
 }
 
-/// Tells whether two operations conflict.
+/// Says whether two operations conflict.
 pub(crate) fn conflicts(held: &Held, requested: u64, other: u64, told: &mut u32) -> Code
     ensures conflict { TellsConflict (Some held.now) requested other (number result) told.new }
     ensures no_type { type_at (Some held.now) ≡ None → number result ≡ number Code.NotHeld }

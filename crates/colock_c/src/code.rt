@@ -43,7 +43,7 @@ pub enum Code {
     TooManyObjects = 14,
     /// An object isn't as it was made.
     NotFresh = 15,
-    /// No history may have so few, or so many, events.
+    /// The number is too low or too high for the most events of a history.
     BadMax = 16,
     /// A transaction is open.
     StillOpen = 17,

@@ -6,6 +6,9 @@ ghost use Rattle.table_maker.specs.Amounts.{AreAmounts};
 ghost use Rattle.table_maker.specs.Counter.{counter, CounterFits};
 ghost use Rattle.table_maker.specs.Semiqueue.{semiqueue, SemiqueueFits};
 ghost use Rattle.table_maker.specs.Set.{set, SetFits};
+ghost use Rattle.table_families.specs.Queue.{queue, QueueFits};
+ghost use Rattle.table_families.specs.Seats.{seats, AreSeats, SeatsFit};
+ghost use Rattle.table_families.specs.Stock.{stock, StockFits};
 ghost use Rattle.line_text.specs.Text.{words_of};
 ghost use Rattle.colock_c.specs.Codes.{number};
 ghost use Rattle.colock_c.specs.Families.{AreSemiqueueWords, AreSetWords, HasNone, IsOfFamily};
@@ -13,6 +16,7 @@ ghost use Rattle.colock_c.specs.Families.{AreSemiqueueWords, AreSetWords, HasNon
 use crate::code::{Code, made_code};
 use crate::parameters::{capacity_of, names_of, narrowed};
 use std::alloc::Global;
+use table_families::{make_queue, make_seats, make_stock};
 use table_maker::{make_account, make_counter, make_semiqueue, make_set};
 use type_text::TypeFile;
 
@@ -49,6 +53,25 @@ pub(crate) fn counter_file(alloc: Global, cap: u64, amounts: &[u64]) -> Result<T
         Err(code) => return Err(code),
     };
     match make_counter(alloc, cap, &amounts) {
+        Ok(file) => Ok(file),
+        Err(error) => Err(made_code(error)),
+    }
+}
+
+/// The file of a stock of 0 to a cap, with these amounts.
+///
+/// # Errors
+///
+/// As `account_file`.
+pub(crate) fn stock_file(alloc: Global, cap: u64, amounts: &[u64]) -> Result<TypeFile, Code>
+    ensures made { IfOk result (IsOfFamily (AreAmounts cap amounts.now) (StockFits amounts.now) (stock cap amounts.now)) }
+    ensures refused { IfErr result (λ code. (code ≡ Code.NoMemory) ⊎ HasNone (AreAmounts cap amounts.now) (StockFits amounts.now) (number code)) }
+{
+    let (cap, amounts) = match narrowed(alloc, cap, amounts) {
+        Ok(narrow) => narrow,
+        Err(code) => return Err(code),
+    };
+    match make_stock(alloc, cap, &amounts) {
         Ok(file) => Ok(file),
         Err(error) => Err(made_code(error)),
     }
@@ -94,6 +117,46 @@ pub(crate) fn semiqueue_file(
         Err(code) => return Err(code),
     };
     match make_semiqueue(alloc, &names, capacity) {
+        Ok(file) => Ok(file),
+        Err(error) => Err(made_code(error)),
+    }
+}
+
+/// The file of a queue of this capacity, whose elements are the words of a text.
+///
+/// # Errors
+///
+/// As `account_file`.
+pub(crate) fn queue_file(alloc: Global, elements: &[u8], capacity: u64) -> Result<TypeFile, Code>
+    ensures made { IfOk result (IsOfFamily (AreSemiqueueWords elements.now capacity) (QueueFits (words_of elements.now) capacity) (queue (words_of elements.now) capacity)) }
+    ensures refused { IfErr result (λ code. (code ≡ Code.NoMemory) ⊎ HasNone (AreSemiqueueWords elements.now capacity) (QueueFits (words_of elements.now) capacity) (number code)) }
+{
+    let Some(capacity) = capacity_of(capacity) else {
+        return Err(Code::BadParameter);
+    };
+    let names = match names_of(alloc, elements) {
+        Ok(names) => names,
+        Err(code) => return Err(code),
+    };
+    match make_queue(alloc, &names, capacity) {
+        Ok(file) => Ok(file),
+        Err(error) => Err(made_code(error)),
+    }
+}
+
+/// The file of so many seats.
+///
+/// # Errors
+///
+/// As `account_file`.
+pub(crate) fn seats_file(alloc: Global, count: u64) -> Result<TypeFile, Code>
+    ensures made { IfOk result (IsOfFamily (AreSeats count) (SeatsFit count) (seats count)) }
+    ensures refused { IfErr result (λ code. (code ≡ Code.NoMemory) ⊎ HasNone (AreSeats count) (SeatsFit count) (number code)) }
+{
+    let Some(count) = capacity_of(count) else {
+        return Err(Code::BadParameter);
+    };
+    match make_seats(alloc, count) {
         Ok(file) => Ok(file),
         Err(error) => Err(made_code(error)),
     }

@@ -8,7 +8,7 @@ use crate::event_words::{ColockEvent, event_at};
 use objects::Object;
 use store::{Store, follow};
 
-/// Makes the events of these words again, one after another, and tells how many were made.
+/// Makes the events of these words again, one after another, and says how many were made.
 pub(crate) fn follow_words(
     store: &mut Store<Object>,
     events: &[ColockEvent],

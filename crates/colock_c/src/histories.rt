@@ -57,7 +57,7 @@ pub extern "C" fn colock_event_count(
     code.number()
 }
 
-/// Forgets the first so many of the events that are in memory, or all of them. It takes no memory.
+/// Forgets the first events, this many of those that are in memory, or all of them. It takes no memory.
 #[unsafe(no_mangle)]
 pub extern "C" fn colock_forget(alloc: Global, slot: &mut Slot, events: u64) -> u32
     ensures { Forgets slot.old.handle.held events result slot.new.handle.held }

@@ -1,6 +1,6 @@
 //! A static library over the store, for other languages: exports, whose answers are codes (`code.rt`).
 //!
-//! Their owner keeps handles of zeros, behind each of which lies a type, the objects of a store, or a
+//! Their owner keeps handles of zeros, behind each of which is a type, the objects of a store, or a
 //! store. Of each pointer an export assumes that it isn't null, is aligned, and is the call's alone.
 #![tactic(auto)]
 
@@ -28,8 +28,6 @@ mod reading;
 pub mod shapes;
 mod slot;
 pub mod stores;
-#[cfg(test)]
-mod tests;
 pub mod types;
 mod typing;
 mod words;
@@ -39,7 +37,7 @@ ghost use Rattle.std.specs.Prelude.{◌≡◌};
 /// The number of this list of exports, which each change of one raises.
 const VERSION: u32 = 1;
 
-/// Tells the number of this list of exports.
+/// Gives the number of this list of exports.
 #[unsafe(no_mangle)]
 pub extern "C" fn colock_version() -> u32
     ensures { result ≡ 1 }

@@ -16,7 +16,7 @@ use objects::Object;
 use store::Store;
 use type_table::{Op, TypeTable};
 
-/// Tells the number of the call with this name at an object.
+/// Gives the number of the call with this name at an object.
 pub(crate) fn call_number(store: &Store<Object>, x: u32, name: &[u8], call: &mut u8) -> Code
     ensures found { IsNumberOf store.now x name.now (number result) call.new }
     ensures rest { number result ≢ 0 → call.new ≡ call.old }
@@ -49,7 +49,7 @@ fn place_of_call(ops: &[Op], name: &[u8]) -> Option<usize>
     ops.iter().position(|op| op.call.as_bytes() == name)
 }
 
-/// Tells what a call by name would be answered.
+/// Says what a call by name would be answered.
 pub(crate) fn would(
     store: &Store<Object>,
     transaction: u64,
@@ -72,7 +72,7 @@ pub(crate) fn would(
     }
 }
 
-/// Tells what a call by its number would be answered.
+/// Says what a call by its number would be answered.
 pub(crate) fn would_op(
     store: &Store<Object>,
     transaction: u64,

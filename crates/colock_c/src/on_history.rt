@@ -10,7 +10,7 @@ use object_trait::Event;
 use objects::Object;
 use store::Store;
 
-/// Puts the events from a place on into a room, and tells how many they are.
+/// Puts the events from a place on into a room, and says how many they are.
 pub(crate) fn events(
     store: &Store<Object>,
     from: u64,
@@ -35,7 +35,7 @@ pub(crate) fn forgotten_count(store: &Store<Object>) -> u64
     u64::from(store.event_count()) - store.history().len() as u64
 }
 
-/// Puts the events from a place on into a room, and tells how many they are.
+/// Puts the events from a place on into a room, and says how many they are.
 fn fill(events: &[Event], from: usize, room: &mut [ColockEvent]) -> usize
     ensures filled { IsFilled events.now from room.old room.new }
     ensures counted { result ≡ min (length room.old) (length events.now - from) }

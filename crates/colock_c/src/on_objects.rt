@@ -18,7 +18,7 @@ use std::mem;
 use std::sync::Arc;
 use table_checker::CheckedType;
 
-/// Another object, of this type, behind those of which the store will be made.
+/// Another object, of this type, after those of which the store will be made.
 pub(crate) fn add_object(alloc: Global, held: &mut Held, of: &Held) -> Code
     ensures adds { (ms : List Meaning) (c : Checked) → objects_at (Some held.old) ≡ Some ms → type_at (Some of.now) ≡ Some c → Adds ms c (number result) (Some held.new) }
     ensures no_objects { objects_at (Some held.old) ≡ None → (number result ≡ number Code.NotHeld) × (held.new ≡ held.old) }

@@ -1,23 +1,22 @@
-//! The calls of a store, told by codes.
+//! The calls of a store, answered by codes.
 
 ghost use Rattle.std.specs.Prelude.{◌≡◌, ◌⊎◌, ◌≢◌, ◌<◌, ◌++◌, ℕ, List, false, length, slice_get, Some, IfNone, IfSome};
-ghost use Rattle.serial_order.specs.History.{begins, seen, is_open};
+ghost use Rattle.serial_order.specs.History.{begins, summary, is_open};
 ghost use Rattle.serial_order.specs.Replay.{call_at, open_count};
 ghost use Rattle.serial_order.specs.declared.command.Command.TheVariants as command;
 ghost use Rattle.store_laws.specs.Stored.{objects};
-ghost use Rattle.colock_c.specs.Calls.{IsAnswered, IsDone, IsEnded, IsKept, IsUnnumbered};
+ghost use Rattle.colock_c.specs.Calls.{IsAnswered, IsDone, IsEnded, IsKeptStateOf, IsUnnumbered};
 ghost use Rattle.colock_c.specs.Codes.{number};
 
 use crate::code::{Code, code_of};
 use crate::words::{ColockAnswer, answer_words};
 use objects::Object;
-use serial_order::stands_as_read;
 use store::Store;
 
 /// The number of a transaction that began, as the store has it.
 pub(crate) fn begun_at(store: &Store<Object>, transaction: u64) -> Option<u32>
     ensures same { IfSome result (λ t. t ≡ transaction) }
-    ensures closed { IfNone result (is_open (seen store.now.history) transaction ≡ false) }
+    ensures closed { IfNone result (is_open (summary store.now.history) transaction ≡ false) }
 {
     if transaction < u64::from(store.begun()) {
         Some(transaction as u32)
@@ -121,7 +120,6 @@ pub(crate) fn rollback(
 ) -> Code
     ensures { IsDone store.old worker (command.Rollback transaction operations) (number result) store.new }
 {
-    stands_as_read();
     let Some(t) = begun_at(store, transaction) else {
         return Code::NotOpen;
     };
@@ -132,7 +130,7 @@ pub(crate) fn rollback(
     }
 }
 
-/// How many operations a rollback of so many is of: none where no transaction has so many, which is
+/// How many operations a rollback of this many is of: none where no transaction has this many, which is
 /// refused as well.
 fn struck_of(store: &Store<Object>, operations: u64) -> u32
     ensures { (result ≡ operations) ⊎ ((result ≡ 0) × (length store.now.history < operations)) }
@@ -145,7 +143,7 @@ fn struck_of(store: &Store<Object>, operations: u64) -> u32
 }
 
 pub(crate) fn kept(store: &Store<Object>, x: u32, state: &mut u64) -> Code
-    ensures kept { IsKept store.now x (number result) state.new }
+    ensures kept { IsKeptStateOf store.now x (number result) state.new }
     ensures rest { number result ≢ 0 → state.new ≡ state.old }
 {
     match store.kept(x) {

@@ -11,7 +11,7 @@ use crate::code::Code;
 use table_checker::CheckedType;
 use type_table::{Name, Op, TypeTable};
 
-/// Puts a name at the front of a room, and tells how many bytes it has.
+/// Puts a name at the front of a room, and says how many bytes it has.
 pub(crate) fn put_name(name: Name, room: &mut [u8], count: &mut u64) -> Code
     ensures put { IsPut name room.old (number result) room.new count.new }
     ensures rest { number result ≢ 0 → (room.new ≡ room.old) × (count.new ≡ count.old) }
@@ -79,7 +79,7 @@ pub(crate) fn put_reply(checked: &CheckedType, k: u64, room: &mut [u8], count: &
     put_found(reply_of(checked, k), room, count)
 }
 
-/// Tells the state to which an operation leads from a state.
+/// Gives the state to which an operation leads from a state.
 pub(crate) fn step(table: &TypeTable, s: u64, k: u64, to: &mut u64) -> Code
     ensures step { IsStep table.now s k (number result) to.new }
     ensures rest { number result ≢ 0 → to.new ≡ to.old }
@@ -99,7 +99,7 @@ pub(crate) fn step(table: &TypeTable, s: u64, k: u64, to: &mut u64) -> Code
     }
 }
 
-/// Tells whether an operation that is requested conflicts with one that is held.
+/// Says whether an operation that is requested conflicts with one that is held.
 pub(crate) fn conflict(checked: &CheckedType, requested: u64, other: u64, told: &mut u32) -> Code
     ensures conflict { IsConflict checked.now requested other (number result) told.new }
     ensures rest { number result ≢ 0 → told.new ≡ told.old }

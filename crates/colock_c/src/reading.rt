@@ -27,7 +27,7 @@ pub(crate) fn file_of(alloc: Global, text: &[u8], fault: &mut ColockFault) -> Re
     }
 }
 
-/// The code of a text's fault, which is told unless memory was refused.
+/// The code of a text's fault, which is given unless memory was refused.
 fn fault_code(why: TextFault, fault: &mut ColockFault) -> Code
     ensures { ((result ≡ Code.NoMemory) × (fault.new ≡ fault.old)) ⊎ ((why.kind ≡ FaultKind.NoMemory → ⊥) × (result ≡ Code.BadText) × (fault.new ≡ fault_words why)) }
 {

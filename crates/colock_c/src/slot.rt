@@ -18,15 +18,6 @@ pub struct Slot {
 }
 
 impl Slot {
-    /// One that holds nothing, as C makes it of zeros.
-    #[cfg(test)]
-    pub fn new(alloc: Global) -> Slot {
-        Slot {
-            live: false,
-            handle: Handle::empty(alloc),
-        }
-    }
-
     /// Whether it holds anything.
     pub fn is_open(&mut self) -> bool
         ensures said { IsTrue result ↔ IsSome self.old.handle.held }

@@ -17,7 +17,7 @@ use crate::slot::Slot;
 use crate::words::ColockAnswer;
 use std::alloc::Global;
 
-/// Begins a transaction, as a worker, and tells its number: `TooManyOpen`, `HistoryFull` or `NoMemory`.
+/// Begins a transaction, as a worker, and gives its number: `TooManyOpen`, `HistoryFull` or `NoMemory`.
 #[unsafe(no_mangle)]
 pub extern "C" fn colock_begin(
     alloc: Global,
@@ -37,7 +37,7 @@ pub extern "C" fn colock_begin(
     code.number()
 }
 
-/// Calls, for a transaction, the call with this name at object x, and tells the answer: `NotOpen`,
+/// Calls, for a transaction, the call with this name at object x, and gives the answer: `NotOpen`,
 /// `NoObject`, `NoCall`, `HistoryFull` or `NoMemory`.
 #[unsafe(no_mangle)]
 pub extern "C" fn colock_call(
@@ -152,7 +152,7 @@ pub extern "C" fn colock_would_op(
     code.number()
 }
 
-/// Commits a transaction, as a worker: `NotOpen`. It never wants memory.
+/// Commits a transaction, as a worker: `NotOpen`. It never takes memory.
 #[unsafe(no_mangle)]
 pub extern "C" fn colock_commit(alloc: Global, slot: &mut Slot, worker: u8, transaction: u64) -> u32
     ensures { Ends slot.old.handle.held worker (command.Commit transaction) result slot.new.handle.held }
@@ -165,7 +165,7 @@ pub extern "C" fn colock_commit(alloc: Global, slot: &mut Slot, worker: u8, tran
     code.number()
 }
 
-/// Aborts a transaction, as a worker: `NotOpen`. It never wants memory.
+/// Aborts a transaction, as a worker: `NotOpen`. It never takes memory.
 #[unsafe(no_mangle)]
 pub extern "C" fn colock_abort(alloc: Global, slot: &mut Slot, worker: u8, transaction: u64) -> u32
     ensures { Ends slot.old.handle.held worker (command.Abort transaction) result slot.new.handle.held }

@@ -12,6 +12,9 @@ ghost use Rattle.table_maker.specs.Amounts.{AreAmounts};
 ghost use Rattle.table_maker.specs.Counter.{counter, CounterFits};
 ghost use Rattle.table_maker.specs.Semiqueue.{semiqueue, SemiqueueFits};
 ghost use Rattle.table_maker.specs.Set.{set, SetFits};
+ghost use Rattle.table_families.specs.Queue.{queue, QueueFits};
+ghost use Rattle.table_families.specs.Seats.{seats, AreSeats, SeatsFit};
+ghost use Rattle.table_families.specs.Stock.{stock, StockFits};
 ghost use Rattle.type_table.specs.declared.kind.Kind.{Kind};
 ghost use Rattle.colock_c.specs.Codes.{number};
 ghost use Rattle.colock_c.specs.Families.{AreSemiqueueWords, AreSetWords, HasNone, IsOfFamily};
@@ -20,7 +23,10 @@ ghost use Rattle.colock_c.specs.Words.{kind_at};
 
 use crate::code::Code;
 use crate::slot::Slot;
-use crate::typing::{hold_account, hold_counter, hold_semiqueue, hold_set, hold_tabled, hold_text};
+use crate::typing::{
+    hold_account, hold_counter, hold_queue, hold_seats, hold_semiqueue, hold_set, hold_stock,
+    hold_tabled, hold_text,
+};
 use crate::words::{ColockFault, kind_at};
 use std::alloc::Global;
 
@@ -121,6 +127,31 @@ pub extern "C" fn colock_type_counter(
     hold_counter(alloc, slot, kind, cap, amounts, fault).number()
 }
 
+/// A stock: a number from 0 to `cap`, of which these amounts are given and taken. `BadParameter` or
+/// `TooLarge`.
+#[unsafe(no_mangle)]
+pub extern "C" fn colock_type_stock(
+    alloc: Global,
+    slot: &mut Slot,
+    kind: u32,
+    cap: u64,
+    amounts: &[u64],
+    fault: &mut ColockFault,
+) -> u32
+    ensures in_use { IsSome slot.old.handle.held → (result ≡ number Code.InUse) × (slot.new.handle.held ≡ slot.old.handle.held) × (fault.new ≡ fault.old) }
+    ensures no_kind { slot.old.handle.held ≡ None → kind_at kind ≡ None → (result ≡ number Code.BadKind) × (slot.new.handle.held ≡ None) × (fault.new ≡ fault.old) }
+    ensures made { (k : Kind) → slot.old.handle.held ≡ None → kind_at kind ≡ Some k
+        → IsMade (IsOfFamily (AreAmounts cap amounts.now) (StockFits amounts.now) (stock cap amounts.now)) (λ n words. HasNone (AreAmounts cap amounts.now) (StockFits amounts.now) n × (words ≡ fault.old)) k fault.old result fault.new slot.new.handle.held }
+{
+    if slot.is_open() {
+        return Code::InUse.number();
+    }
+    let Some(kind) = kind_at(kind) else {
+        return Code::BadKind.number();
+    };
+    hold_stock(alloc, slot, kind, cap, amounts, fault).number()
+}
+
 /// A set: each element, which is a word of the text, is in or out. `BadParameter` or `TooLarge`.
 #[unsafe(no_mangle)]
 pub extern "C" fn colock_type_set(
@@ -167,4 +198,52 @@ pub extern "C" fn colock_type_semiqueue(
         return Code::BadKind.number();
     };
     hold_semiqueue(alloc, slot, kind, elements, capacity, fault).number()
+}
+
+/// A queue: at most `capacity` items of the elements, which are the words of the text, first in, first out.
+/// `BadParameter` or `TooLarge`.
+#[unsafe(no_mangle)]
+pub extern "C" fn colock_type_queue(
+    alloc: Global,
+    slot: &mut Slot,
+    kind: u32,
+    elements: &[u8],
+    capacity: u64,
+    fault: &mut ColockFault,
+) -> u32
+    ensures in_use { IsSome slot.old.handle.held → (result ≡ number Code.InUse) × (slot.new.handle.held ≡ slot.old.handle.held) × (fault.new ≡ fault.old) }
+    ensures no_kind { slot.old.handle.held ≡ None → kind_at kind ≡ None → (result ≡ number Code.BadKind) × (slot.new.handle.held ≡ None) × (fault.new ≡ fault.old) }
+    ensures made { (k : Kind) → slot.old.handle.held ≡ None → kind_at kind ≡ Some k
+        → IsMade (IsOfFamily (AreSemiqueueWords elements.now capacity) (QueueFits (words_of elements.now) capacity) (queue (words_of elements.now) capacity)) (λ n words. HasNone (AreSemiqueueWords elements.now capacity) (QueueFits (words_of elements.now) capacity) n × (words ≡ fault.old)) k fault.old result fault.new slot.new.handle.held }
+{
+    if slot.is_open() {
+        return Code::InUse.number();
+    }
+    let Some(kind) = kind_at(kind) else {
+        return Code::BadKind.number();
+    };
+    hold_queue(alloc, slot, kind, elements, capacity, fault).number()
+}
+
+/// Seats: `count` of them, each free, held or booked. `BadParameter` or `TooLarge`.
+#[unsafe(no_mangle)]
+pub extern "C" fn colock_type_seats(
+    alloc: Global,
+    slot: &mut Slot,
+    kind: u32,
+    count: u64,
+    fault: &mut ColockFault,
+) -> u32
+    ensures in_use { IsSome slot.old.handle.held → (result ≡ number Code.InUse) × (slot.new.handle.held ≡ slot.old.handle.held) × (fault.new ≡ fault.old) }
+    ensures no_kind { slot.old.handle.held ≡ None → kind_at kind ≡ None → (result ≡ number Code.BadKind) × (slot.new.handle.held ≡ None) × (fault.new ≡ fault.old) }
+    ensures made { (k : Kind) → slot.old.handle.held ≡ None → kind_at kind ≡ Some k
+        → IsMade (IsOfFamily (AreSeats count) (SeatsFit count) (seats count)) (λ n words. HasNone (AreSeats count) (SeatsFit count) n × (words ≡ fault.old)) k fault.old result fault.new slot.new.handle.held }
+{
+    if slot.is_open() {
+        return Code::InUse.number();
+    }
+    let Some(kind) = kind_at(kind) else {
+        return Code::BadKind.number();
+    };
+    hold_seats(alloc, slot, kind, count, fault).number()
 }

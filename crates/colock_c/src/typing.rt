@@ -7,12 +7,17 @@ ghost use Rattle.table_maker.specs.Amounts.{AreAmounts};
 ghost use Rattle.table_maker.specs.Counter.{counter, CounterFits};
 ghost use Rattle.table_maker.specs.Semiqueue.{semiqueue, SemiqueueFits};
 ghost use Rattle.table_maker.specs.Set.{set, SetFits};
+ghost use Rattle.table_families.specs.Queue.{queue, QueueFits};
+ghost use Rattle.table_families.specs.Seats.{seats, AreSeats, SeatsFit};
+ghost use Rattle.table_families.specs.Stock.{stock, StockFits};
 ghost use Rattle.colock_c.specs.Codes.{number};
 ghost use Rattle.colock_c.specs.Families.{AreSemiqueueWords, AreSetWords, HasNone, IsOfFamily};
 ghost use Rattle.colock_c.specs.Types.{IsFaulty, IsFileOf, IsMade, IsTabledOf};
 
 use crate::code::Code;
-use crate::families::{account_file, counter_file, semiqueue_file, set_file};
+use crate::families::{
+    account_file, counter_file, queue_file, seats_file, semiqueue_file, set_file, stock_file,
+};
 use crate::holding::hold_type;
 use crate::reading::{file_of, tabled};
 use crate::slot::Slot;
@@ -92,6 +97,25 @@ pub(crate) fn hold_counter(
     }
 }
 
+/// The type of a stock.
+pub(crate) fn hold_stock(
+    alloc: Global,
+    slot: &mut Slot,
+    kind: Kind,
+    cap: u64,
+    amounts: &[u64],
+    fault: &mut ColockFault,
+) -> Code
+    requires { slot.old.handle.held ≡ None }
+    ensures { IsMade (IsOfFamily (AreAmounts cap amounts.now) (StockFits amounts.now) (stock cap amounts.now))
+        (λ n words. HasNone (AreAmounts cap amounts.now) (StockFits amounts.now) n × (words ≡ fault.old)) kind fault.old (number result) fault.new slot.new.handle.held }
+{
+    match stock_file(alloc, cap, amounts) {
+        Ok(file) => hold_type(alloc, slot, kind, file, fault),
+        Err(code) => code,
+    }
+}
+
 /// The type of a set.
 pub(crate) fn hold_set(
     alloc: Global,
@@ -124,6 +148,43 @@ pub(crate) fn hold_semiqueue(
         (λ n words. HasNone (AreSemiqueueWords elements.now capacity) (SemiqueueFits (words_of elements.now) capacity) n × (words ≡ fault.old)) kind fault.old (number result) fault.new slot.new.handle.held }
 {
     match semiqueue_file(alloc, elements, capacity) {
+        Ok(file) => hold_type(alloc, slot, kind, file, fault),
+        Err(code) => code,
+    }
+}
+
+/// The type of a queue.
+pub(crate) fn hold_queue(
+    alloc: Global,
+    slot: &mut Slot,
+    kind: Kind,
+    elements: &[u8],
+    capacity: u64,
+    fault: &mut ColockFault,
+) -> Code
+    requires { slot.old.handle.held ≡ None }
+    ensures { IsMade (IsOfFamily (AreSemiqueueWords elements.now capacity) (QueueFits (words_of elements.now) capacity) (queue (words_of elements.now) capacity))
+        (λ n words. HasNone (AreSemiqueueWords elements.now capacity) (QueueFits (words_of elements.now) capacity) n × (words ≡ fault.old)) kind fault.old (number result) fault.new slot.new.handle.held }
+{
+    match queue_file(alloc, elements, capacity) {
+        Ok(file) => hold_type(alloc, slot, kind, file, fault),
+        Err(code) => code,
+    }
+}
+
+/// The type of so many seats.
+pub(crate) fn hold_seats(
+    alloc: Global,
+    slot: &mut Slot,
+    kind: Kind,
+    count: u64,
+    fault: &mut ColockFault,
+) -> Code
+    requires { slot.old.handle.held ≡ None }
+    ensures { IsMade (IsOfFamily (AreSeats count) (SeatsFit count) (seats count))
+        (λ n words. HasNone (AreSeats count) (SeatsFit count) n × (words ≡ fault.old)) kind fault.old (number result) fault.new slot.new.handle.held }
+{
+    match seats_file(alloc, count) {
         Ok(file) => hold_type(alloc, slot, kind, file, fault),
         Err(code) => code,
     }

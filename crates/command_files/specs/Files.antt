@@ -17,6 +17,6 @@ pub record Describes (text : List ℕ) (file : TypeFile) : Type 0 where
 abbrev pub IsFaulty : List ℕ → Type 0
 IsFaulty text = (f : TextFault) × (outcome_of type_rules text ≡ Err f)
 
--- the file is the one that the text at a path describes, where the source tells the text
+-- the file is the one that the text at a path describes, where the source says the text
 abbrev pub IsFileAt : Option (List ℕ) → TypeFile → Type 0
 IsFileAt held file = IfSome held (λ text. Describes text file)

@@ -4,7 +4,7 @@ use Rattle.std.specs.Fmt.{decimal}
 use Rattle.table_checker.specs.declared.refusal.CheckRefusal.{CheckRefusal}
 use Rattle.table_checker.specs.declared.refusal.CheckRefusal.TheVariants.{InitialOutside, NotClosed, NotSimulation, NotCommuting, NotNumeric}
 
--- a number behind a space, and what follows
+-- a number after a space, and what follows
 abbrev pub spaced_number : ℕ → List ℕ → List ℕ
 spaced_number n rest = codes " " ++ (decimal n ++ rest)
 

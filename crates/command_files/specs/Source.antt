@@ -4,7 +4,7 @@ use Rattle.std.specs.declared.io.ErrorKind.TheVariants.{OutOfMemory}
 use Rattle.command_files.specs.declared.source.SourceFault.{SourceFault}
 use Rattle.command_files.specs.declared.source.SourceFault.TheVariants.{CannotRead, NoMemory}
 
--- want of memory is told apart from every other error
+-- refused memory is kept apart from every other error
 abbrev pub fault_of : ErrorKind → SourceFault
 fault_of OutOfMemory = NoMemory
 fault_of _ = CannotRead

@@ -16,7 +16,7 @@ use std::alloc::{AllocError, AllocFailed, Global};
 pub enum Fault<'a> {
     /// The words name no task.
     Usage {
-        /// What the user is told, with its line ends.
+        /// What is said to the user, with its line ends.
         text: String,
     },
     /// The text at a path has a fault, which isn't that memory was refused.

@@ -32,7 +32,7 @@ impl From<io::Error> for SourceFault {
 
 /// What gives the bytes of a file by its path.
 pub trait Source {
-    /// What is held at a path, where the source tells it; a source over the system's files doesn't.
+    /// What is held at a path, where the source says it; a source over the system's files doesn't.
     ghost holds: { Self → List ℕ → Option (List ℕ) } = { λ _ _. None };
 
     /// All bytes of the file.

@@ -18,7 +18,7 @@ use table_checker::CheckRefusal;
 use type_text::canonical_is_read;
 use type_text::worked::faults_of_the_counter;
 
-/// That memory was refused is told apart from every other error of the system.
+/// That memory was refused is kept apart from every other error of the system.
 pub fn errors_of_the_system()
     ensures memory { fault_of ErrorKind.OutOfMemory ≡ SourceFault.NoMemory }
     ensures missing { fault_of ErrorKind.NotFound ≡ SourceFault.CannotRead }

@@ -87,7 +87,7 @@ module _ (line : Line) (a : Audit) (says : SaysAudit line a) where
   values_plain plain seed = subst (All IsPlain) (sym (says.alone seed (λ is. cc))) (all_of_none IsPlain)
   values_plain plain following = subst (All IsPlain) (sym says.later) plain
 
-  -- no option is wanted
+  -- no option is required
   all_given : (s : Setting) → Offers audit_options s → is_wanted s ≡ true → some_given (values_of s line) ≡ true
   all_given workers offered wanted = absurd cc
   all_given tries offered wanted = absurd cc

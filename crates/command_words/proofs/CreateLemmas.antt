@@ -1,4 +1,4 @@
--- `create`: where the walk stands after its operands, and which operands it takes.
+-- `create`: where the walk is after its operands, and which operands it takes.
 use Rattle.std.proofs.Common.{◌≡◌, ◌∙◌, ◌++◌, ap, refl, sym, true, false, Bool, List, [], ◌∷◌, Bor}
 use Rattle.std.specs.Prelude.{codes, fold}
 use Rattle.clap.specs.Walk.{Row, Walk, arg_by_index, finished, idle, positional, settled, to_positional, with_default}
@@ -27,7 +27,7 @@ abbrev type_place : Text → Text → List Text × Text → Place
 type_place database objects p =
     record { rows = create_rows database objects p.0; pending = waits (codes "types") p.1; position = 3; waiting = positional }
 
--- where its walk stands after these operands
+-- where its walk is after these operands
 abbrev pub create_place : List Text → Place
 create_place [] = start
 create_place (database ∷ []) = record { rows = []; pending = waits (codes "database") database; position = 2; waiting = idle }
@@ -113,7 +113,7 @@ create_ends : (listed : Bor (List (Bor Text))) (database objects type : Text) (t
 unfolding clap_on_literals
 create_ends listed database objects type types = ap (row_faults listed) (types_settled listed database objects type types)
 
--- no fault comes of types behind DATABASE, OBJECTS and a type
+-- no fault comes of types after DATABASE, OBJECTS and a type
 types_pass : (listed : Bor (List (Bor Text))) (database objects type : Text) (before rest : List Text)
     → Passes (create_leaf listed) create_place CreateTook (create_takes listed) (database ∷ objects ∷ type ∷ before) rest
 types_pass listed database objects type before [] = create_ends listed database objects type before

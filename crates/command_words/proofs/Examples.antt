@@ -50,7 +50,7 @@ serves = (
   },
 )
 
--- its options stand anywhere, and a path that begins with a hyphen follows `--`
+-- its options may be anywhere, and a path that begins with a hyphen follows `--`
 serves_fast : AskFor (codes "serve" ∷ codes "--drain" ∷ codes "7" ∷ codes "--archive" ∷ codes "old" ∷ codes "--" ∷ codes "-a.db" ∷ codes "--fast" ∷ [])
     (serve (record { database = codes "-a.db"; fast = true; archive = Some (codes "old"); drain = 7 }))
 serves_fast = (
@@ -112,7 +112,7 @@ no_histories a path (whole, (line, are, says)) = by_line line (ap behind are) sa
     by_line (joined seed text rest) is clear = omega (arith, ap letter is)
     by_line (joined following text rest) is clear = omega (arith, ap letter is)
 
--- the histories that follow are told from the types by `--then`, and may come in either form
+-- the histories that follow are kept apart from the types by `--then`, and may come in either form
 abbrev audit_line : Line
 audit_line = apart following (codes "b.history") (operand (codes "a.history") (joined following (codes "c.history") (operand (codes "a.type") done)))
 
@@ -144,7 +144,7 @@ audits = (
 no_seed : (a : Audit) → SaysAudit (joined seed (codes "7") audit_line) a → ⊥
 no_seed a says = let none = says.alone seed (λ is. cc) in cc
 
--- options stand anywhere, in either form, and `--tries` may be left out
+-- options may be anywhere, in either form, and `--tries` may be left out
 works : AskFor (codes "work" ∷ codes "a.jobs" ∷ codes "--workers" ∷ codes "2" ∷ codes "a.type" ∷ codes "b.type" ∷ [])
     (work (record { jobs = codes "a.jobs"; types = codes "a.type" ∷ codes "b.type" ∷ []; workers = 2; tries = 3; seed = None }))
 works = (
@@ -163,7 +163,7 @@ works = (
   ),
 )
 
--- a schedule is drawn from the seed, and behind `--` all words are operands
+-- a schedule is drawn from the seed, and after `--` all words are operands
 stresses : AskFor (codes "stress" ∷ codes "--tries=1" ∷ codes "--seed" ∷ codes "0" ∷ codes "--workers=+16" ∷ codes "--" ∷ codes "-j" ∷ codes "--seed" ∷ [])
     (work (record { jobs = codes "-j"; types = codes "--seed" ∷ []; workers = 16; tries = 1; seed = Some 0 }))
 stresses = (
@@ -226,3 +226,5 @@ whole_lines topic.Stress = refl
 whole_lines topic.Create = refl
 whole_lines topic.Serve = refl
 whole_lines topic.History = refl
+whole_lines topic.Help = refl
+whole_lines topic.Faults = refl

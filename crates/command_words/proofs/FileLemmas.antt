@@ -1,4 +1,4 @@
--- The commands over one file: where the walk stands after their operands, and which operands they take.
+-- The commands over one file: where the walk is after their operands, and which operands they take.
 use Rattle.std.proofs.Common.{◌≡◌, ◌++◌, refl, true, false, Bool, List, [], ◌∷◌, Bor}
 use Rattle.std.specs.Prelude.{codes}
 use Rattle.clap.specs.Walk.{Row, arg_by_index, finished, idle, to_positional}
@@ -16,7 +16,7 @@ use Rattle.command_words.proofs.LeafLemmas.{IsBetween, Passes, Place, Takes, at,
 abbrev pub file_leaf : Bor (List (Bor Text)) → Text → Shape
 file_leaf listed name = leaf_of (parser.Names listed) (file_app name)
 
--- where its walk stands after these operands
+-- where its walk is after these operands
 abbrev pub file_place : List Text → Place
 file_place [] = start
 file_place (path ∷ rest) = record { rows = []; pending = waits (codes "path") path; position = 2; waiting = idle }

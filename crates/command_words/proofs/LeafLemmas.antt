@@ -12,7 +12,7 @@ use Rattle.command_words.specs.Lines.{IsPlain}
 use Rattle.command_words.specs.Words.{Text, without_dashes}
 use Rattle.command_words.proofs.OptionLemmas.{IsFree, RefusesOptions, by_test, holding, no_option, or_else_none}
 
--- ---- where the walk stands
+-- ---- where the walk is
 
 -- what is held between two words, which positional's turn it is, and what waits
 pub record Place : Type 0 where
@@ -76,7 +76,7 @@ plain_reads s p between [] plain = record { after = simp (between.nameless [], b
 plain_reads s p between (x ∷ xs) plain =
     record { after = simp (plain, between.nameless (x ∷ xs), between.free (x ∷ xs) (held_at p)); fault = simp (plain, between.nameless (x ∷ xs), between.free (x ∷ xs) (held_at p)) }
 
--- `--` alone moves the walk behind the first `--`
+-- `--` alone moves the walk past the first `--`
 pub dashes_pass : (s : Shape) (p : Place) → IsBetween s p → walked s.rules [] (at false p) (codes "--") ≡ at true p
 unfolding walked
 dashes_pass s p between = simp (between.nameless (codes "--"))
@@ -111,7 +111,7 @@ one_word s w word rest none =
 
 -- ---- operands
 
--- a subcommand by its operands: where the walk stands after them, and what holds of operands that were taken
+-- a subcommand by its operands: where the walk is after them, and what holds of operands that were taken
 pub record Takes (s : Shape) (place : List Text → Place) (AreTaken : List Text → Type 0) : Type 0 where
   pub refuses : RefusesOptions s.rules s.args_override_self
   pub between : (operands : List Text) → IsBetween s (place operands)

@@ -19,7 +19,7 @@ abbrev pub last_of : Text → List Text → List Text × Text
 last_of x [] = ([], x)
 last_of x (y ∷ ys) = (x ∷ (last_of y ys).0, (last_of y ys).1)
 
--- the last element is the one that was put behind
+-- the last element is the one that was put last
 pub last_added : (x : Text) (ys : List Text) (word : Text) → last_of x (ys ++ word ∷ []) ≡ (x ∷ ys, word)
 last_added x [] word = refl
 last_added x (y ∷ ys) word = ap (λ (p : List Text × Text). (x ∷ p.0, p.1)) (last_added y ys word)

@@ -22,7 +22,7 @@ store_is options rows t path type types end are = record {
   types = ap (λ (o : Option Row). unwrap_or (option_map (λ (r : Row). r.values) o) []) (end.types ∙ ap types_row are);
 }
 
--- the words are those of a line, which gives all that is wanted, and the rows are those of what it gives
+-- the words are those of a line, which gives all that is required, and the rows are those of what it gives
 pub record Answered (options : List Setting) (rows : List Row) (words : List Text) : Type 0 where
   pub line : Line
   pub words_are : line_words line ≡ words

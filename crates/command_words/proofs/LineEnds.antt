@@ -81,7 +81,7 @@ abbrev pub tries_row : List Text → Option Row
 tries_row [] = Some (record { id = setting_name tries; values = codes "3" ∷ []; count = None; source = Some DefaultValue; reading = WithoutMinus })
 tries_row (value ∷ values) = given_row (setting_name tries) WithoutMinus (value ∷ values)
 
--- its default stands where it wasn't given
+-- its default holds where it wasn't given
 tries_added : (rows : List Row) (values : List Text) → HasRowOf rows tries values → row_at (setting_name tries) (with_default rows (setting_rule tries)) ≡ tries_row values
 tries_added rows [] none =
     let lacks : has_row (setting_name tries) rows ≡ false = has_row_at (setting_name tries) rows ∙ ap (λ (o : Option Row). is_some o) none in
@@ -162,7 +162,7 @@ is_wanted tries = false
 is_wanted seed = true
 is_wanted following = false
 
--- an option that is wanted isn't there, by which of them are
+-- an option that is required isn't there, by which of them are
 abbrev lacks_option : List Setting → (Setting → Bool) → Bool
 lacks_option [] given = false
 lacks_option (s ∷ rest) given = (is_wanted s && not (given s)) || lacks_option rest given
@@ -186,7 +186,7 @@ options_checked : (options : List Setting) (rows : List Row) (given : Setting �
 options_checked [] rows given is = refl
 options_checked (s ∷ rest) rows given is = ap₂ ◌||◌ (one_checked s rows given is) (options_checked rest rows given is)
 
--- something that is wanted isn't there
+-- something that is required isn't there
 abbrev lacks_some : List Setting → Bool → Bool → (Setting → Bool) → Bool
 lacks_some options p t given = not p || (not t || lacks_option options given)
 
@@ -203,7 +203,7 @@ types_are : (rows : List Row) (operands : List Text) → row_at (codes "types") 
 types_are rows [] is = given_is (codes "types") AsWritten rows [] is
 types_are rows (path ∷ types) is = given_is (codes "types") AsWritten rows types is
 
--- and so are the options that are wanted
+-- and so are the options that are required
 wanted_are : (options : List Setting) (rows : List Row) (t : Tally) → Finishes options rows t → IsGivenAs rows (λ s. some_given (t.values s))
 wanted_are options rows t end workers wanted = given_is (setting_name workers) (reading_by workers) rows (t.values workers) (end.settings workers refl)
 wanted_are options rows t end tries wanted = absurd cc
@@ -252,7 +252,7 @@ module _ (command : Shape) (options : List Setting) (built : TakesLine command o
 
 -- ---- what is there
 
--- all that is wanted was given
+-- all that is required was given
 pub record IsComplete (options : List Setting) (t : Tally) : Type 0 where
   pub path : Text
   pub type : Text
@@ -265,7 +265,7 @@ none_missing : (b : Bool) → missing b ≡ [] → b ≡ false
 none_missing true none = absurd (never MissingRequiredArgument [] none)
 none_missing false none = refl
 
--- nor is an option that is wanted
+-- nor is an option that is required
 none_lacks : (options : List Setting) (given : Setting → Bool) → lacks_option options given ≡ false → (s : Setting) → Offers options s → is_wanted s ≡ true → given s ≡ true
 none_lacks [] given none s offered wanted = absurd cc
 none_lacks (o ∷ rest) given none s offered wanted =

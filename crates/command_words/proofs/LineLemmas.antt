@@ -56,14 +56,14 @@ module _ (command : Shape) (options : List Setting) (built : TakesLine command o
   abbrev pub settles : Place → Kinds
   settles p = settle_fault command.rules command.args_override_self (held_at p)
 
-  -- the walk stands at the place, after this was given
-  pub record Stands (p : Place) (t : Tally) : Type 0 where
+  -- the walk has reached the place, after this was given
+  pub record HasReached (p : Place) (t : Tally) : Type 0 where
     pub between : IsBetween command p
     pub position : p.position ≡ position_of t.operands
     pub tallied : settles p ≡ [] → Tallies options (rows_at p) t
 
   -- where the walk begins, nothing was given
-  pub begins : Stands start nothing_given
+  pub begins : HasReached start nothing_given
   begins = record {
     between = record { free = λ _ _. refl; nameless = λ _. refl };
     position = refl;
@@ -111,26 +111,26 @@ module _ (command : Shape) (options : List Setting) (built : TakesLine command o
   operand_moves p (path ∷ types) word false is = simp (is, types_by_index command options built, no_choice) refl
 
   -- so what was given has one operand more
-  pub operand_stands : (p : Place) (t : Tally) (word : Text) → Stands p t → settles p ≡ [] → Stands (after_operand p t.operands word) (with_operand t word)
-  operand_stands p t word stands clear = by_operands t.operands refl
+  pub operand_reached : (p : Place) (t : Tally) (word : Text) → HasReached p t → settles p ≡ [] → HasReached (after_operand p t.operands word) (with_operand t word)
+  operand_reached p t word reached clear = by_operands t.operands refl
     where
-      by_operands : (operands : List Text) → t.operands ≡ operands → Stands (after_operand p operands word) (with_operand t word)
+      by_operands : (operands : List Text) → t.operands ≡ operands → HasReached (after_operand p operands word) (with_operand t word)
       by_operands [] first = record {
         between = record { free = λ _ _. refl; nameless = λ _. refl };
         position = sym (ap (λ (os : List Text). position_of (os ++ word ∷ [])) first);
         tallied = λ _. subst (λ (o : Option Rule). Tallies options (used_by_id o (word ∷ []) (rows_at p)) (with_operand t word)) (sym (path_by_id command options built))
-            (path_used options (rows_at p) t word first (stands.tallied clear));
+            (path_used options (rows_at p) t word first (reached.tallied clear));
       }
       by_operands (path ∷ types) others = record {
         between = record { free = λ _ _. refl; nameless = λ _. refl };
         position = sym (ap (λ (os : List Text). position_of (os ++ word ∷ [])) others);
         tallied = λ _. subst (λ (o : Option Rule). Tallies options (used_by_id o (word ∷ []) (rows_at p)) (with_operand t word)) (sym (types_by_id command options built))
-            (types_used options (rows_at p) t word path types others (stands.tallied clear));
+            (types_used options (rows_at p) t word path types others (reached.tallied clear));
       }
 
   -- ---- where the walk ends
 
-  -- behind what was given before, these operands and values were given, and no fault comes of the end
+  -- after what was given before, these operands and values were given, and no fault comes of the end
   pub record Ends (t : Tally) (h : Held) (operands : List Text) (values : Setting → List Text) : Type 0 where
     pub total : Tally
     pub operands_are : total.operands ≡ t.operands ++ operands
@@ -139,26 +139,26 @@ module _ (command : Shape) (options : List Setting) (built : TakesLine command o
     pub fault : ends command h ≡ []
 
   -- at the end nothing more is given
-  ends_here : (p : Place) (t : Tally) → Stands p t → ends command (held_at p) ≡ [] → Ends t (held_at p) [] (λ _. [])
-  ends_here p t stands none = record {
+  ends_here : (p : Place) (t : Tally) → HasReached p t → ends command (held_at p) ≡ [] → Ends t (held_at p) [] (λ _. [])
+  ends_here p t reached none = record {
     total = t;
     operands_are = sym (append-nil t.operands);
     values_are = λ s. sym (append-nil (t.values s));
-    tallied = stands.tallied (or_else_none (settles p) _ none).0;
+    tallied = reached.tallied (or_else_none (settles p) _ none).0;
     fault = none;
   }
 
   -- one operand, and then the others
-  operand_then : (b : Bool) (p : Place) (t : Tally) (word : Text) (rest operands : List Text) (values : Setting → List Text) → Stands p t
+  operand_then : (b : Bool) (p : Place) (t : Tally) (word : Text) (rest operands : List Text) (values : Setting → List Text) → HasReached p t
       → faults command (at b p) (word ∷ rest) ≡ [] → Reads command b p word
-      → (Stands (after_operand p t.operands word) (with_operand t word) → faults command (at b (after_operand p t.operands word)) rest ≡ []
+      → (HasReached (after_operand p t.operands word) (with_operand t word) → faults command (at b (after_operand p t.operands word)) rest ≡ []
       → Ends (with_operand t word) (end_of command (at b (after_operand p t.operands word)) rest).held operands values)
       → Ends t (end_of command (walked command.rules [] (at b p) word) rest).held (word ∷ operands) values
-  operand_then b p t word rest operands values stands none reads others =
+  operand_then b p t word rest operands values reached none reads others =
       let parts = one_word command (at b p) word rest none in
-      let clear = sym (position_fault p t.operands (held_at p) stands.position) ∙ sym reads.fault ∙ parts.0 in
-      let moved = reads.after ∙ operand_moves p t.operands word b stands.position in
-      let ended = others (operand_stands p t word stands clear) (subst (λ (w : Walk). faults command w rest ≡ []) moved parts.1) in
+      let clear = sym (position_fault p t.operands (held_at p) reached.position) ∙ sym reads.fault ∙ parts.0 in
+      let moved = reads.after ∙ operand_moves p t.operands word b reached.position in
+      let ended = others (operand_reached p t word reached clear) (subst (λ (w : Walk). faults command w rest ≡ []) moved parts.1) in
       subst (λ (w : Walk). Ends t (end_of command w rest).held (word ∷ operands) values) (sym moved) (record {
         total = ended.total;
         operands_are = ended.operands_are ∙ append_assoc t.operands (word ∷ []) operands;
@@ -167,13 +167,13 @@ module _ (command : Shape) (options : List Setting) (built : TakesLine command o
         fault = ended.fault;
       })
 
-  -- all words behind `--` are operands
-  after_all : (p : Place) (t : Tally) (rest : List Text) → Stands p t → faults command (at true p) rest ≡ []
+  -- all words after `--` are operands
+  after_all : (p : Place) (t : Tally) (rest : List Text) → HasReached p t → faults command (at true p) rest ≡ []
       → Ends t (end_of command (at true p) rest).held rest (λ _. [])
   unfolding walk_fault
-  after_all p t [] stands none = ends_here p t stands none
-  after_all p t (word ∷ rest) stands none =
-      operand_then true p t word rest rest (λ _. []) stands none (after_reads command p word)
+  after_all p t [] reached none = ends_here p t reached none
+  after_all p t (word ∷ rest) reached none =
+      operand_then true p t word rest rest (λ _. []) reached none (after_reads command p word)
       (λ next clear. after_all (after_operand p t.operands word) (with_operand t word) rest next clear)
 
   -- ---- options
@@ -189,28 +189,28 @@ module _ (command : Shape) (options : List Setting) (built : TakesLine command o
       ap (λ (o : Option Rule). option_map_or (λ (a : Rule). use_fault command.args_override_self a (text ∷ []) (rows_at p)) o []) (setting_by_id command options built s offered)
 
   -- a value that comes to no fault is one more of the option's
-  value_given : (p : Place) (t : Tally) (s : Setting) (text : Text) → Offers options s → Stands p t → settles p ≡ []
+  value_given : (p : Place) (t : Tally) (s : Setting) (text : Text) → Offers options s → HasReached p t → settles p ≡ []
       → use_fault command.args_override_self (setting_rule s) (text ∷ []) (rows_at p) ≡ []
       → Tallies options (used (setting_rule s) (text ∷ []) (rows_at p)) (with_value t s text)
-  value_given p t s text offered stands clear none =
+  value_given p t s text offered reached clear none =
       value_used options (rows_at p) t s text offered
-      (value_clear s text (rows_at p) (t.values s) ((stands.tallied clear).settings s) (subst (λ (again : Bool). use_fault again (setting_rule s) (text ∷ []) (rows_at p) ≡ []) built.again none))
-      (stands.tallied clear)
+      (value_clear s text (rows_at p) (t.values s) ((reached.tallied clear).settings s) (subst (λ (again : Bool). use_fault again (setting_rule s) (text ∷ []) (rows_at p) ≡ []) built.again none))
+      (reached.tallied clear)
 
-  pub apart_stands : (p : Place) (t : Tally) (s : Setting) (text : Text) → Offers options s → Stands p t → settles p ≡ [] → Stands (after_apart p s text) (with_value t s text)
-  apart_stands p t s text offered stands clear = record {
+  pub apart_reached : (p : Place) (t : Tally) (s : Setting) (text : Text) → Offers options s → HasReached p t → settles p ≡ [] → HasReached (after_apart p s text) (with_value t s text)
+  apart_reached p t s text offered reached clear = record {
     between = record { free = λ _ _. refl; nameless = λ _. refl };
-    position = stands.position;
+    position = reached.position;
     tallied = λ none. subst (λ (rows : List Row). Tallies options rows (with_value t s text)) (sym (value_rows p s text offered))
-        (value_given p t s text offered stands clear (sym (value_settles p s text offered) ∙ none));
+        (value_given p t s text offered reached clear (sym (value_settles p s text offered) ∙ none));
   }
 
-  pub joined_stands : (p : Place) (t : Tally) (s : Setting) (text : Text) → Offers options s → Stands p t → settles p ≡ []
-      → use_fault command.args_override_self (setting_rule s) (text ∷ []) (rows_at p) ≡ [] → Stands (after_joined p s text) (with_value t s text)
-  joined_stands p t s text offered stands clear none = record {
+  pub joined_reached : (p : Place) (t : Tally) (s : Setting) (text : Text) → Offers options s → HasReached p t → settles p ≡ []
+      → use_fault command.args_override_self (setting_rule s) (text ∷ []) (rows_at p) ≡ [] → HasReached (after_joined p s text) (with_value t s text)
+  joined_reached p t s text offered reached clear none = record {
     between = record { free = λ _ _. refl; nameless = λ _. refl };
-    position = stands.position;
-    tallied = λ _. value_given p t s text offered stands clear none;
+    position = reached.position;
+    tallied = λ _. value_given p t s text offered reached clear none;
   }
 
   -- the fault of a word that is a long option is that of the option
@@ -279,12 +279,12 @@ module _ (command : Shape) (options : List Setting) (built : TakesLine command o
       by_rule seed none = never InvalidValue [] none
       by_rule following none = never InvalidValue [] none
 
-  -- so none comes behind `--`
-  no_dashes : (p : Place) (t : Tally) (s : Setting) (rest : List Text) → Offers options s → Stands p t → faults command (waiting_at true p s) rest ≡ [] → ⊥
+  -- so none comes after `--`
+  no_dashes : (p : Place) (t : Tally) (s : Setting) (rest : List Text) → Offers options s → HasReached p t → faults command (waiting_at true p s) rest ≡ [] → ⊥
   unfolding walk_fault
-  no_dashes p t s [] offered stands none = unsettled p s offered (or_else_none (settle_fault command.rules command.args_override_self (waiting_held p s)) _ none).0
-  no_dashes p t s (word ∷ rest) offered stands none =
-      unsettled p s offered (sym (position_fault p t.operands (waiting_held p s) stands.position) ∙ (one_word command (waiting_at true p s) word rest none).0)
+  no_dashes p t s [] offered reached none = unsettled p s offered (or_else_none (settle_fault command.rules command.args_override_self (waiting_held p s)) _ none).0
+  no_dashes p t s (word ∷ rest) offered reached none =
+      unsettled p s offered (sym (position_fault p t.operands (waiting_held p s) reached.position) ∙ (one_word command (waiting_at true p s) word rest none).0)
 
   -- the next word is the value, where it comes to no fault
   pub value_moves : (p : Place) (s : Setting) (text : Text) → Offers options s → bytes_eq text (codes "--") ≡ false
@@ -315,7 +315,7 @@ module _ (command : Shape) (options : List Setting) (built : TakesLine command o
 
   -- ---- lines
 
-  -- the words are those of a line, and its operands and values were given behind what was given before
+  -- the words are those of a line, and its operands and values were given after what was given before
   pub record Found (t : Tally) (h : Held) (words : List Text) : Type 0 where
     pub line : Line
     pub words_are : line_words line ≡ words
@@ -332,10 +332,10 @@ module _ (command : Shape) (options : List Setting) (built : TakesLine command o
 
   -- from a place between two words, and from an option that waits
   abbrev FindsLine : List Text → Type 0
-  FindsLine rest = (p : Place) (t : Tally) → Stands p t → faults command (at false p) rest ≡ [] → Found t (end_of command (at false p) rest).held rest
+  FindsLine rest = (p : Place) (t : Tally) → HasReached p t → faults command (at false p) rest ≡ [] → Found t (end_of command (at false p) rest).held rest
 
   abbrev FindsValue : List Text → Type 0
-  FindsValue rest = (p : Place) (t : Tally) (s : Setting) → Offers options s → Stands p t → settles p ≡ [] → faults command (waiting_at false p s) rest ≡ []
+  FindsValue rest = (p : Place) (t : Tally) (s : Setting) → Offers options s → HasReached p t → settles p ≡ [] → faults command (waiting_at false p s) rest ≡ []
       → FoundValue t s (end_of command (waiting_at false p s) rest).held rest
 
   -- a value that joins those before it, and the others
@@ -350,12 +350,12 @@ module _ (command : Shape) (options : List Setting) (built : TakesLine command o
   }
 
   -- past `--`
-  past_dashes : (p : Place) (t : Tally) (rest : List Text) → Stands p t → faults command (at false p) (codes "--" ∷ rest) ≡ []
+  past_dashes : (p : Place) (t : Tally) (rest : List Text) → HasReached p t → faults command (at false p) (codes "--" ∷ rest) ≡ []
       → Found t (end_of command (at false p) (codes "--" ∷ rest)).held (codes "--" ∷ rest)
-  past_dashes p t rest stands none =
-      let passed = dashes_pass command p stands.between in
+  past_dashes p t rest reached none =
+      let passed = dashes_pass command p reached.between in
       let clear = (one_word command (at false p) (codes "--") rest none).1 in
-      let ended = after_all p t rest stands (subst (λ (w : Walk). faults command w rest ≡ []) passed clear) in
+      let ended = after_all p t rest reached (subst (λ (w : Walk). faults command w rest ≡ []) passed clear) in
       record {
         line = dashes rest;
         words_are = refl;
@@ -364,39 +364,39 @@ module _ (command : Shape) (options : List Setting) (built : TakesLine command o
       }
 
   -- past an operand
-  past_operand : (p : Place) (t : Tally) (word : Text) (rest : List Text) → FindsLine rest → Stands p t → bytes_eq word (codes "--") ≡ false → long_of word ≡ None
+  past_operand : (p : Place) (t : Tally) (word : Text) (rest : List Text) → FindsLine rest → HasReached p t → bytes_eq word (codes "--") ≡ false → long_of word ≡ None
       → faults command (at false p) (word ∷ rest) ≡ [] → Found t (end_of command (at false p) (word ∷ rest)).held (word ∷ rest)
   unfolding walked
-  past_operand p t word rest finds stands other long none =
+  past_operand p t word rest finds reached other long none =
       let turn = (one_word command (at false p) word rest none).0 in
-      let flags = (or_else_none _ _ (simp (stands.between.nameless word, other) at turn)).0 in
+      let flags = (or_else_none _ _ (simp (reached.between.nameless word, other) at turn)).0 in
       let plain = no_letter command.rules command.args_override_self (letters_refused command options built) p.waiting p.rows p.pending word long flags
-      ∙ stands.between.free word (held_at p) in
+      ∙ reached.between.free word (held_at p) in
       let reads : Reads command false p word = record {
-        after = simp (stands.between.nameless word, other, plain);
-        fault = simp (stands.between.nameless word, other, flags, plain);
+        after = simp (reached.between.nameless word, other, plain);
+        fault = simp (reached.between.nameless word, other, flags, plain);
       } in
-      let moved = reads.after ∙ operand_moves p t.operands word false stands.position in
-      let clear = sym (position_fault p t.operands (held_at p) stands.position) ∙ sym reads.fault ∙ turn in
-      let found = finds (after_operand p t.operands word) (with_operand t word) (operand_stands p t word stands clear)
+      let moved = reads.after ∙ operand_moves p t.operands word false reached.position in
+      let clear = sym (position_fault p t.operands (held_at p) reached.position) ∙ sym reads.fault ∙ turn in
+      let found = finds (after_operand p t.operands word) (with_operand t word) (operand_reached p t word reached clear)
       (subst (λ (w : Walk). faults command w rest ≡ []) moved (one_word command (at false p) word rest none).1) in
       record {
         line = operand word found.line;
         words_are = ap (λ (ws : List Text). word ∷ ws) {x = line_words found.line} found.words_are;
         clear = (not_long word long other, found.clear);
-        ends = operand_then false p t word rest (operands_of found.line) (λ s. values_of s found.line) stands none reads
+        ends = operand_then false p t word rest (operands_of found.line) (λ s. values_of s found.line) reached none reads
             (λ _ _. found.ends);
       }
 
   -- past an option with its value
-  past_joined : (p : Place) (t : Tally) (word : Text) (rest : List Text) (s : Setting) (text : Text) → FindsLine rest → Offers options s → Stands p t
+  past_joined : (p : Place) (t : Tally) (word : Text) (rest : List Text) (s : Setting) (text : Text) → FindsLine rest → Offers options s → HasReached p t
       → bytes_eq word (codes "--") ≡ false → long_of word ≡ Some (setting_name s, Some text)
       → faults command (at false p) (word ∷ rest) ≡ [] → Found t (end_of command (at false p) (word ∷ rest)).held (word ∷ rest)
-  past_joined p t word rest s text finds offered stands other long none =
+  past_joined p t word rest s text finds offered reached other long none =
       let parts = one_word command (at false p) word rest none in
-      let clear = joined_fault s text (held_at p) offered (long_turn p word (setting_name s) (Some text) stands.between other long parts.0) in
-      let moved = joined_moves p word s text offered stands.between other long in
-      let found = finds (after_joined p s text) (with_value t s text) (joined_stands p t s text offered stands clear.0 clear.1)
+      let clear = joined_fault s text (held_at p) offered (long_turn p word (setting_name s) (Some text) reached.between other long parts.0) in
+      let moved = joined_moves p word s text offered reached.between other long in
+      let found = finds (after_joined p s text) (with_value t s text) (joined_reached p t s text offered reached clear.0 clear.1)
       (subst (λ (w : Walk). faults command w rest ≡ []) moved parts.1) in
       record {
         line = joined s text found.line;
@@ -407,14 +407,14 @@ module _ (command : Shape) (options : List Setting) (built : TakesLine command o
       }
 
   -- past an option and its value
-  past_apart : (p : Place) (t : Tally) (word : Text) (rest : List Text) (s : Setting) → FindsValue rest → Offers options s → Stands p t
+  past_apart : (p : Place) (t : Tally) (word : Text) (rest : List Text) (s : Setting) → FindsValue rest → Offers options s → HasReached p t
       → bytes_eq word (codes "--") ≡ false → long_of word ≡ Some (setting_name s, None)
       → faults command (at false p) (word ∷ rest) ≡ [] → Found t (end_of command (at false p) (word ∷ rest)).held (word ∷ rest)
-  past_apart p t word rest s finds offered stands other long none =
+  past_apart p t word rest s finds offered reached other long none =
       let parts = one_word command (at false p) word rest none in
-      let clear = option_fault s None (held_at p) offered (long_turn p word (setting_name s) None stands.between other long parts.0) in
-      let moved = apart_moves p word s offered stands.between other long in
-      let found = finds p t s offered stands clear (subst (λ (w : Walk). faults command w rest ≡ []) moved parts.1) in
+      let clear = option_fault s None (held_at p) offered (long_turn p word (setting_name s) None reached.between other long parts.0) in
+      let moved = apart_moves p word s offered reached.between other long in
+      let found = finds p t s offered reached clear (subst (λ (w : Walk). faults command w rest ≡ []) moved parts.1) in
       record {
         line = apart s found.text found.line;
         words_are = ap₂ (λ (w : Text) (ws : List Text). w ∷ ws) (long_word word (setting_name s) None long) found.words_are;
@@ -424,38 +424,38 @@ module _ (command : Shape) (options : List Setting) (built : TakesLine command o
       }
 
   -- past a long option
-  past_long : (p : Place) (t : Tally) (word : Text) (rest : List Text) (name : Text) (v : Option Text) → FindsLine rest → FindsValue rest → Stands p t
+  past_long : (p : Place) (t : Tally) (word : Text) (rest : List Text) (name : Text) (v : Option Text) → FindsLine rest → FindsValue rest → HasReached p t
       → bytes_eq word (codes "--") ≡ false → long_of word ≡ Some (name, v)
       → faults command (at false p) (word ∷ rest) ≡ [] → Found t (end_of command (at false p) (word ∷ rest)).held (word ∷ rest)
-  past_long p t word rest name v line valued stands other long none =
-      let named = long_setting command options built name v (held_at p) (long_turn p word name v stands.between other long (one_word command (at false p) word rest none).0) in
+  past_long p t word rest name v line valued reached other long none =
+      let named = long_setting command options built name v (held_at p) (long_turn p word name v reached.between other long (one_word command (at false p) word rest none).0) in
       by_form named v (long ∙ ap (λ (n : Text). Some (n, v)) (sym named.named))
     where
       by_form : (named : IsSetting options name) (v : Option Text) → long_of word ≡ Some (setting_name named.setting, v)
           → Found t (end_of command (at false p) (word ∷ rest)).held (word ∷ rest)
-      by_form named None is = past_apart p t word rest named.setting valued named.offered stands other is none
-      by_form named (Some text) is = past_joined p t word rest named.setting text line named.offered stands other is none
+      by_form named None is = past_apart p t word rest named.setting valued named.offered reached other is none
+      by_form named (Some text) is = past_joined p t word rest named.setting text line named.offered reached other is none
 
   -- past a word
   past_word : (word : Text) (rest : List Text) → FindsLine rest → FindsValue rest → FindsLine (word ∷ rest)
-  past_word word rest line valued p t stands none = by_test (bytes_eq word (codes "--"))
+  past_word word rest line valued p t reached none = by_test (bytes_eq word (codes "--"))
       (λ is. subst (λ (w : Text). faults command (at false p) (w ∷ rest) ≡ [] → Found t (end_of command (at false p) (w ∷ rest)).held (w ∷ rest))
-      (sym (same_text word (codes "--") (sym is))) (past_dashes p t rest stands) none)
+      (sym (same_text word (codes "--") (sym is))) (past_dashes p t rest reached) none)
       (λ other. by_long other (long_of word) refl)
     where
       by_long : bytes_eq word (codes "--") ≡ false → (o : Option (Text × Option Text)) → long_of word ≡ o
           → Found t (end_of command (at false p) (word ∷ rest)).held (word ∷ rest)
-      by_long other None long = past_operand p t word rest line stands other long none
-      by_long other (Some q) long = past_long p t word rest q.0 q.1 line valued stands other long none
+      by_long other None long = past_operand p t word rest line reached other long none
+      by_long other (Some q) long = past_long p t word rest q.0 q.1 line valued reached other long none
 
   -- past a value
   past_value : (text : Text) (rest : List Text) → FindsLine rest → FindsValue (text ∷ rest)
   unfolding walked
-  past_value text rest finds p t s offered stands clear none = by_test (bytes_eq text (codes "--"))
-      (λ is. absurd (no_dashes p t s rest offered stands (as_dashes is)))
+  past_value text rest finds p t s offered reached clear none = by_test (bytes_eq text (codes "--"))
+      (λ is. absurd (no_dashes p t s rest offered reached (as_dashes is)))
       (λ other.
       let moved = value_moves p s text offered other parts.0 in
-      let found = finds (after_apart p s text) (with_value t s text) (apart_stands p t s text offered stands clear)
+      let found = finds (after_apart p s text) (with_value t s text) (apart_reached p t s text offered reached clear)
       (subst (λ (w : Walk). faults command w rest ≡ []) moved parts.1) in
       record {
         text = text;
@@ -471,13 +471,13 @@ module _ (command : Shape) (options : List Setting) (built : TakesLine command o
       as_dashes : bytes_eq text (codes "--") ≡ true → faults command (waiting_at true p s) rest ≡ []
       as_dashes is = subst (λ (w : Text). faults command (walked command.rules [] (waiting_at false p s) w) rest ≡ []) (same_text text (codes "--") (sym is)) parts.1
 
-  -- no value stands at the end
+  -- no value is at the end
   no_value : FindsValue []
   unfolding walk_fault
-  no_value p t s offered stands clear none = absurd (unsettled p s offered (or_else_none (settle_fault command.rules command.args_override_self (waiting_held p s)) _ none).0)
+  no_value p t s offered reached clear none = absurd (unsettled p s offered (or_else_none (settle_fault command.rules command.args_override_self (waiting_held p s)) _ none).0)
 
   -- so all words that come to no fault are those of a line
   pub finds_all : (rest : List Text) → FindsLine rest × FindsValue rest
   unfolding walk_fault
-  finds_all [] = (λ p t stands none. record { line = done; words_are = refl; clear = tt; ends = ends_here p t stands none }, no_value)
+  finds_all [] = (λ p t reached none. record { line = done; words_are = refl; clear = tt; ends = ends_here p t reached none }, no_value)
   finds_all (word ∷ rest) = (past_word word rest (finds_all rest).0 (finds_all rest).1, past_value word rest (finds_all rest).0)

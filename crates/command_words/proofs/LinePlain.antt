@@ -14,7 +14,7 @@ use Rattle.command_words.specs.Lines.{IsPlain, Line, Setting, apart, dashes, don
 use Rattle.command_words.specs.Words.{Text}
 use Rattle.command_words.proofs.LeafLemmas.{IsBetween, Place, Reads, after_reads, at, both_none, dashes_pass, ends, faults, held_at, plain_reads, start}
 use Rattle.command_words.proofs.OptionLemmas.{or_else_none}
-use Rattle.command_words.proofs.LineLemmas.{Stands, after_apart, after_joined, after_operand, apart_moves, apart_stands, begins, joined_moves, joined_stands, operand_moves, operand_stands, position_fault, rows_at, settles, value_moves, value_settles, waiting_at}
+use Rattle.command_words.proofs.LineLemmas.{HasReached, after_apart, after_joined, after_operand, apart_moves, apart_reached, begins, joined_moves, joined_reached, operand_moves, operand_reached, position_fault, rows_at, settles, value_moves, value_settles, waiting_at}
 use Rattle.command_words.proofs.RowLemmas.{row_at}
 use Rattle.command_words.proofs.LineEnds.{IsComplete, ends_are, lacks_nothing, missing, some_given}
 use Rattle.command_words.proofs.LineRules.{Offers, TakesLine, path_built, path_by_id, setting_by_long, setting_rule, types_by_id}
@@ -53,7 +53,7 @@ own_values tries text after = refl
 own_values seed text after = refl
 own_values following text after = refl
 
--- what holds of all holds of those behind
+-- what holds of all holds of the later ones
 all_behind : (P : Text → Type 0) (before after : List Text) → All P (before ++ after) → All P after
 all_behind P [] after all = all
 all_behind P (word ∷ before) after all = all_behind P before after (λ k d lt. all (suc k) d (omega (arith, lt)))
@@ -121,12 +121,12 @@ module _ (command : Shape) (options : List Setting) (built : TakesLine command o
   -- ---- one operand
 
   -- settling an operand comes to no fault
-  operand_settles : (p : Place) (t : Tally) (word : Text) → Stands command options built p t → settles command options built p ≡ []
+  operand_settles : (p : Place) (t : Tally) (word : Text) → HasReached command options built p t → settles command options built p ≡ []
       → settles command options built (after_operand command options built p t.operands word) ≡ []
-  operand_settles p t word stands clear = by_operands t.operands refl
+  operand_settles p t word reached clear = by_operands t.operands refl
     where
       tallied : Tallies options (rows_at command options built p) t
-      tallied = stands.tallied clear
+      tallied = reached.tallied clear
 
       by_operands : (operands : List Text) → t.operands ≡ operands → settles command options built (after_operand command options built p operands word) ≡ []
       by_operands [] first =
@@ -138,42 +138,42 @@ module _ (command : Shape) (options : List Setting) (built : TakesLine command o
           ap (λ (o : Option Rule). option_map_or (λ (a : Rule). use_fault command.args_override_self a (word ∷ []) (rows_at command options built p)) o []) (types_by_id command options built)
 
   -- an operand comes to no fault where the others come to none
-  operand_passes : (b : Bool) (p : Place) (t : Tally) (word : Text) (rest : List Text) → Stands command options built p t → settles command options built p ≡ [] → Reads command b p word
+  operand_passes : (b : Bool) (p : Place) (t : Tally) (word : Text) (rest : List Text) → HasReached command options built p t → settles command options built p ≡ [] → Reads command b p word
       → faults command (at b (after_operand command options built p t.operands word)) rest ≡ [] → faults command (at b p) (word ∷ rest) ≡ []
   unfolding walk_fault
-  operand_passes b p t word rest stands clear reads others =
-      let moved = reads.after ∙ operand_moves command options built p t.operands word b stands.position in
+  operand_passes b p t word rest reached clear reads others =
+      let moved = reads.after ∙ operand_moves command options built p t.operands word b reached.position in
       let parts = or_else_none _ _ (subst (λ (w : Walk). faults command w rest ≡ []) (sym moved) others) in
-      both_none _ _ (both_none _ _ (reads.fault ∙ position_fault command options built p t.operands (held_at p) stands.position ∙ clear) parts.0) parts.1
+      both_none _ _ (both_none _ _ (reads.fault ∙ position_fault command options built p t.operands (held_at p) reached.position ∙ clear) parts.0) parts.1
 
   -- ---- the end
 
   -- no fault comes of the end where all was given
-  end_passes : (p : Place) (t : Tally) → Stands command options built p t → settles command options built p ≡ [] → IsGood options t → ends command (held_at p) ≡ []
-  end_passes p t stands clear good =
-      ends_are command options built (held_at p) t (stands.tallied clear)
+  end_passes : (p : Place) (t : Tally) → HasReached command options built p t → settles command options built p ≡ [] → IsGood options t → ends command (held_at p) ≡ []
+  end_passes p t reached clear good =
+      ends_are command options built (held_at p) t (reached.tallied clear)
       ∙ both_none _ _ clear (ap missing (lacks_nothing options t good.complete))
 
-  -- nor of operands behind `--`
-  behind_pass : (p : Place) (t : Tally) (operands : List Text) → Stands command options built p t → settles command options built p ≡ [] → IsGood options (with_line t (dashes operands))
+  -- nor of operands after `--`
+  behind_pass : (p : Place) (t : Tally) (operands : List Text) → HasReached command options built p t → settles command options built p ≡ [] → IsGood options (with_line t (dashes operands))
       → faults command (at true p) operands ≡ []
   unfolding walk_fault
-  behind_pass p t [] stands clear good =
-      end_passes p t stands clear (same_good options (with_line t (dashes [])) t (append-nil t.operands) (λ s. append-nil (t.values s)) good)
-  behind_pass p t (word ∷ operands) stands clear good =
-      operand_passes true p t word operands stands clear (after_reads command p word)
-      (behind_pass (after_operand command options built p t.operands word) (with_operand t word) operands (operand_stands command options built p t word stands clear)
-      (operand_settles p t word stands clear)
+  behind_pass p t [] reached clear good =
+      end_passes p t reached clear (same_good options (with_line t (dashes [])) t (append-nil t.operands) (λ s. append-nil (t.values s)) good)
+  behind_pass p t (word ∷ operands) reached clear good =
+      operand_passes true p t word operands reached clear (after_reads command p word)
+      (behind_pass (after_operand command options built p t.operands word) (with_operand t word) operands (operand_reached command options built p t word reached clear)
+      (operand_settles p t word reached clear)
       (same_good options (with_line t (dashes (word ∷ operands))) (with_line (with_operand t word) (dashes operands)) (sym (append_assoc t.operands (word ∷ []) operands)) (λ _. refl) good))
 
   -- ---- options
 
   -- using an option's value comes to no fault, where it may follow those before it
-  use_passes : (p : Place) (t : Tally) (s : Setting) (text : Text) → Stands command options built p t → settles command options built p ≡ [] → MayFollow s (t.values s) text
+  use_passes : (p : Place) (t : Tally) (s : Setting) (text : Text) → HasReached command options built p t → settles command options built p ≡ [] → MayFollow s (t.values s) text
       → use_fault command.args_override_self (setting_rule s) (text ∷ []) (rows_at command options built p) ≡ []
-  use_passes p t s text stands clear may =
+  use_passes p t s text reached clear may =
       ap (λ (again : Bool). use_fault again (setting_rule s) (text ∷ []) (rows_at command options built p)) built.again
-      ∙ value_passes s text (rows_at command options built p) (t.values s) ((stands.tallied clear).settings s) may
+      ∙ value_passes s text (rows_at command options built p) (t.values s) ((reached.tallied clear).settings s) may
 
   -- an option's word that comes to no fault, in its two forms
   joined_turn : (p : Place) (word : Text) (s : Setting) (text : Text) → Offers options s → IsBetween command p → bytes_eq word (codes "--") ≡ false
@@ -215,40 +215,40 @@ module _ (command : Shape) (options : List Setting) (built : TakesLine command o
   -- ---- lines
 
   -- the words of a line with plain operands and values come to no fault, where all was given in the end
-  line_passes : (p : Place) (t : Tally) (line : Line) → Stands command options built p t → settles command options built p ≡ [] → All IsPlain (operands_of line) → HasPlainValues line
+  line_passes : (p : Place) (t : Tally) (line : Line) → HasReached command options built p t → settles command options built p ≡ [] → All IsPlain (operands_of line) → HasPlainValues line
       → IsGood options (with_line t line) → faults command (at false p) (line_words line) ≡ []
   unfolding walk_fault
-  line_passes p t done stands clear plain values good =
-      end_passes p t stands clear (same_good options (with_line t done) t (append-nil t.operands) (λ s. append-nil (t.values s)) good)
-  line_passes p t (dashes operands) stands clear plain values good =
-      word_passes (at false p) (at true p) (codes "--") operands (dashes_turn command p stands.between) (dashes_pass command p stands.between) (behind_pass p t operands stands clear good)
-  line_passes p t (operand word rest) stands clear plain values good =
-      operand_passes false p t word (line_words rest) stands clear (plain_reads command p stands.between word (plain 0 word (omega arith)))
-      (line_passes (after_operand command options built p t.operands word) (with_operand t word) rest (operand_stands command options built p t word stands clear)
-      (operand_settles p t word stands clear) (λ k d lt. plain (suc k) d (omega arith)) values
+  line_passes p t done reached clear plain values good =
+      end_passes p t reached clear (same_good options (with_line t done) t (append-nil t.operands) (λ s. append-nil (t.values s)) good)
+  line_passes p t (dashes operands) reached clear plain values good =
+      word_passes (at false p) (at true p) (codes "--") operands (dashes_turn command p reached.between) (dashes_pass command p reached.between) (behind_pass p t operands reached clear good)
+  line_passes p t (operand word rest) reached clear plain values good =
+      operand_passes false p t word (line_words rest) reached clear (plain_reads command p reached.between word (plain 0 word (omega arith)))
+      (line_passes (after_operand command options built p t.operands word) (with_operand t word) rest (operand_reached command options built p t word reached clear)
+      (operand_settles p t word reached clear) (λ k d lt. plain (suc k) d (omega arith)) values
       (same_good options (with_line t (operand word rest)) (with_line (with_operand t word) rest) (sym (append_assoc t.operands (word ∷ []) (operands_of rest))) (λ _. refl) good))
-  line_passes p t (apart s text rest) stands clear plain values good =
+  line_passes p t (apart s text rest) reached clear plain values good =
       let one = taken options s (t.values s) text (values_of s rest) (subst (λ (vs : List Text). IsFit options s (t.values s ++ vs)) (own_values s text (values_of s rest)) (good.fit s)) in
-      let used_well = use_passes p t s text stands clear one.may in
+      let used_well = use_passes p t s text reached clear one.may in
       let is_plain = first_plain s text rest (values s) in
       let turn = value_turn p s text is_plain in
       word_passes (at false p) (waiting_at command options built false p s) (codes "--" ++ setting_name s) (text ∷ line_words rest)
-      (apart_turn p (codes "--" ++ setting_name s) s one.offered stands.between (apart_word s).0 (apart_word s).1 clear)
-      (apart_moves command options built p (codes "--" ++ setting_name s) s one.offered stands.between (apart_word s).0 (apart_word s).1)
+      (apart_turn p (codes "--" ++ setting_name s) s one.offered reached.between (apart_word s).0 (apart_word s).1 clear)
+      (apart_moves command options built p (codes "--" ++ setting_name s) s one.offered reached.between (apart_word s).0 (apart_word s).1)
       (word_passes (waiting_at command options built false p s) (at false (after_apart command options built p s text)) text (line_words rest) turn
       (value_moves command options built p s text one.offered (no_dashes text is_plain) turn)
-      (line_passes (after_apart command options built p s text) (with_value t s text) rest (apart_stands command options built p t s text one.offered stands clear)
+      (line_passes (after_apart command options built p s text) (with_value t s text) rest (apart_reached command options built p t s text one.offered reached clear)
       (value_settles command options built p s text one.offered ∙ used_well) plain (later_plain s text rest values)
       (same_good options (with_line t (apart s text rest)) (with_line (with_value t s text) rest) refl
       (λ wanted. sym (append_assoc (t.values wanted) (value_for wanted s text) (values_of wanted rest))) good)))
-  line_passes p t (joined s text rest) stands clear plain values good =
+  line_passes p t (joined s text rest) reached clear plain values good =
       let one = taken options s (t.values s) text (values_of s rest) (subst (λ (vs : List Text). IsFit options s (t.values s ++ vs)) (own_values s text (values_of s rest)) (good.fit s)) in
-      let used_well = use_passes p t s text stands clear one.may in
+      let used_well = use_passes p t s text reached clear one.may in
       let word = codes "--" ++ setting_name s ++ codes "=" ++ text in
       word_passes (at false p) (at false (after_joined command options built p s text)) word (line_words rest)
-      (joined_turn p word s text one.offered stands.between (joined_word s text).0 (joined_word s text).1 clear used_well)
-      (joined_moves command options built p word s text one.offered stands.between (joined_word s text).0 (joined_word s text).1)
-      (line_passes (after_joined command options built p s text) (with_value t s text) rest (joined_stands command options built p t s text one.offered stands clear used_well) refl plain (later_plain s text rest values)
+      (joined_turn p word s text one.offered reached.between (joined_word s text).0 (joined_word s text).1 clear used_well)
+      (joined_moves command options built p word s text one.offered reached.between (joined_word s text).0 (joined_word s text).1)
+      (line_passes (after_joined command options built p s text) (with_value t s text) rest (joined_reached command options built p t s text one.offered reached clear used_well) refl plain (later_plain s text rest values)
       (same_good options (with_line t (joined s text rest)) (with_line (with_value t s text) rest) refl
       (λ wanted. sym (append_assoc (t.values wanted) (value_for wanted s text) (values_of wanted rest))) good))
 

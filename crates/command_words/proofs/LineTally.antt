@@ -80,7 +80,7 @@ abbrev pub IsFit : List Setting → Setting → List Text → Type 0
 IsFit options following values = IsFitOften options following values
 IsFit options s values = IsFitOnce options s values
 
--- behind these values of the option this one may come
+-- after these values of the option this one may come
 abbrev pub MayFollow : Setting → List Text → Text → Type 0
 MayFollow following values value = Unit {0}
 MayFollow s values value = (values ≡ []) × (value_kinds false (values_by s) value ≡ [])
@@ -255,7 +255,7 @@ own_value tries value = refl
 own_value seed value = refl
 own_value following value = refl
 
--- a value that may follow is fit behind the others
+-- a value that may follow is fit after the others
 once_more : (options : List Setting) (s : Setting) (values : List Text) (value : Text) → Offers options s → (values ≡ []) × (value_kinds false (values_by s) value ≡ [])
     → IsFitOnce options s (values ++ value ∷ [])
 once_more options s values value offered may = subst (λ (vs : List Text). IsFitOnce options s (vs ++ value ∷ [])) (sym may.0) (offered, may.1)
@@ -268,7 +268,7 @@ fit_more options seed values value offered may = once_more options seed values v
 fit_more options following [] value offered may = offered
 fit_more options following (first ∷ values) value offered may = offered
 
--- the options stand apart from the operands
+-- the options are apart from the operands
 path_apart : (s : Setting) → bytes_eq (setting_name s) (codes "path") ≡ false
 path_apart workers = refl
 path_apart tries = refl

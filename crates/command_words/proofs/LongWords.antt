@@ -19,14 +19,14 @@ cut_place (x ∷ xs) has = by_test (x == 61)
     (λ is. simp is (omega arith))
     (λ other. let later = cut_place xs (simp other at has) in simp other (omega (arith, later)))
 
--- and joins what stands before it and behind it
+-- and joins what comes before it and after it
 cut_joined : (text : Text) → has_byte 61 text ≡ true → before_first (λ x. x == 61) text ++ 61 ∷ after_first (λ x. x == 61) text ≡ text
 cut_joined text has =
     let lt = cut_place text has in
     let at_cut = eqb-true _ 61 (passes_at_first (λ x. x == 61) text 0 lt) in
     ap (λ (c : ℕ). before_first (λ x. x == 61) text ++ c ∷ after_first (λ x. x == 61) text) (sym at_cut) ∙ sym (split_at_first (λ x. x == 61) text 0 lt)
 
--- where there is none, all stands before it
+-- where there is none, all comes before it
 no_place : (text : Text) → has_byte 61 text ≡ false → position_or_len (λ x. x == 61) text ≡ length text
 no_place [] lacks = refl
 no_place (x ∷ xs) lacks = by_test (x == 61)
@@ -51,7 +51,7 @@ rejoined text = by_test (has_byte 61 text) (λ has. simp has (cut_joined text ha
 nothing : (p : Text × Option Text) → None ≡ Some p → ⊥
 nothing p is = cc
 
--- a long option is the text of its name and its value behind two hyphens
+-- a long option is the text of its name and its value after two hyphens
 pub long_word : (word name : Text) (value : Option Text) → long_of word ≡ Some (name, value) → codes "--" ++ long_text name value ≡ word
 long_word [] name value is = absurd cc
 long_word (x ∷ []) name value is = by_test (x == 45)

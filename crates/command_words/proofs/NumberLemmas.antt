@@ -18,7 +18,7 @@ use Rattle.command_words.specs.Lines.{IsNumber}
 use Rattle.command_words.specs.Words.{Text}
 use Rattle.command_words.proofs.OptionLemmas.{by_test, never}
 
--- a numeral behind a plus begins with no minus
+-- a numeral after a plus begins with no minus
 pub no_minus : (text : Text) → IsNumeral 10 (without_leading_plus text) → starts_with_minus text ≡ false
 no_minus [] numeral = refl
 no_minus (x ∷ xs) numeral = ne_eqb x 45 (λ is. minus xs (subst (λ (y : ℕ). IsNumeral 10 (without_leading_plus (y ∷ xs))) is numeral))
@@ -26,7 +26,7 @@ no_minus (x ∷ xs) numeral = ne_eqb x 45 (λ is. minus xs (subst (λ (y : ℕ).
     minus : (rest : Text) → IsNumeral 10 (without_leading_plus (45 ∷ rest)) → ⊥
     minus rest digits = omega (arith, digit_from_value 45 digits.1.0)
 
--- so a typed getter reads it as it stands
+-- so a typed getter reads it as it is
 pub as_written : (text : Text) (n : ℕ) → IsNumber text n → without_minus text ≡ text
 as_written [] n is = refl
 as_written (x ∷ xs) n is = let plain = no_minus (x ∷ xs) is.0 in simp plain refl

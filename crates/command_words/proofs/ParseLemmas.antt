@@ -91,7 +91,7 @@ store_read values path types are = subst (λ (rows : List Row). HasStoreRows row
     listed [] = record { path = refl; types = refl }
     listed (type ∷ types) = record { path = refl; types = refl }
 
--- and behind the path of a file that is to be made
+-- and after the path of a file that is to be made
 pub create_read : (values : ArgMatches) (database objects : Text) (types : List Text) → HasRows values (asked.create database objects types)
     → HasStoreRows (rows_of (found_of values)) objects types
 create_read values database objects types are =
@@ -145,7 +145,7 @@ seed_is values w r seed seeded has reads is = by_seed w.seed seeded has.whole.se
 
 -- ---- what the program answers
 
--- a fact that holds but for want of memory holds of a fault of the command line
+-- a fact that holds but where memory was refused holds of a fault of the command line
 pub usage_of : (fault : WordFault) (M P : Type 0) → M ⊎ P → (M → fault ≡ NoMemory) → OnUsage fault P
 usage_of NoMemory M P either memory = tt
 usage_of (Usage text) M P either memory = ⊎_elim (λ m. absurd (cc (memory m))) (λ p. p) either
@@ -165,3 +165,5 @@ no_topic words alone named topic.Stress are = named _ are
 no_topic words alone named topic.Create are = named _ are
 no_topic words alone named topic.Serve are = named _ are
 no_topic words alone named topic.History are = named _ are
+no_topic words alone named topic.Help are = named _ are
+no_topic words alone named topic.Faults are = named _ are

@@ -348,7 +348,7 @@ asked_passes listed are words left (asked.audit_database path) well are_for = ab
 asked_passes listed are words left (asked.help topic) well are_for = absurd (left.0 topic are_for)
 asked_passes listed are words left asked.version well are_for = absurd (left.2 are_for)
 
--- an error comes of want of memory, or the words are no task's
+-- an error comes of refused memory, or the words are no task's
 pub error_asked : (words : List Text) → AreLeftToClap words → (e : Error) → Parses words (Err e) → (kind_of e ≡ OutOfMemory) ⊎ AreNoTask words
 error_asked words left e p = ⊎_elim (λ (memory : kind_of e ≡ OutOfMemory). inl memory) (λ q. inr (λ a well are_for.
     let listed = q.1.0 in

@@ -1,4 +1,4 @@
--- What words behind `serve` say: one thing at most.
+-- What words after `serve` say: one thing at most.
 use Rattle.std.proofs.Common.{◌≡◌, ◌∙◌, ap, arith, refl, subst, sym, true, false, Bool, ℕ, List, [], ◌∷◌, Bor, length, take, drop, ◌-◌, ◌≤◌, ⊎_elim}
 use Rattle.std.proofs.Math.Seq.{take-length}
 use Rattle.std.specs.Prelude.{codes, get_or, Option, Some, None, Result, Ok, Err, IfErr, IfSome, IfNone, IsSome, option_map, slice_index, unwrap_or, ◌<◌, ◌^◌}
@@ -14,7 +14,7 @@ use Rattle.command_words.specs.Words as asked
 use Rattle.command_words.specs.declared.task.WordFault.{WordFault}
 use Rattle.command_words.specs.declared.task.WordFault.TheVariants.{Usage, NoMemory}
 
--- the words behind the first
+-- the words after the first
 abbrev tail : List Text → List Text
 tail [] = []
 tail (word ∷ rest) = rest
@@ -121,15 +121,15 @@ one_said _ _ q (dashes path rest a first none) said =
 
 -- ---- what is read, by the first word
 
--- the words are the first and those behind it
+-- the words are the first and those after it
 pub with_first : (words behind : List (Bor Text)) (w : Bor Text) (text : Text) → words ≡ w ∷ behind → w.now ≡ text → texts words ≡ text ∷ texts behind
 with_first words behind w text are is = ap texts are ∙ ap (λ (x : Text). x ∷ texts behind) is
 
--- or the first two and those behind them
+-- or the first two and those after them
 pub with_two : (words behind rest : List (Bor Text)) (w v : Bor Text) (text : Text) → words ≡ w ∷ behind → behind ≡ v ∷ rest → w.now ≡ text → texts words ≡ text ∷ v.now ∷ texts rest
 with_two words behind rest w v text are then is = with_first words behind w text are is ∙ ap (λ (ws : List (Bor Text)). text ∷ texts ws) then
 
--- the same of a slice behind the first word
+-- the same of a slice after the first word
 pub behind_first : (words : List (Bor Text)) (d : Bor Text) (word : Text) → 1 ≤ length words → (get_or words 0 d).now ≡ word
     → texts words ≡ word ∷ texts (take (length words - 1) (drop 1 words))
 behind_first [] d word some is = absurd (omega (arith, some))
@@ -328,6 +328,8 @@ no_task words rest is none (asked.help t) plain for = helps t (sym for ∙ is)
     helps topic.Create same = omega (arith, ap (letter 0) same)
     helps topic.Serve same = omega (arith, ap (letter 0) same)
     helps topic.History same = omega (arith, ap (letter 0) same)
+    helps topic.Help same = omega (arith, ap (letter 0) same)
+    helps topic.Faults same = omega (arith, ap (letter 0) same)
 no_task words rest is none asked.version plain for = ⊎_elim (λ long. omega (arith, ap (letter 0) (sym long ∙ is))) (λ short. omega (arith, ap (letter 0) (sym short ∙ is))) for
 
 -- and where memory wasn't refused

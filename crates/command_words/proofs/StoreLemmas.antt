@@ -1,4 +1,4 @@
--- The commands over a store's objects that take a first file and the files of types, and no options: where the walk stands after
+-- The commands over a store's objects that take a first file and the files of types, and no options: where the walk is after
 -- their operands, and which operands they take.
 use Rattle.std.proofs.Common.{◌≡◌, ◌∙◌, ◌++◌, ap, refl, sym, true, false, Bool, List, [], ◌∷◌, Bor}
 use Rattle.std.specs.Prelude.{codes, fold}
@@ -23,7 +23,7 @@ store_leaf listed name = leaf_of (parser.Names listed) (store_app name)
 abbrev type_place : Text → List Text × Text → Place
 type_place path p = record { rows = store_rows path p.0; pending = waits (codes "types") p.1; position = 2; waiting = positional }
 
--- where its walk stands after these operands
+-- where its walk is after these operands
 abbrev pub store_place : List Text → Place
 store_place [] = start
 store_place (path ∷ []) = record { rows = []; pending = waits (codes "path") path; position = 2; waiting = idle }
@@ -102,7 +102,7 @@ pub store_ends : (listed : Bor (List (Bor Text))) (name path type : Text) (types
 unfolding clap_on_literals
 store_ends listed name path type types = ap (row_faults listed name) (types_settled listed name path type types)
 
--- no fault comes of types behind the first file and a type
+-- no fault comes of types after the first file and a type
 types_pass : (listed : Bor (List (Bor Text))) (name path type : Text) (before rest : List Text)
     → Passes (store_leaf listed name) store_place StoreTook (store_takes listed name) (path ∷ type ∷ before) rest
 types_pass listed name path type before [] = store_ends listed name path type before

@@ -1,4 +1,4 @@
--- The subcommands: where the walk stands after their operands, and which operands they take.
+-- The subcommands: where the walk is after their operands, and which operands they take.
 use Rattle.std.proofs.Common.{◌≡◌, ◌∙◌, ◌++◌, ◌||◌, ap, arith, refl, subst, sym, true, false, zero, suc, Bool, List, [], ◌∷◌, Bor}
 use Rattle.std.specs.Prelude.{All, codes, fold, length, ◌<◌, if◌then◌else◌}
 use Rattle.std.specs.List.{list_any}
@@ -32,7 +32,7 @@ use Rattle.command_words.proofs.StoreLemmas.{AreStoreWords, StoreTook, store_ans
 abbrev pub check_leaf : Bor (List (Bor Text)) → Shape
 check_leaf listed = leaf_of (parser.Names listed) (check_app (parser.Names listed))
 
--- where its walk stands after these operands
+-- where its walk is after these operands
 abbrev pub check_place : List Text → Place
 check_place [] = start
 check_place (kind ∷ []) = record { rows = []; pending = waits (codes "kind") kind; position = 2; waiting = idle }
@@ -97,7 +97,7 @@ abbrev item_place : Text → Text → List Text × Text → Place
 item_place family size p =
     record { rows = make_rows family size p.0; pending = waits (codes "items") p.1; position = 3; waiting = positional }
 
--- where its walk stands after these operands
+-- where its walk is after these operands
 abbrev pub make_place : List Text → Place
 make_place [] = start
 make_place (family ∷ []) = record { rows = []; pending = waits (codes "family") family; position = 2; waiting = idle }
@@ -211,7 +211,7 @@ leaf listed run = store_leaf listed (codes "run")
 leaf listed create = create_leaf listed
 leaf listed history = file_leaf listed (codes "history")
 
--- where its walk stands after these operands
+-- where its walk is after these operands
 abbrev pub place : Command → List Text → Place
 place check = check_place
 place make = make_place
@@ -313,7 +313,7 @@ make_answers listed (family ∷ size ∷ item ∷ items) none = record {
   entry = ap (λ (rows : List Row). (codes "make", fold with_default rows (make_leaf listed).rules)) (items_settled listed family size item items);
 }
 
--- there is a type where one stands before others
+-- there is a type where one comes before others
 some_types : (type : Text) (types : List Text) → 0 < length (type ∷ types)
 some_types type types = omega arith
 
@@ -413,7 +413,7 @@ all_of_none P k d lt = absurd (omega (arith, lt))
 abbrev AllPass : Bor (List (Bor Text)) → (command : Command) → List Text → List Text → Type 0
 AllPass listed command = Passes (leaf listed command) (place command) (Took listed command) (takes listed command)
 
--- no fault comes of items behind FAMILY and SIZE
+-- no fault comes of items after FAMILY and SIZE
 items_pass : (listed : Bor (List (Bor Text))) (family size : Text) (before rest : List Text) → AllPass listed make (family ∷ size ∷ before) rest
 items_pass listed family size before [] = make_ends listed family size before
 items_pass listed family size before (word ∷ rest) =

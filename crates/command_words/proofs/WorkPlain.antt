@@ -52,7 +52,7 @@ module _ (line : Line) (w : Work) (says : Says line w) where
   values_plain seed = seed_plain (values_of seed line) w.seed says.seed
   values_plain following = subst (All IsPlain) (sym says.following) (all_of_none IsPlain)
 
-  -- the options that are wanted are given
+  -- the options that are required are given
   all_given : (s : Option ℕ) → IsGivenAny (values_of seed line) s → (wanted : Setting) → Offers (work_options (is_some s)) wanted → is_wanted wanted ≡ true
       → some_given (values_of wanted line) ≡ true
   all_given s given workers offered wanted = number_given (values_of workers line) w.workers says.workers

@@ -2,8 +2,8 @@
 use Rattle.std.specs.Prelude.{◌≡◌, ◌-◌, length, slice_index}
 use Rattle.command_words.specs.Words.{Text}
 use Rattle.command_words.specs.declared.task.Topic.{Topic}
-use Rattle.command_words.specs.declared.task.Topic.TheVariants.{Program, Check, Make, Tables, Run, Audit, Work, Stress, Create, Serve, History}
-use Rattle.command_words.specs.declared.help.TheConstants.{AUDIT, CHECK, CREATE, HISTORY, MAKE, PROGRAM, RUN, SERVE, STRESS, TABLES, VERSION, WORK}
+use Rattle.command_words.specs.declared.task.Topic.TheVariants.{Program, Check, Make, Tables, Run, Audit, Work, Stress, Create, Serve, History, Help, Faults}
+use Rattle.command_words.specs.declared.help.TheConstants.{AUDIT, CHECK, CREATE, FAULTS, HELP, HISTORY, MAKE, PROGRAM, RUN, SERVE, STRESS, TABLES, VERSION, WORK}
 
 -- the text of help on a topic
 abbrev pub text_of_topic : Topic → Text
@@ -18,6 +18,8 @@ text_of_topic Stress = STRESS.now
 text_of_topic Create = CREATE.now
 text_of_topic Serve = SERVE.now
 text_of_topic History = HISTORY.now
+text_of_topic Help = HELP.now
+text_of_topic Faults = FAULTS.now
 
 -- the last byte of the text is a line end
 abbrev pub EndsLine : Text → Type 0

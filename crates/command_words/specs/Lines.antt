@@ -21,7 +21,7 @@ setting_name tries = codes "tries"
 setting_name seed = codes "seed"
 setting_name following = codes "then"
 
--- the words behind a command's name, in their order
+-- the words after a command's name, in their order
 pub data Line : Type 0 where
   -- no more words
   done : Line
@@ -128,7 +128,7 @@ pub record Says (line : Line) (w : Work) : Type 0 where
   pub seed : IsGivenAny (values_of seed line) w.seed
   pub following : values_of following line ≡ []
 
--- the words are those of a line that says it, behind its command's name
+-- the words are those of a line that says it, after its command's name
 abbrev pub AreWorkWords : List Text → Work → Type 0
 AreWorkWords words w = (line : Line) × (words ≡ work_name w.seed ∷ line_words line) × Says line w
 
@@ -152,6 +152,6 @@ pub record SaysAudit (line : Line) (a : Audit) : Type 0 where
   pub later : values_of following line ≡ a.later
   pub alone : (other : Setting) → other ≢ following → values_of other line ≡ []
 
--- the words are those of a line that says it, behind `audit`
+-- the words are those of a line that says it, after `audit`
 abbrev pub AreAuditWords : List Text → Audit → Type 0
 AreAuditWords words a = (line : Line) × (words ≡ codes "audit" ∷ line_words line) × SaysAudit line a

@@ -115,7 +115,7 @@ work_app = workers_app (codes "work")
 abbrev pub stress_app : App
 stress_app = with_rule (workers_app (codes "stress")) seed_rule
 
--- the program above its commands, which wants one of them and takes no word for its own name
+-- the program above its commands, which needs one of them and takes no word for its own name
 abbrev pub bare_program : App
 bare_program = on_top (λ top. record top {
   no_binary_name = true;
@@ -146,7 +146,7 @@ abbrev pub IsWord : Rule → Arg → Type 0
 IsWord rule word = (word.global ≡ false) × (rule_of word ≡ rule)
 
 -- a parse of the words: its matches are those of the program, and its error has a cause in them or
--- is want of memory
+-- is that memory was refused
 abbrev pub Parses : List Text → Result ArgMatches Error → Type 0
 Parses words (Ok matches) = (kinds : ValueParser) × ReadsKinds kinds
     × (fault_of (program kinds) words ≡ []) × HasMatchesOf (program kinds) words matches

@@ -47,13 +47,13 @@ pub record AreWhole (p : Parts) (s : Serve) : Type 0 where
   pub archive : p.archive ≡ s.archive
   pub drain : s.drain ≡ unwrap_or p.drain 5
 
--- the words behind `serve` say it
+-- the words after `serve` say it
 pub record SayServe (rest : List Text) (s : Serve) : Type 0 where
   pub parts : Parts
   pub say : Say rest parts
   pub whole : AreWhole parts s
 
--- the words are those that say it, behind `serve`
+-- the words are those that say it, after `serve`
 abbrev pub AreServeWords : List Text → Serve → Type 0
 AreServeWords words s = (rest : List Text) × (words ≡ codes "serve" ∷ rest) × SayServe rest s
 

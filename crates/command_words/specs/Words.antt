@@ -77,6 +77,8 @@ help_words topic.Stress = codes "help" ∷ codes "stress" ∷ []
 help_words topic.Create = codes "help" ∷ codes "create" ∷ []
 help_words topic.Serve = codes "help" ∷ codes "serve" ∷ []
 help_words topic.History = codes "help" ∷ codes "history" ∷ []
+help_words topic.Help = codes "help" ∷ codes "help" ∷ []
+help_words topic.Faults = codes "help" ∷ codes "faults" ∷ []
 
 -- the words ask for it
 abbrev pub AreFor : List Text → Asked → Type 0

@@ -32,7 +32,8 @@ Commands:
   serve [--fast] [--archive FOLDER] [--drain S] DATABASE
                              Answer requests at the store in a file.
   history DATABASE           Write the history of the store in a file.
-  help [COMMAND]             Write this text, or the text on a command.
+  help [TOPIC]               Write this text, or the text on a command, on help
+                             or on faults.
 
 Options, in place of a command:
   -V, --version              Write the version.
@@ -40,12 +41,13 @@ Options, in place of a command:
 Status:
   0   yes, or done
   1   no
-  2   a fault of the command line or of a text
-  3   a file that can't be read, made or kept, want of memory, or an output that
-      failed
+  2   a fault of the command line or of a text (colock help faults)
+  3   a file that can't be read, made or kept, refused memory, or an output that
+      failed, as on a full disk
 
 Answers and texts go to standard output, faults to standard error. With --help
 or -h among the words, the text goes to standard error and the status is 2.
+A word that begins with a hyphen, and is no option, follows the word --.
 ";
 
 pub(crate) const CHECK: &str = "\
@@ -64,13 +66,15 @@ KIND is how objects of the type recover from aborts:
 
 FILE is the path of a type file.
 
-One line is written. States and operations have the numbers of the file.
+One line is written. States and operations have the numbers of the file, from 0
+in the order of its lines.
   yes strong
       Enough pairs conflict. All others may change places in both directions.
-      For escrow: each operation moves all states in which it is legal as far,
-      and is legal in each state between two of them.
+      For escrow: each operation moves all states in which it is legal by the
+      same number, and is legal in each state between two of them.
   yes one-way
-      The same for undo, where some others may change places in one direction.
+      The same for undo, but some others may change places in one direction
+      only. What is kept may then allow less than the serial order does.
   no InitialOutside
       The initial state isn't in the set of states.
   no NotClosed S K
@@ -81,14 +85,17 @@ One line is written. States and operations have the numbers of the file.
       second.
   no NotCommuting P Q S
       P, requested while Q is held, has to conflict with it: at state S they
-      can't change places.
+      can't change places. The line conflict KIND P Q mends that pair, and
+      colock tables makes all of them.
   no NotNumeric K S
       For escrow, and its only no: K is illegal in S and legal in a lower and
       in a higher state; or it is legal in S, and moves it otherwise than the
       least state in which it is legal.
 
+Example: colock check undo examples/ctr2.type
+
 Status: 0 yes, 1 no, 2 a fault of the command line or of the file's text, 3 a
-file that can't be read, want of memory, or an output that failed.
+file that can't be read, refused memory, or an output that failed.
 ";
 
 pub(crate) const MAKE: &str = "\
@@ -96,24 +103,50 @@ Write the type file of a family, with a relation and conflict tables that fit.
 
 Usage: colock make FAMILY SIZE ITEM...
 
-  FAMILY      SIZE                    ITEM...
-  account     the cap, 1 to 1023      amounts from 1 to the cap, ascending
-  counter     the cap, 1 to 1023      amounts from 1 to the cap, ascending
-  set         0                       names of elements, at most 25 bytes each
-  semiqueue   capacity, 1 to 1023     names of elements, at most 28 bytes each
+  account CAP AMOUNT...
+      A balance from 0 to CAP. Each AMOUNT can be deposited (ok, or full) and
+      withdrawn (ok, or short), and the balance can be asked. An operation for
+      each balance counts: with one AMOUNT, CAP is at most 59.
+  counter CAP AMOUNT...
+      A number from 0 to CAP. Each AMOUNT can be counted up (inc) and down
+      (dec), where the number stays in its range. It can't be asked. With more
+      than 32 AMOUNTs it is too large.
+  stock CAP AMOUNT...
+      A number from 0 to CAP. Each AMOUNT can be given (ok, or full) and taken
+      (ok, or short). It can't be asked. With more than 16 AMOUNTs it is too
+      large.
+  set 0 ELEMENT...
+      A set of these elements. Each can be inserted and deleted, and asked for
+      (member: true or false). With more than 10 elements it is too large.
+  semiqueue CAPACITY ELEMENT...
+      Up to CAPACITY elements in no order. Each can be put in (enq), and deq
+      takes any one. A state for each number of each element counts: with two
+      ELEMENTs, CAPACITY is at most 43.
+  queue CAPACITY ELEMENT...
+      Up to CAPACITY elements in a row. Each can be put in (enq), and deq takes
+      the one that came first. A state for each row counts: with two ELEMENTs,
+      CAPACITY is at most 9.
+  seats COUNT
+      Seats 1 to COUNT. Each can be held (ok, or taken), released or booked by
+      whoever holds it, and cancelled once it is booked. How many are free can
+      be asked. There is no ITEM, and with more than 6 seats it is too large.
 
-There is at least one ITEM, and none comes twice. A name is made of a-z, 0-9
-and _ : - alone. ITEMs that begin with a hyphen follow the word --.
+CAP, CAPACITY and COUNT are 1 to 1023. An AMOUNT is a number from 1 to CAP, and
+the AMOUNTs ascend. An ELEMENT is a name of a-z, 0-9 and _ : - alone, of at most
+25 bytes in a set and 28 in a semiqueue or a queue. Where there are AMOUNTs or
+ELEMENTs, there is at least one, and none comes twice. Those that begin with a
+hyphen follow the word --.
 
-A type has at most 64 operations and 1,024 states.
+Examples: colock make stock 1000 1 5
+          colock make semiqueue 2 mail report
+          colock make seats 3
 
-Example: colock make semiqueue 2 a b
-
-Status: 0 done, 2 a fault of the command line or one of those below, 3 want of
+Status: 0 done, 2 a fault of the command line or one of those below, 3 refused
 memory, or an output that failed.
-  colock: BadParameter   FAMILY is none of the four, or SIZE or an ITEM is none
-                         that it takes.
-  colock: TooLarge       The type has too many operations or states.
+  colock: BadParameter   There is no such family, or SIZE or an ITEM isn't as
+                         above.
+  colock: TooLarge       The type has more than 64 operations or more than 1,024
+                         states.
 ";
 
 pub(crate) const TABLES: &str = "\
@@ -124,9 +157,12 @@ Usage: colock tables FILE
 FILE is the path of a type file. What is written has its operations, states and
 steps and its set of states. The relation is made from the steps, and each
 conflict table has the pairs that can't change places at a state of the set.
+So a file of your own needs no equi and no conflict line.
+
+Example: colock tables examples/ctr2.type
 
 Status: 0 done, 2 a fault of the command line or of the file's text, 3 a file
-that can't be read, want of memory, or an output that failed.
+that can't be read, refused memory, or an output that failed.
 ";
 
 pub(crate) const RUN: &str = "\
@@ -146,21 +182,24 @@ each object is checked for its kind, as colock check does.
       The history, a line for each object and for each event. W is the worker,
       which is 0, T and U are transactions, X is an object, K an operation, C
       the least operation of a call, and N how many operations are struck.
-      What is open behind the last command is aborted.
+      What is open after the last command is aborted.
   # refused N Kind
-      A command was refused.
+      A command was refused: 1 NotOpen, there is no such open transaction;
+      2 NoObject; 3 NoCall, the object's type has no such call; 4 TooManyOpen,
+      1,024 are open; 5 HistoryFull; 6 NoMemory; 7 BadRollback, the transaction
+      hasn't as many operations.
   # kept X S
       Object X is in state S.
   # audit yes, # commit T, # serial X S
       The committed transactions, run one after another in this order, give the
-      same replies, and object X is in state S behind them.
+      same replies, and object X is in state S after them.
 
 What is written is the text of a history, which colock audit reads.
 
-Example: colock run transfer.script ctr2.type
+Example: colock run examples/stock.script examples/stock.type
 
 Status: 0 done, 1 a type that isn't accepted, 2 a fault of the command line or
-of a text, or no TYPE at a place, 3 a file that can't be read, want of memory,
+of a text, or no TYPE at a place, 3 a file that can't be read, refused memory,
 or an output that failed.
 ";
 
@@ -175,32 +214,32 @@ HISTORY is the path of a history, as colock run writes it, and each TYPE that
 of a type file. The history names the type of an object by its place among the
 TYPEs, from 0. The types aren't checked for a kind.
 
-Options, anywhere behind audit and before any --:
+Options, anywhere after audit and before any --:
   --then HISTORY   A history that follows, of the same objects, and begins at
                    the states that the ones before it end in. It may come any
                    number of times, and they follow in this order.
 
 DATABASE is the path of the file of a store. Its history is that which colock
 history writes, and is audited with the file's own types, from the states where
-the epoch began. The words stand in this order, and DATABASE may be any word.
+the epoch began. The words are in this order, and DATABASE may be any word.
 
   # audit yes, # commit T, # serial X S
-      They do, in this order, and object X is in state S behind them.
+      They do, in this order, and object X is in state S after them.
   # audit no BadEvent AT
-      No history has event AT, counted from 0, behind those before it.
+      No history has event AT, counted from 0, after those before it.
   # audit no IllegalOp I X J
       Of the I-th committed transaction the J-th operation at object X isn't
-      legal behind those before it, where both are counted from 0.
+      legal after those before it, where both are counted from 0.
 
 Where there is more than one history, a transaction is written N.T, for
 transaction T of the N-th history, and an event N.AT, where histories and events
 are counted from 0. The audit is one, and # serial X S is where the last ends.
 
-Example: colock audit out.history ctr2.type
+Example: colock audit examples/hasty.history examples/credit.type
 
 Status: 0 yes, 1 no, 2 a fault of the command line or of a text, no TYPE at a
-place, or a file that is no store's, 3 a file that can't be read, want of memory,
-or an output that failed.
+place, or a file that is no store's, 3 a file that can't be read, refused
+memory, or an output that failed.
 ";
 
 pub(crate) const WORK: &str = "\
@@ -213,9 +252,12 @@ JOBS is the path of the jobs, and each TYPE that of a type file. The jobs name
 the type of an object by its place among the TYPEs, from 0. The type of each
 object is checked for its kind, as colock check does.
 
-Options, each at most once, anywhere behind work and before any --:
+Options, each at most once, anywhere after work and before any --:
   --workers N   How many workers there are, 1 to 16.
   --tries K     How often a job is tried at most, 1 to 100, and 3 by default.
+
+In JOBS a line job W begins a job of worker W, 0 to N - 1, and each line do X
+CALL after it is one more call of that job. A W of N or more is OutOfRange.
 
 A worker does its jobs in their order. A job begins a transaction, makes its
 calls and commits. Where a call is answered busy or none, the transaction is
@@ -232,15 +274,15 @@ Where the begin or a call is refused, the job isn't tried anew.
   # job W I refused N Kind
       Its begin or a call was refused, and what was open of it was aborted.
   # job W I notrun
-      The thread of worker W wasn't started, for want of memory.
+      The thread of worker W wasn't started, as memory was refused.
 
 What is written is the text of a history, which colock audit reads.
 
-Example: colock work --workers 2 transfer.jobs ctr2.type
+Example: colock work --workers 16 examples/up.jobs examples/tally.type
 
 Status: 0 done, whatever came of the jobs, 1 a type that isn't accepted, 2 a
 fault of the command line or of a text, or no TYPE at a place, 3 a file that
-can't be read, want of memory, or an output that failed.
+can't be read, refused memory, or an output that failed.
 ";
 
 pub(crate) const STRESS: &str = "\
@@ -253,7 +295,7 @@ JOBS and each TYPE are as with colock work, and so are the tries of a job and
 the lines that are written (colock help work). There is one thread, and no job
 is notrun.
 
-Options, each at most once, anywhere behind stress and before any --:
+Options, each at most once, anywhere after stress and before any --:
   --seed S      The seed, 0 to 18446744073709551615.
   --workers N   How many workers there are, 1 to 16.
   --tries K     How often a job is tried at most, 1 to 100, and 3 by default.
@@ -261,11 +303,11 @@ Options, each at most once, anywhere behind stress and before any --:
 A turn is a begin, a call, a commit or an abort of one worker. Whose turn it is
 is drawn anew each time, among the workers that have jobs left.
 
-Example: colock stress --seed 7 --workers 2 transfer.jobs ctr2.type
+Example: colock stress --seed 7 --workers 16 examples/up.jobs examples/tally.type
 
 Status: 0 done, whatever came of the jobs, 1 a type that isn't accepted, 2 a
 fault of the command line or of a text, or no TYPE at a place, 3 a file that
-can't be read, want of memory, or an output that failed.
+can't be read, refused memory, or an output that failed.
 ";
 
 pub(crate) const CREATE: &str = "\
@@ -280,11 +322,11 @@ type among the TYPEs, from 0. The type of each object is checked for its kind,
 as colock check does. Where the answer is no, the first line says why, and no
 file is made.
 
-Example: colock create bank.db bank.objects ctr2.type
+Example: colock create hall.db examples/seats.objects examples/seats.type
 
 Status: 0 made, 1 a type that isn't accepted, 2 a fault of the command line or
 of a text, or no TYPE at a place, 3 a file that can't be read or made, something
-that is at DATABASE already, want of memory, or an output that failed.
+that is at DATABASE already, refused memory, or an output that failed.
 ";
 
 pub(crate) const SERVE: &str = "\
@@ -298,7 +340,7 @@ standard input are answered, a line each, until the request end or the end of
 the input. A commit is answered when it is durable. docs/formats.md has the
 requests.
 
-Options, each at most once, before DATABASE or behind it. A DATABASE that begins
+Options, each at most once, before DATABASE or after it. A DATABASE that begins
 with a hyphen follows --.
   --fast             A write that is torn where the machine stops is supposed to
                      leave each byte old or new. A commit then syncs once, and
@@ -312,11 +354,11 @@ with a hyphen follows --.
 One line on standard error says what was found: how many events, how many
 transactions were open and are aborted, and how many milliseconds it took.
 
-Example: colock serve bank.db
+Example: colock serve hall.db
 
-Status: 0 ended, 2 a fault of the command line, or a file that is no store's, 3 a
-file that can't be opened or that failed, an input or an output that failed, or
-want of memory.
+Status: 0 ended, 2 a fault of the command line, or a file that is no store's, 3
+a file that can't be opened or that failed, an input or an output that failed,
+or refused memory.
 ";
 
 pub(crate) const HISTORY: &str = "\
@@ -328,10 +370,83 @@ DATABASE is the path of the file of a store, as colock create makes it. The text
 names the types by their numbers in the file. The states where the epoch began
 aren't in it: colock audit --database audits this history from them.
 
-Example: colock history bank.db
+Example: colock history hall.db
 
 Status: 0 done, 2 a fault of the command line, or a file that is no store's, 3 a
-file that can't be opened or read, want of memory, or an output that failed.
+file that can't be opened or read, refused memory, or an output that failed.
+";
+
+pub(crate) const HELP: &str = "\
+Write the text on the program, or on a topic.
+
+Usage: colock help [TOPIC]
+
+TOPIC is a command, or one of these:
+  help     This text.
+  faults   What each fault of a text and of the command line means.
+
+colock --version, or -V, writes the version.
+
+Example: colock help faults
+
+Status: 0 done, 2 a fault of the command line, 3 refused memory, or an output
+that failed.
+";
+
+pub(crate) const FAULTS: &str = "\
+What the faults on standard error mean.
+
+  colock: FILE: line N: KIND
+      The first line of FILE that is refused. The kinds are below.
+  colock: FILE: object X: no type F
+      F isn't the place of one of the TYPEs, from 0.
+  colock: FILE: not the objects of HISTORY
+      A history after --then has other objects than the first.
+  colock: BadParameter, colock: TooLarge
+      Of make: see colock help make.
+  colock: OBJECTS: has events
+      The text given to create has more than objects.
+  colock: DATABASE: not a store
+      The file is no database, or one of something else.
+  colock: FILE: cannot read
+      There is no such file, or it isn't yours to read.
+  colock: DATABASE: file exists
+      create overwrites nothing.
+  colock: DATABASE: no such file, in use, cannot open, cannot read or write
+      What the system says of the file. In use: another process has it open.
+  colock: FOLDER: file exists, cannot read or write
+      The same of a history of serve --archive.
+  colock: no memory
+      Memory was refused.
+  nothing, and status 3
+      Standard output failed, as on a full disk.
+
+A text is lines of at most 200 bytes that end in LF. There is no CR, no tab, no
+byte order mark and no letter but those of ASCII. A line that begins with # is a
+comment, also one after end. Words are separated by spaces. A number is 0, or up
+to seven digits without a leading zero. A name is 1 to 32 of a-z, 0-9 and _ : -.
+
+KIND, by the first test that refuses the line:
+  NotAscii       It has a byte that isn't 32 to 126: a CR before the LF, a tab,
+                 a byte order mark.
+  LineTooLong    It has more than 200 bytes.
+  Unterminated   It is the last line, and no LF ends it.
+  AfterEnd       It comes after end.
+  UnknownWord    No line of this text begins so, or has so few or so many words;
+                 or a name or a kind is none.
+  BadNumber      A word isn't a number.
+  OutOfOrder     It comes after lines that it should come before. The sections
+                 of a type file: type, states, initial, op, step, reach, equi,
+                 conflict undo, conflict intentions, end.
+  Missing        A line that has to come before it is missing; without an end,
+                 it is the line after the last.
+  OutOfRange     A number is too large or too small, or there are too many such
+                 lines: colock make and docs/formats.md have the limits.
+  OutOfOrder     The numbers of step, reach, equi or conflict don't ascend.
+  TwiceOp        An operation with this call and reply came before.
+  NoMemory       Memory was refused here.
+
+docs/formats.md has an example of each.
 ";
 
 impl Topic {
@@ -352,6 +467,8 @@ impl Topic {
             Topic::Create => CREATE,
             Topic::Serve => SERVE,
             Topic::History => HISTORY,
+            Topic::Help => HELP,
+            Topic::Faults => FAULTS,
         }
     }
 }

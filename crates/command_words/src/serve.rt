@@ -13,7 +13,7 @@ use std::alloc::Global;
 /// How many seconds what is open may go on in an epoch that is full, where the words don't say it.
 const DRAIN: u32 = 5;
 
-/// What is said of words behind `serve` that aren't those of the command.
+/// What is said of words after `serve` that aren't those of the command.
 const USAGE: &str = "\
 error: the words behind serve are [--fast] [--archive FOLDER] [--drain S] DATABASE,
 each at most once
@@ -32,7 +32,7 @@ struct Parts<'a> {
     drain: Option<u32>,
 }
 
-/// Reads the words behind `serve`.
+/// Reads the words after `serve`.
 pub(crate) fn read_serve<'a>(alloc: Global, words: &[&'a str]) -> Result<Task<'a>, WordFault>
     ensures taken { IfOk result (λ task. (s : Serve) × (asked_of task ≡ asked.serve s) × SayServe (texts words.now) s) }
     ensures refused { IfErr result (λ fault. OnUsage fault ((s : Serve) → ¬ (SayServe (texts words.now) s))) }
@@ -142,7 +142,7 @@ fn with_archive<'a>(folder: &'a str, parts: Option<Parts<'a>>) -> Option<Parts<'
     }
 }
 
-/// The same, with so many seconds to drain.
+/// The same, with these seconds to drain.
 fn with_drain<'a>(seconds: &str, parts: Option<Parts<'a>>) -> Option<Parts<'a>>
     ensures said { IfSome result (λ p. (q : Found) × (n : ℕ) × (parts.entry ≡ Some q) × (q.drain ≡ None) × IsNumber seconds.now n × (n < 2 ^ 32) × (p ≡ record q { drain = Some n })) }
     ensures other { IfNone result (IfSome parts.entry (λ q. q.drain ≡ None → (n : ℕ) → n < 2 ^ 32 → ¬ (IsNumber seconds.now n))) }

@@ -17,7 +17,8 @@ pub enum Task<'a> {
     Make {
         /// The name of the family.
         family: &'a str,
-        /// The cap of an account or a counter, the capacity of a semiqueue, `0` for a set.
+        /// The cap of an account, a counter or a stock, the capacity of a semiqueue or a queue, how many
+        /// seats there are, `0` for a set.
         size: &'a str,
         /// The amounts or the elements.
         items: Vec<&'a str>,
@@ -131,6 +132,10 @@ pub enum Topic {
     Serve,
     /// The command `history`.
     History,
+    /// The command `help`.
+    Help,
+    /// What the faults mean.
+    Faults,
 }
 
 /// Why the words name no task.

@@ -19,10 +19,10 @@ use std::alloc::{AllocError, Global};
 use type_table::Kind;
 
 /// Reads the words after the program's name. At `Ok` they are the task's, and those of a command may
-/// have one `--` among them. The options of `audit`, `work` and `stress` stand anywhere before it, in
+/// have one `--` among them. The options of `audit`, `work` and `stress` may be anywhere before it, in
 /// either form. A fault of the command line comes of no words of a task, where none of the paths,
 /// FAMILY, SIZE and the ITEMs begins with a hyphen; `--help` among the words is such a fault. Which
-/// of the two faults comes is `clap`'s, but for `serve`. Behind `audit --database` stands one word, which
+/// of the two faults comes is `clap`'s, but for `serve`. After `audit --database` comes one word, which
 /// is the path whatever it is.
 pub fn read_words<'a>(alloc: Global, words: &'a [&'a str]) -> Result<Task<'a>, WordFault>
     ensures taken { IfOk result (AreWordsOf (texts words.now)) }
@@ -61,7 +61,7 @@ fn direct_task<'a>(words: &[&'a str]) -> Option<Task<'a>>
     }
 }
 
-/// The command of this name, as a topic.
+/// The topic of this name.
 fn topic_of(name: &str) -> Option<Topic>
     ensures named { IfSome result (λ topic. codes "help" ∷ name.now ∷ [] ≡ help_words topic) }
     ensures other { IfNone result ((topic : Topic) → codes "help" ∷ name.now ∷ [] ≢ help_words topic) }
@@ -77,6 +77,8 @@ fn topic_of(name: &str) -> Option<Topic>
         "create" => Some(Topic::Create),
         "serve" => Some(Topic::Serve),
         "history" => Some(Topic::History),
+        "help" => Some(Topic::Help),
+        "faults" => Some(Topic::Faults),
         _ => None,
     }
 }

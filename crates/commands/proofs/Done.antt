@@ -168,7 +168,7 @@ module _ (old gathered new err new_err : Option (List ℕ)) (status : Status) (n
     abbrev Comes : Result Verdict Fault → Type 0
     Comes answer = ComesOr (Written given task) (Begun given task) (Answer given task) (IsAmiss given task) answer (append_known old []) gathered
 
-    -- the program failed behind a text, of which the output took a beginning or the whole
+    -- the program failed after a text, of which the output took a beginning or the whole
     failed_behind : (text : List ℕ) → Started given task text → Appends (append_known old []) gathered text → IsBegun gathered new → Ends Failed
     failed_behind text started more part = let b = begun old gathered new text nothing more part in inr (text, b.0, started, b.1)
 
@@ -197,7 +197,7 @@ module _ (old gathered new err new_err : Option (List ℕ)) (status : Status) (n
         let none = does_nothing fault same ended in
         ⊎_elim (λ is. subst Ends (sym (is ∙ is_failed)) (inl none.1)) (λ is. subst Ends (sym is) (inl none.1)) none.0
 
-    -- of one behind a text
+    -- of one after a text
     failed_text : (fault : Fault) → (status_of fault ≡ Failed) → (text : List ℕ) → Started given task text → Appends (append_known old []) gathered text
         → Concludes (Err fault) gathered status new err new_err → Ends status
     failed_text fault is_failed text started more ended =
@@ -232,7 +232,7 @@ module _ (old gathered new err new_err : Option (List ℕ)) (status : Status) (n
         ⊎_elim (λ same. failed NoMemory refl same ended) (λ b. failed_text NoMemory refl b.0 (inr (inr b.1)) b.2 ended) c
     does (Err Output) says c ended = failed_output Output refl c.0 c.1 (inr (inl c.2)) c.3 ended
 
-    -- of serving, which takes no fault of what the user gave for one behind a text
+    -- of serving, which takes no fault of what the user gave for one after a text
     abbrev Serves : Result Verdict Fault → Type 0
     Serves answer = ComesOfServing (Begun given task) (Answer given task) answer (append_known old []) gathered
 

@@ -27,8 +27,8 @@ use Rattle.type_commands.specs.Made.{CannotBeMade, MakesFamily, MakesTablesOf}
 use Rattle.type_commands.specs.Request.{texts, wanted_of}
 use Rattle.type_commands.specs.Verdict.{ChecksFile}
 
--- what is given beside the words, where it tells: what is held at the paths of files, the last commit of the database at a path, before
--- and behind, that no wrong answer of a disk was taken as true, and what the input gives, before and behind
+-- what is given beside the words, if known: what is held at the paths of files, the last commit of the database at a path, before
+-- and after, that no wrong answer of a disk was taken as true, and what the input gives, before and after
 pub record Shown : Type 1 where
   pub files : Held
   pub databases : List ℕ → Option Trees
@@ -85,19 +85,19 @@ abbrev pub Begun : Shown → Task → List ℕ → Type 0
 Begun given (Run script types) text = BeginsRunFile given.files script.now (texts types.items) text
 Begun given (Work jobs types workers tries) text = BeginsWorkFile given.files workers tries jobs.now (texts types.items) text
 Begun given (Stress jobs types workers tries seed) text = BeginsWorkFile given.files workers tries jobs.now (texts types.items) text
-Begun given (Serve database fast archive drain) text = BeginsServing given.clean (given.databases database.now) text
+Begun given (Serve database fast archive drain) text = BeginsServing given.clean (given.databases database.now) (given.made database.now) text
 Begun given task text = AnyAnswer (Answer given task) text
 
 -- a text that the output may have begun where the program failed
 abbrev pub Started : Shown → Task → List ℕ → Type 0
 Started given task text = AnyAnswer (Answer given task) text ⊎ (Begun given task text ⊎ Written given task text)
 
--- what standard error took of a task that has an answer: of serving the line that tells what was found, and else nothing
+-- what standard error took of a task that has an answer: of serving the line that says what was found, and else nothing
 abbrev pub Says : Shown → Task → Option (List ℕ) → Option (List ℕ) → Type 0
 Says given (Serve database fast archive drain) err new_err = SaysFound given.clean (given.databases database.now) database.now err new_err
 Says given task err new_err = new_err ≡ err
 
--- by the status of a task, what the output took where it tells: yes or no, a text that answers it, and standard error took what is said; what
+-- by the status of a task, what the output took, if known: yes or no, a text that answers it, and standard error took what is said; what
 -- the user gave has a fault, and the output took nothing; or the program failed, and it took a beginning of such a text, perhaps nothing
 -- or the whole
 abbrev pub Does : Shown → Task → Status → Option (List ℕ) → Option (List ℕ) → Option (List ℕ) → Option (List ℕ) → Type 0
@@ -124,7 +124,7 @@ abbrev pub IsToServe : Task → Type 0
 IsToServe (Serve database fast archive drain) = ⊤
 IsToServe task = ⊥
 
--- what comes of a task before the output hands on what it gathered; what is served is told while it is done
+-- what comes of a task before the output hands on what it gathered; what is served is answered while it is done
 abbrev pub DoesTask : Shown → Task → Result Verdict Fault → Option (List ℕ) → Option (List ℕ) → Type 0
 DoesTask given task result old new =
     (IsToServe task × ComesOfServing (Begun given task) (Answer given task) result old new)

@@ -31,7 +31,7 @@ use type_commands::{check_file, make_family, make_tables_of};
 /// Does what the words after the program's name ask for, with what is given, and answers the status; or says
 /// why there are no words.
 ///
-/// Standard error takes the line of a fault, and where a store is served a line that tells what was found; else
+/// Standard error takes the line of a fault, and where a store is served a line that says what was found; else
 /// nothing. What the status says of the words, of what is given and of what both took is `DoesWords`.
 pub fn do_words<
     R: AllocGlobal + Clock + Threads + Wait + Sync,
@@ -138,7 +138,7 @@ fn task_of<'a>(alloc: Global, words: &'a [&'a str]) -> Result<Task<'a>, Fault<'a
     }
 }
 
-/// How a store is to be served: the seconds of `--drain` are so many.
+/// How a store is to be served: `drain` is the seconds of `--drain`.
 fn serving<'a>(path: &'a str, fast: bool, archive: Option<&'a str>, drain: u32) -> Serving<'a>
     ensures path { result.path ≡ path.entry }
     ensures torn { result.torn ≡ (if fast then TornWrites.OldOrNew else TornWrites.AnyBytes) }
@@ -158,7 +158,7 @@ fn serving<'a>(path: &'a str, fast: bool, archive: Option<&'a str>, drain: u32) 
     }
 }
 
-/// Serves the store in the database at a path: its client is told by the console's output.
+/// Serves the store in the database at a path: its client gets the answers from the console's output.
 fn do_serve<'a, R: AllocGlobal + Clock, S, D: Databases, K: Archives, I: Read, W: Out, E: Out>(
     rt: &R,
     asked: Serving<'a>,
@@ -167,7 +167,7 @@ fn do_serve<'a, R: AllocGlobal + Clock, S, D: Databases, K: Archives, I: Read, W
 ) -> (Result<Verdict, Fault<'a>>, Console<W, E>)
     requires out_takes { W.fault (under console.out) ≡ None }
     requires err_takes { E.fault console.err ≡ None }
-    ensures comes { let path = asked.entry.path in ComesOfServing (BeginsServing (D.is_clean given.new.databases) (D.holds given.old.databases path.now))
+    ensures comes { let path = asked.entry.path in ComesOfServing (BeginsServing (D.is_clean given.new.databases) (D.holds given.old.databases path.now) (D.holds given.new.databases path.now))
         (ServesDatabase (D.is_clean given.new.databases) (D.holds given.old.databases path.now) (D.holds given.new.databases path.now) (I.remaining given.old.input) (I.remaining given.new.input))
         result.0 (taken_by W.taken console.out) (taken_by W.taken result.1.out) }
     ensures source { given.new.source ≡ given.old.source }

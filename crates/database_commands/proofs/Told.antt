@@ -48,13 +48,13 @@ pub of_held : (held : Option Trees) (opened : Trees) (P : Trees → Type 0) → 
 of_held None opened P same is = tt
 of_held (Some db) opened P same is = subst P same is
 
--- what is told of trees that were opened, and come back and are closed, is told of what is held
+-- what is said of trees that were opened, and come back and are closed, holds of what is held
 pub told : {T E : Type 0} (r : Result T E) (clean back opened is_open : Type 0) (held : Option Trees) (trees : Trees) (P : T → Trees → Type 0) → (clean → back) → IfOk r (λ x. back → opened)
     → IfOk r (λ x. back → is_open) → (opened → is_open → IfSome held (λ db. trees ≡ db)) → IfOk r (λ x. back → P x trees) → IfOk r (λ x. clean → IfSome held (P x))
 told (Ok x) clean back opened is_open held trees P closes cleans opens holds says = λ is. let b = closes is in of_held held trees (P x) (holds (cleans b) (opens b)) (says b)
 told (Err e) clean back opened is_open held trees P closes cleans opens holds says = tt
 
--- what is told of an audit that has a verdict
+-- what is said of an audit that has a verdict
 pub told_of : {T E : Type 0} (r : Result T E) (c : Contents) (outcome : Result Audit AuditFault) (lines : List ℕ) (verdict : T → Verdict) (text : T → List ℕ) → IsAuditOf c outcome lines
     → IfOk r (λ x. IsVerdictOf outcome (verdict x)) → IfOk r (λ x. text x ≡ lines) → IfOk r (λ x. Audits c (verdict x) (text x))
 told_of (Ok x) c outcome lines verdict text is of same = says c outcome lines is (verdict x) (text x) of same

@@ -31,7 +31,7 @@ AreFaultyObjects text = IsFaultyHistory text ⊎ ((history : HistoryFile) × Des
 
 -- ---- the file
 
--- it is that of a new store, by some bytes that tell it from every other: of these objects, with the canonical texts of these types
+-- it is that of a new store, with some bytes that no other store has, of these objects and the canonical texts of these types
 abbrev pub IsMade : List TypeFile → List ObjectLine → Trees → Type 0
 IsMade files objects db = (id : List ℕ) × IsNew id (map canonical_text files) objects (contents_of db)
 

@@ -39,7 +39,7 @@ pub struct NewStore<'a, 'w> {
 /// # Errors
 ///
 /// A text has a fault or can't be read, the objects have events, no TYPE word is at an object's place, the database
-/// isn't made, memory was refused, or the output failed. Only behind the last one there may be a new file at the path.
+/// isn't made, memory was refused, or the output failed. Only after the last of these there may be a new file at the path.
 pub fn create_store<'a, S: Source, D: Databases, W: Out>(
     alloc: Global,
     asked: NewStore<'a, '_>,
@@ -136,7 +136,7 @@ fn make_at<'a, D: Databases, W: Out>(
     put_answer(Verdict::Yes, b"", out)
 }
 
-/// Bytes that tell a new store from every other.
+/// Bytes that no other store has.
 fn new_id<'a, D: Databases>(path: &'a str, databases: &mut D) -> Result<[u8; 16], Fault<'a>>
     ensures refused { IfErr result (Refuses ⊥) }
     ensures kept { D.holds databases.new path.now ≡ D.holds databases.old path.now }

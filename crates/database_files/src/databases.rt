@@ -12,9 +12,9 @@ use sqlite::Alter;
 /// What gives the trees of a database by its path.
 pub trait Databases {
     /// The trees of one database.
-    type Opened: Alter + Drop;
+    type Opened: Alter;
 
-    /// The last commit of the database at a path, where this tells it; over the system's files it doesn't.
+    /// The last commit of the database at a path, where this says it; over the system's files nothing does.
     ghost holds: { Self → List ℕ → Option Trees };
 
     /// No wrong answer of a disk was taken as true; over the system's files nothing says so.
@@ -33,7 +33,7 @@ pub trait Databases {
         ensures numbered { IfOk result (λ trees. IsClean (Self.Opened.Store.view trees) → IsTrue (Self.Opened.Store.view trees).is_numbered) }
         ensures kept { (other : List ℕ) → holds self.new other ≡ holds self.old other };
 
-    /// Bytes that tell a new database from every other.
+    /// Bytes that no other database has.
     fn id(&mut self) -> Result<[u8; 16], DatabaseFault>
         ensures kept { (other : List ℕ) → holds self.new other ≡ holds self.old other };
 
@@ -51,8 +51,14 @@ pub trait Databases {
     fn discard(&mut self, path: &str, trees: Self::Opened)
         ensures kept { (other : List ℕ) → holds self.new other ≡ holds self.old other };
 
-    /// Lets go of the trees of the database at a path.
+    /// Moves what is committed in the trees of the database at a path into its file, and lets go of them.
     fn close(&mut self, path: &str, trees: Self::Opened)
         ensures clean { is_clean self.new → IsClean (Self.Opened.Store.view trees) }
         ensures held { IsClean (Self.Opened.Store.view trees) → IfSome (holds self.new path.now) (λ db. (Self.Opened.Store.view trees).committed ≡ db) };
+
+    /// Lets go of the trees of the database at a path as they are, with no further call of its file: an open finds
+    /// what a machine that stops now may have left.
+    fn leave(&mut self, path: &str, trees: Self::Opened)
+        ensures clean { is_clean self.new → IsClean (Self.Opened.Store.view trees) }
+        ensures left { IsClean (Self.Opened.Store.view trees) → IfSome (holds self.new path.now) (Self.Opened.Store.recovers trees) };
 }

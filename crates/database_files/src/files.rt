@@ -5,13 +5,14 @@ ghost use Rattle.sqlite_trees.specs.Tree.{Trees};
 ghost use Rattle.sqlite_trees.specs.View.{IsClean};
 ghost use Rattle.sqlite_std_file.specs.File.{file_is_usable, IsFresh};
 ghost use Rattle.sqlite_wal.specs.Files.{image_at};
+ghost use Rattle.sqlite_store.specs.FileStore.{files};
 ghost use Rattle.sqlite.specs.State.{HasCleanDisk};
 ghost use Rattle.sqlite.specs.Held.{state};
 ghost use Rattle.sqlite.specs.Files.{HoldsDatabase, image_of, over_files};
 ghost use Rattle.database_files.specs.ChosenDisk.{disk_of};
 
 use crate::chosen_disk::ChosenDisk;
-use crate::faults::{fault_of_database, fault_of_files, fault_of_system};
+use crate::faults::{fault_of_database, fault_of_files, fault_of_system, fault_of_trees};
 use crate::heads::may_be_database;
 use crate::new_files::{drop_new_name, new_path, refuse_taken, remove_new};
 use crate::open_fault::OpenFault;
@@ -19,6 +20,7 @@ use crate::torn_writes::TornWrites;
 use command_files::DatabaseFault;
 use sqlite::{Alter, Connection, FileFrom, FileStore, Files, Options, Start};
 use sqlite_disk::Disk;
+use sqlite_trees::store::Store;
 use std::fs;
 use std::hash::{BuildHasher, RandomState};
 
@@ -90,6 +92,20 @@ fn new_trees<S: Start>(
 {
     let new = new_path(rt, path)?;
     let files = files_at(rt, new.as_str(), start, TornWrites::AnyBytes)?;
+    emptied_trees(rt, path, files)
+}
+
+/// The trees of these files, which are emptied first, where a path is still free. They are over any disk: with a disk
+/// that is named, what is said of their trees costs several times as much to prove.
+fn emptied_trees<D: Disk + Drop>(
+    rt: &HostRuntime,
+    path: &str,
+    files: Files<D>,
+) -> Result<FileStore<D>, DatabaseFault>
+    requires log { IsTrue (D.Disk.is_usable files.log) }
+    requires db { IsTrue (D.Disk.is_usable files.db) }
+    ensures numbered { IfOk result (λ trees. IsClean (over_files.view trees) → IsTrue (over_files.view trees).is_numbered) }
+{
     // Once more, since who held the file until now may have published it.
     refuse_taken(rt, path)?;
     let files = emptied(files)?;
@@ -111,6 +127,25 @@ fn emptied<D: Disk + Drop>(files: Files<D>) -> Result<Files<D>, DatabaseFault>
         Ok(()) => Ok(Files { log, db }),
         Err(error) => Err(fault_of_system(error)),
     }
+}
+
+/// What was committed in trees is moved from their log into their file, where that succeeds; and the files, which are
+/// held until they are let go of.
+pub(crate) fn moved_files<D: Disk>(trees: FileStore<D>) -> (Result<(), DatabaseFault>, Files<D>) {
+    let mut trees = trees;
+    trees.rollback();
+    let moved = match trees.checkpoint() {
+        Ok(()) => Ok(()),
+        Err(error) => Err(fault_of_trees(error)),
+    };
+    (moved, trees.close())
+}
+
+/// The files of trees that are let go of as they are: no call of them is made.
+pub fn files_left<D: Disk>(trees: FileStore<D>) -> Files<D>
+    ensures { (result.log, result.db) ≡ files trees }
+{
+    trees.close()
 }
 
 /// SQLite's name for a database that is in memory, and its URIs, are no paths.

@@ -14,6 +14,6 @@ mod torn_writes;
 pub use chosen_disk::ChosenDisk;
 pub use databases::Databases;
 pub use file_databases::FileDatabases;
-pub use files::{ChosenFile, create_files, open_files};
+pub use files::{ChosenFile, create_files, files_left, open_files};
 pub use open_fault::OpenFault;
 pub use torn_writes::TornWrites;

@@ -6,10 +6,10 @@ use std::fs::File;
 use std::os::unix::fs::MetadataExt;
 use std::{fs, io};
 
-/// What is behind a path in the name under which its file is made.
+/// What comes after a path in the name under which its file is made.
 const NEW: &str = "-colock-new";
 
-/// What is behind a path in the names of its log, and of a journal that SQLite would play back into its file.
+/// What comes after a path in the names of its log, and of a journal that SQLite would play back into its file.
 const BESIDE: [&str; 2] = ["-wal", "-journal"];
 
 /// The path at which the file for a path is made.
@@ -90,7 +90,7 @@ pub(crate) fn remove_new(rt: &HostRuntime, path: &str) {
     }
 }
 
-/// Removes the name under which the file at a path was made, where a process was killed right behind its publishing:
+/// Removes the name under which the file at a path was made, where a process was killed right after it was published:
 /// a file with two names isn't opened.
 ///
 /// # Errors

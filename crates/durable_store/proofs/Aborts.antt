@@ -8,7 +8,7 @@ use Rattle.std.specs.List.{range_with_len}
 use Rattle.object_trait.specs.declared.event.Event.{Event}
 use Rattle.object_trait.specs.declared.event.EventKind.{EventKind}
 use Rattle.object_trait.specs.declared.event.EventKind.TheVariants.{Begin, Op, Busy, None, Commit, Abort, Rollback}
-use Rattle.serial_order.specs.History.{seen}
+use Rattle.serial_order.specs.History.{summary}
 use Rattle.serial_order.specs.After.{beginners}
 use Rattle.store.specs.Ends.{closing_but, is_other}
 use Rattle.store_laws.specs.Stored.{Stored}
@@ -37,7 +37,7 @@ each-by-zero who is (t ∷ ts) = ap₂ (λ w more. (let e : Event = record { wor
 pub closing-by-zero : (those : List ℕ) (happened : List EventKind) → closing_but those (events happened) ≡ events (kinds (closing_but those (events happened)))
 closing-by-zero those happened =
     each-by-zero (λ t. slice_index_or (beginners (events happened)) t 0) (began-zero happened)
-    (filter (is_other those (seen (events happened))) (range_with_len 0 (seen (events happened)).begun))
+    (filter (is_other those (summary (events happened))) (range_with_len 0 (summary (events happened)).begun))
 
 -- the aborts of what was open, but of those, are what the journal hasn't yet
 pub aborts-behind : {S : Type 0} (g : Ghosts S) (those : List ℕ) (d : Durable S) (s : Stored) (count : ℕ) → IsDurable g d → count ≡ length d.store.history → d.store.forgotten ≤ count

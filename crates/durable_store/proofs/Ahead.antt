@@ -11,6 +11,7 @@ use Rattle.type_text.specs.declared.type_file.TypeFile.{TypeFile}
 use Rattle.table_checker.specs.At.{checked_at, IsInside}
 use Rattle.table_checker.specs.Checked.{Checked, set_by}
 use Rattle.serial_order.specs.Epochs.{types_at}
+use Rattle.serial_order.proofs.EpochTypes.{is-at, length-types_at}
 use Rattle.store.specs.Renews.{Renews}
 use Rattle.store_laws.specs.Stored.{Stored}
 use Rattle.store_text.specs.declared.line.ObjectLine.{ObjectLine}
@@ -21,19 +22,6 @@ use Rattle.durable_store.specs.declared.durable.Durable.{Durable}
 use Rattle.durable_store.specs.Types.{HasTypes, IsTypeOf}
 use Rattle.durable_store.specs.Durable.{IsDurable}
 use Rattle.durable_store.specs.Epochs.{IsAhead, firsts}
-
--- a type and the state that was kept at each place of types that begin anew
-at-kept : (types : List Checked) (kept : List ℕ) (x : ℕ) (now : Checked) → slice_get (types_at types kept) x ≡ Some now
-    → (c : Checked) × ((s : ℕ) × (slice_get types x ≡ Some c) × (slice_get kept x ≡ Some s) × (now ≡ checked_at c s))
-at-kept [] kept x now there = absurd cc
-at-kept (c ∷ types) [] x now there = absurd cc
-at-kept (c ∷ types) (s ∷ kept) zero now there = (c, (s, refl, refl, sym (same_Some (checked_at c s) now there)))
-at-kept (c ∷ types) (s ∷ kept) (suc x) now there = at-kept types kept x now there
-
-many-kept : (types : List Checked) (kept : List ℕ) → length kept ≡ length types → length (types_at types kept) ≡ length types
-many-kept [] kept long = refl
-many-kept (c ∷ types) [] long = absurd (omega (arith, long))
-many-kept (c ∷ types) (s ∷ kept) long = ap suc (many-kept types kept (omega (arith, long)))
 
 -- where it begins makes no difference to where it may begin
 same-inside : (kind : Kind) (file : TypeFile) (i s : ℕ) → set_by kind (file_at file i) s ≡ set_by kind file s
@@ -56,7 +44,7 @@ begun-anew texts o was first c now s of inside is state =
       is = is ∙ ap (λ (c : Checked). checked_at c s) of.is ∙ ap (checked_at base) (sym state);
     }
 
--- the state that stands for a type is that at which it begins
+-- the state that is given for a type is that at which it begins
 first-of : (types : List Checked) (x : ℕ) (c : Checked) (first : FirstState) → slice_get types x ≡ Some c → slice_get (firsts types) x ≡ Some first → first.state ≡ c.file.table.initial
 first-of [] x c first there state = absurd cc
 first-of (d ∷ types) zero c first there state =
@@ -70,21 +58,21 @@ has-renewed : (f : Contents) (types : List Checked) (kept : List ℕ) → HasTyp
     → HasTypes (from_states f (firsts (types_at types kept))) (types_at types kept)
 has-renewed f types kept its long inside =
     let now = types_at types kept in
-    let many : length now ≡ length f.objects = many-kept types kept long ∙ its.as_many in
+    let many : length now ≡ length f.objects = length-types_at types kept long ∙ its.as_many in
     record {
       as_many = many;
       as_many_states = length-map now (λ (c : Checked). let it : FirstState = record { state = c.file.table.initial } in it) ∙ many;
       each = λ x o first type line state there.
-          let (c, rest) = at-kept types kept x type there in
-          let (s, there-c, there-s, is) = rest in
+          let found = is-at types kept x type there in
+          let is : type ≡ checked_at found.c found.s = sym found.is in
           let was = get_or f.states x first in
           let low : x < length f.states = omega (arith, slice_get_within f.objects x o line, its.as_many_states) in
-          let of : IsTypeOf f.types o was c = its.each x o was c line (slice_get-get_or f.states x first low) there-c in
-          begun-anew f.types o was first c type s of (inside x c s there-c there-s) is
+          let of : IsTypeOf f.types o was found.c = its.each x o was found.c line (slice_get-get_or f.states x first low) found.type in
+          begun-anew f.types o was first found.c type found.s of (inside x found.c found.s found.type found.state) is
           (first-of now x type first there state ∙ ap (λ (c : Checked). c.file.table.initial) is);
     }
 
--- behind a new epoch of the store alone
+-- after a new epoch of the store alone
 pub ahead : {S : Type 0} (g : Ghosts S) (d : Durable S) (new : Stored) → IsDurable g d → Renews d.store new → IsAhead g (record { store = new; journal = d.journal })
 ahead g d new sound renews =
     let now = types_at d.store.types renews.kept in
@@ -93,7 +81,7 @@ ahead g d new sound renews =
       journal = sound.journal;
       settled = sound.settled;
       none = ap (λ (s : Stored). s.history) renews.is;
-      as_many = λ clean. ap length types ∙ many-kept d.store.types renews.kept renews.as_many ∙ (sound.types clean).as_many ∙ sym (sound.types clean).as_many_states;
+      as_many = λ clean. ap length types ∙ length-types_at d.store.types renews.kept renews.as_many ∙ (sound.types clean).as_many ∙ sym (sound.types clean).as_many_states;
       types = λ clean.
           subst (λ ts. HasTypes (from_states (written g d.journal) (firsts ts)) ts) (sym types)
           (has-renewed (written g d.journal) d.store.types renews.kept (sound.types clean) renews.as_many (λ x c s there kept. (renews.epoch.kept x c s there kept).inside));

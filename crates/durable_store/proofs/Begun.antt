@@ -1,10 +1,11 @@
 -- Types at the states where a history begins, one after another.
-use Rattle.std.proofs.Common.{◌≡◌, ◌∙◌, ◌⊎◌, ℕ, ◌<◌, zero, suc, List, [], ◌∷◌, ◌++◌, length, map, take, get_or, Some, refl, sym, ap, subst, inl, inr, arith}
+use Rattle.std.proofs.Common.{◌≡◌, ◌∙◌, ℕ, ◌<◌, zero, suc, List, [], ◌∷◌, ◌++◌, length, map, take, get_or, Some, refl, sym, ap, subst, inl, inr, arith}
 use Rattle.std.specs.Prelude.{slice_get}
 use Rattle.std.specs.Option.{option_map}
 use Rattle.std.specs.declared.sync.Arc.{Arc}
 use Rattle.std.proofs.lemmas.List.{length-map, length-take, map_push}
 use Rattle.std.proofs.lemmas.Option.{same_Some, slice_get-get_or, slice_get-map, slice_get_read, slice_get_within}
+use Rattle.type_table.proofs.Elements.{cases-more}
 use Rattle.type_text.specs.declared.type_file.TypeFile.{TypeFile}
 use Rattle.table_checker.specs.At.{checked_at, IsInside}
 use Rattle.table_checker.specs.Checked.{Checked, IsChecked}
@@ -16,21 +17,11 @@ use Rattle.journal.specs.declared.state_row.FirstState.{FirstState}
 use Rattle.object_types.proofs.Pairs.{Each}
 use Rattle.durable_store.specs.Begun.{AreAlike, AreAt, AreRead, IsAt, IsAtPlace}
 
--- what is at a place of a list with one more is at that place before, or is that one
-behind : {A : Type 0} (xs : List A) (b : A) (k : ℕ) (y : A) → slice_get (xs ++ b ∷ []) k ≡ Some y → (slice_get xs k ≡ Some y) ⊎ ((k ≡ length xs) × (b ≡ y))
-behind [] b zero y at = inr (refl, same_Some b y at)
-behind [] b (suc k) y at = absurd cc
-behind (a ∷ xs) b zero y at = inl at
-behind (a ∷ xs) b (suc k) y at = elim (behind xs b k y at) [
-  | inl before ↦ inl before
-  | inr last ↦ inr (ap suc last.0, last.1)
-]
-
 -- one more has its partner
 pub each-more : {A B : Type 0} (P : A → B → Type 0) (xs : List A) (ys new : List B) (i : ℕ) (a : A) (b : B) → length ys ≡ i → slice_get xs i ≡ Some a → P a b → Each P xs ys
     → new ≡ ys ++ b ∷ [] → Each P xs new
 each-more P xs ys new i a b long there here each is k x y first second =
-    elim (behind ys b k y (subst (λ ys. slice_get ys k ≡ Some y) is second)) [
+    elim (cases-more ys b k y (subst (λ ys. slice_get ys k ≡ Some y) is second)) [
       | inl before ↦ each k x y first before
       | inr last ↦ (
           let place : k ≡ i = last.0 ∙ long in
@@ -43,7 +34,7 @@ pub at-more : {A : Type 0} (types : List Checked) (states : List FirstState) (be
     → AreAt types states (map value_of begun) → IsAtPlace types states x (value_of at) → new ≡ begun ++ at ∷ [] → AreAt types states (map value_of new)
 at-more {A} types states begun new x at long known here is k y there =
     let more : map value_of new ≡ map value_of begun ++ value_of at ∷ [] = ap (map (value_of {A = A})) is ∙ map_push (value_of {A = A}) begun at in
-    elim (behind (map value_of begun) (value_of at) k y (subst (λ ys. slice_get ys k ≡ Some y) more there)) [
+    elim (cases-more (map value_of begun) (value_of at) k y (subst (λ ys. slice_get ys k ≡ Some y) more there)) [
       | inl before ↦ known k y before
       | inr last ↦ (
           let place : k ≡ x = last.0 ∙ length-map begun (value_of {A = A}) ∙ long in

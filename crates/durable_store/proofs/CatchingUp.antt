@@ -12,7 +12,7 @@ use Rattle.durable_store.specs.declared.durable.Durable.{Durable}
 use Rattle.durable_store.specs.Types.{HasTypes}
 use Rattle.durable_store.specs.Durable.{IsBehind, IsDurable, events, kinds, with_all}
 
--- what is remembered ends with the events behind the first n
+-- what is remembered ends with the events after the first n
 pub last-ones : (H R : List Event) (f n k : ℕ) → R ≡ drop f H → k ≡ length H → f ≤ n → n ≤ length H
     → take (length R - (length R - (k - n))) (drop (length R - (k - n)) R) ≡ drop n H
 last-ones H R f n k is total low high =

@@ -1,4 +1,4 @@
--- What is found behind a settling that answered.
+-- What is found after a settling that answered.
 use Rattle.std.proofs.Common.{◌≡◌, ◌∙◌, Bool, ◌++◌, Option, Some, None, Result, Ok, Err, IfSome, OnOk, IsTrue, sym, ap, length}
 use Rattle.std.proofs.lemmas.Bool.{false≢true}
 use Rattle.std.specs.Result.{is_ok}

@@ -1,15 +1,13 @@
 -- Types at their own initial states.
-use Rattle.std.proofs.Common.{◌≡◌, ◌∙◌, ℕ, ◌<◌, List, length, get_or, Some, refl, sym, ap, subst, true, arith, lt-ltb}
+use Rattle.std.proofs.Common.{◌≡◌, ◌∙◌, ℕ, List, Some, refl, sym, ap, subst, true, lt-ltb}
 use Rattle.std.specs.Prelude.{slice_get}
 use Rattle.std.specs.Option.{option_map}
-use Rattle.std.proofs.lemmas.Option.{same_Some, slice_get-get_or, slice_get-map, slice_get_within}
+use Rattle.std.proofs.lemmas.Option.{same_Some, slice_get-map}
 use Rattle.type_table.specs.declared.kind.Kind.{Kind}
 use Rattle.type_table.specs.declared.kind.Kind.TheVariants.{Undo, Intentions, Escrow}
 use Rattle.table_checker.specs.At.{IsInside}
 use Rattle.table_checker.specs.Checked.{Checked, IsChecked, IsCheckedBy, set_by}
-use Rattle.object_types.specs.Types.{AreTypesOf}
 use Rattle.type_text.specs.declared.type_file.TypeFile.{TypeFile}
-use Rattle.store_text.specs.declared.line.ObjectLine.{ObjectLine}
 use Rattle.journal.specs.declared.state_row.FirstState.{FirstState}
 use Rattle.durable_store.specs.Begun.{AreAt, IsAt}
 use Rattle.durable_store.specs.Epochs.{firsts}
@@ -30,14 +28,3 @@ at-own types checked x at there c first there-too state =
     let its : first-of c ≡ first = same_Some (first-of c) first (sym (slice_get-map first-of types x ∙ ap (option_map first-of) there-too) ∙ state) in
     let inside : IsInside c c.file.table.initial = begins-inside c.kind c.file (checked x c there-too) in
     subst (λ a. IsAt c first a) same (subst (λ f. IsAt c f c) its (inside, refl))
-
--- some line, where none is asked for
-abbrev any-line : ObjectLine
-any-line = record { kind = Undo; file = 0 }
-
--- the types of objects are checked
-pub checked-of : (files : List TypeFile) (lines : List ObjectLine) (types : List Checked) → AreTypesOf files lines types → (x : ℕ) (c : Checked) → slice_get types x ≡ Some c → IsChecked c
-checked-of files lines types of x c there =
-    let o = get_or lines x any-line in
-    let inside : x < length lines = omega (arith, slice_get_within types x c there, of.as_many) in
-    (of.each x o c (slice_get-get_or lines x any-line inside) there).checked.1

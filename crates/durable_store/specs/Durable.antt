@@ -28,7 +28,7 @@ pub record IsDurable {S : Type 0} (g : Ghosts S) (d : Durable S) : Type 0 where
   pub types : Clean g d.journal → HasTypes (written g d.journal) d.store.types
   pub settled : Clean g d.journal → IsSettled g d.journal
 
--- but for the events behind the first ones, as many as these, which the journal hasn't yet
+-- but for the events after the first ones, as many as these, which the journal hasn't yet
 pub record IsBehind {S : Type 0} (g : Ghosts S) (d : Durable S) (count : ℕ) : Type 0 where
   pub journal : IsJournal g d.journal
   pub types : Clean g d.journal → HasTypes (written g d.journal) d.store.types

@@ -76,7 +76,7 @@ impl<S: Alter> Durable<S> {
         self.journal.states(alloc)
     }
 
-    /// The events of the history from this place on, oldest first, and at most so many: the file has them, also
+    /// The events of the history from this place on, oldest first, and at most `count`: the file has them, also
     /// those of which the store has let go.
     ///
     /// # Errors

@@ -20,7 +20,7 @@ use store_text::ObjectLine;
 use table_checker::CheckedType;
 
 /// Makes the file of a new store in these trees, of which there are none yet: with the texts of types, and objects
-/// that begin at the initial states of theirs. The bytes tell it from every other store.
+/// that begin at the initial states of theirs. No other store has these bytes.
 ///
 /// # Errors
 ///

@@ -19,7 +19,7 @@ use store::Store;
 /// A store whose events are written into a file: what was settled survives a crash.
 ///
 /// It works for one client, as worker 0. After a call at which the file failed it isn't to be used any more, but for
-/// `into_trees`: what of it is there is told by an open. It can't be dropped, since its store can't.
+/// `into_trees`: an open says what of it is there. It can't be dropped, since its store can't.
 pub struct Durable<S: Alter> {
     pub(crate) store: Store<Object>,
     pub(crate) journal: Journal<S>,

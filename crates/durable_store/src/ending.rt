@@ -1,7 +1,7 @@
 //! The ends and the rollbacks of transactions.
 
 ghost use Rattle.std.specs.Prelude.{◌≡◌, ◌++◌, ◌&&◌, ℕ, false, IfOk, OnOk};
-ghost use Rattle.serial_order.specs.History.{is_open, seen};
+ghost use Rattle.serial_order.specs.History.{is_open, summary};
 ghost use Rattle.serial_order.specs.Operations.{is_among};
 ghost use Rattle.serial_order.specs.declared.command.Command.TheVariants as command;
 ghost use Rattle.store_laws.specs.Stored.{MayStep, Steps};
@@ -16,7 +16,7 @@ use sqlite_trees::store::Alter;
 
 impl<S: Alter> Durable<S> {
     /// Commits transaction t, as the store's `commit`. Its event is written, and a crash may still take it away:
-    /// the client isn't told before `settle`.
+    /// the client is answered after `settle` only.
     ///
     /// # Errors
     ///
@@ -90,7 +90,7 @@ impl<S: Alter> Durable<S> {
         requires { IsDurable S.Store self.old }
         ensures sound { OnOk result (IsDurable S.Store self.new) }
         ensures store { self.new.store ≡ record self.old.store { history = self.old.store.history ++ closing self.old.store.history } }
-        ensures none { (t : ℕ) → is_open (seen self.new.store.history) t ≡ false }
+        ensures none { (t : ℕ) → is_open (summary self.new.store.history) t ≡ false }
         ensures life { self.new.journal.header ≡ self.old.journal.header }
         ensures written { OnOk result (WritesSince S.Store self.old self.new) }
         ensures settled { OnOk result (KeepsSettled S.Store self.old self.new) }
@@ -110,7 +110,7 @@ impl<S: Alter> Durable<S> {
         requires { IsDurable S.Store self.old }
         ensures sound { OnOk result (IsDurable S.Store self.new) }
         ensures store { self.new.store ≡ record self.old.store { history = self.old.store.history ++ closing_but those.now self.old.store.history } }
-        ensures left { (t : ℕ) → is_open (seen self.new.store.history) t ≡ (is_among those.now t && is_open (seen self.old.store.history) t) }
+        ensures left { (t : ℕ) → is_open (summary self.new.store.history) t ≡ (is_among those.now t && is_open (summary self.old.store.history) t) }
         ensures life { self.new.journal.header ≡ self.old.journal.header }
         ensures written { OnOk result (WritesSince S.Store self.old self.new) }
         ensures settled { OnOk result (KeepsSettled S.Store self.old self.new) }

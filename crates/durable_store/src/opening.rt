@@ -105,7 +105,7 @@ pub(crate) fn resume<S: Alter>(
     }
 }
 
-/// The store behind its recovery, or its trees.
+/// The store after its recovery, or its trees.
 fn recovered_or_back<S: Alter>(
     made: Durable<S>,
     prepared: &[u32],

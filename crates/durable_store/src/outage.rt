@@ -33,7 +33,7 @@ pub fn restart<S: Alter + Reopen + Drop>(alloc: Global, running: Durable<S>) -> 
 
 /// What was written is settled and the machine stops, at any moment in between, and the file is opened again. The
 /// history begins with all events up to a settling that answered `Ok`: with those up to the last one before, or up
-/// to this one, and the latter where it answered `Ok`. Behind it stands an abort of each transaction that was open.
+/// to this one, and the latter where it answered `Ok`. After these comes an abort of each transaction that was open.
 pub fn settle_and_restart<S: Alter + Reopen + Drop>(
     alloc: Global,
     running: Durable<S>,

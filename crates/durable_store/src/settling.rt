@@ -16,7 +16,7 @@ impl<S: Alter> Durable<S> {
     ///
     /// # Errors
     ///
-    /// The file failed, or memory was refused for it: whether what was written is there is told by an open alone.
+    /// The file failed, or memory was refused for it: only an open says whether what was written is there.
     pub fn settle(&mut self) -> Result<(), JournalError>
         requires { IsDurable S.Store self.old }
         ensures sound { OnOk result (IsDurable S.Store self.new) }

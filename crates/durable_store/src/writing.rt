@@ -11,7 +11,7 @@ use object_trait::Event;
 use sqlite_trees::store::Alter;
 
 impl<S: Alter> Durable<S> {
-    /// Writes the events of the store behind the first ones, as many as that.
+    /// Writes the events of the store after the first ones, as many as that.
     ///
     /// # Errors
     ///
@@ -32,7 +32,7 @@ impl<S: Alter> Durable<S> {
     }
 }
 
-/// Writes these events behind the others.
+/// Writes these events after the others.
 ///
 /// # Errors
 ///

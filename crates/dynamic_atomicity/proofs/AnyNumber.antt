@@ -17,14 +17,14 @@ use Rattle.escrow_laws.proofs.Runs.{run-step}
 use Rattle.object_trait.specs.Object.{Object, IsCovered}
 use Rattle.serial_order.specs.Operations.{is_among, is_by, ops, of, serial}
 use Rattle.serial_order.specs.View.{own_at}
-use Rattle.dynamic_atomicity.specs.Dynamic.{Dated, plain, AreOnce, comes_first, IsKeptAt, IsKept}
+use Rattle.dynamic_atomicity.specs.Dynamic.{Dated, plain, AreOnce, comes_first, IsKeptAt, KeepsDated}
 use Rattle.serial_order.specs.declared.entry.Entry.{Entry}
 use Rattle.serial_order.proofs.Facts.{IsLegalAt}
 use Rattle.serial_order.proofs.Escrow.{EscrowFacts, covers_escrow}
 use Rattle.serial_order.proofs.Lists.{ops-append, serial-snoc, serial-apart, of-pending}
-use Rattle.type_table.proofs.Legal.{legal-front}
+use Rattle.type_table.proofs.Legal.{legal-front, legal-after}
 use Rattle.serial_order.proofs.Pairs.{each-front, each-rest}
-use Rattle.serial_order.proofs.Legal.{legal-after, run-append}
+use Rattle.serial_order.proofs.Legal.{run-append}
 use Rattle.dynamic_atomicity.proofs.Before.{first-before, among-append, among-filter, once-front, once-apart, once-append, once-filter, rest_of, rest-outside, rest-without, split_at}
 use Rattle.dynamic_atomicity.proofs.Grown.{CameBy, Came, Grown, start, grows, plain-append}
 use Rattle.dynamic_atomicity.proofs.AnyOrder.{kept-front, serial-append, serial-nothing}
@@ -147,7 +147,7 @@ module _ (along : RunsAlong) (ends : LegalEnds) (safe : FirmIsSafe) (o : Object)
   -- ---- where C committed, and W is what they and the open ones did
 
   module _ (C : List ℕ) (W : List Entry) (once : AreOnce C) (facts : EscrowFacts o C W) where
-    -- what an open transaction did is legal behind those that committed and any others, each of them once
+    -- what an open transaction did is legal after those that committed and any others, each of them once
     behind_past : (P : List ℕ) (v : ℕ) → AreOnce P → is_among P v ≡ false → is_among C v ≡ false → IsLegalAt o (ops (serial (C ++ rest_of C P) W) ++ ops (of v W))
     behind_past P v P_once outside open_now =
         let R = rest_of C P in
@@ -159,12 +159,12 @@ module _ (along : RunsAlong) (ends : LegalEnds) (safe : FirmIsSafe) (o : Object)
         rw (whole, append_assoc (ops (serial C W)) (ops (serial R W)) (ops (of v W)))
         (legal-after along o.table begin (ops (serial C W)) (ops (serial R W) ++ ops (of v W)) facts.base facts.reached done)
 
-    -- so it is behind any legal order with those that committed
+    -- so it is after any legal order with those that committed
     one_behind : (P : List ℕ) (v : ℕ) → AreOnce P → is_among P v ≡ false → ((t : ℕ) → is_among C t ≡ true → is_among P t ≡ true) → IsLegalAt o (ops (serial P W)) → IsLegalAt o (ops (serial (P ++ v ∷ []) W))
     one_behind P v P_once outside within legal =
         let A = C ++ rest_of C P in
         let behind = behind_past P v P_once outside (open_still (is_among C v) refl) in
-        let past_legal : IsLegalAt o (ops (serial A W)) = legal-front along o.table begin (ops (serial A W)) (ops (of v W)) behind in
+        let past_legal : IsLegalAt o (ops (serial A W)) = legal-front o.table begin (ops (serial A W)) (ops (of v W)) behind in
         let same = same_number ends o.table o.amounts (covers_escrow o covered kind) o.table.initial A P W (past_once C P once P_once) P_once (past_same C P within) past_legal legal in
         let here : IsLegal o.table (run o.table begin (ops (serial A W))) (ops (of v W)) = rw (along o.table begin (ops (serial A W)) (ops (of v W))) at behind in
         rw (serial-snoc P v W, run-append along o.table begin (serial P W) (of v W), ← same) here
@@ -173,7 +173,7 @@ module _ (along : RunsAlong) (ends : LegalEnds) (safe : FirmIsSafe) (o : Object)
         open_still true is = absurd (true≢false (sym (within v is) ∙ outside))
         open_still false is = refl
 
-    -- and each that comes behind
+    -- and each that comes after
     all_behind : (P Q : List ℕ) → AreOnce (P ++ Q) → ((t : ℕ) → is_among C t ≡ true → is_among P t ≡ true) → IsLegalAt o (ops (serial P W)) → IsLegalAt o (ops (serial (P ++ Q) W))
     all_behind P [] P_once within legal = rw (append-nil P) legal
     all_behind P (v ∷ Q) P_once within legal =
@@ -190,20 +190,20 @@ module _ (along : RunsAlong) (ends : LegalEnds) (safe : FirmIsSafe) (o : Object)
   -- ---- each order
 
   abbrev Claim : List Dated → Type 0
-  Claim D = (ts : List ℕ) → AreOnce ts → IsKept ts D → IsLegalAt o (ops (serial ts (plain D)))
+  Claim D = (ts : List ℕ) → AreOnce ts → KeepsDated ts D → IsLegalAt o (ops (serial ts (plain D)))
 
   claim_more : (D : List Dated) (b : Dated) → Came o D b → Claim D → Claim (D ++ b ∷ [])
   claim_more D b came claim ts once kept =
       let V = plain D in
       let u = b.entry.by in
       let facts : EscrowFacts o b.after (V ++ b.entry ∷ []) = subst (λ (way : Kind). CameBy way o D b) kind came.known in
-      let before : IsKept ts D = each-front (IsKeptAt ts) D (b ∷ []) kept in
+      let before : KeepsDated ts D = each-front (IsKeptAt ts) D (b ∷ []) kept in
       let here : IsLegalAt o (ops (serial ts (V ++ b.entry ∷ []))) = elim (cases_Bool (is_among ts u)) [
         | inl among ↦
             let s = split_at ts u among in
             let first = (each-rest (IsKeptAt ts) D (b ∷ []) kept).0 among in
             let split_once : AreOnce (s.front ++ u ∷ s.rest) = subst AreOnce s.is once in
-            let front_kept : IsKept s.front D = kept-front s.front (u ∷ s.rest) D (subst (λ v. IsKept v D) s.is before) in
+            let front_kept : KeepsDated s.front D = kept-front s.front (u ∷ s.rest) D (subst (λ v. KeepsDated v D) s.is before) in
             let front_legal : IsLegalAt o (ops (serial s.front (V ++ b.entry ∷ []))) =
             rw (serial-apart s.front V b.entry s.apart) (claim s.front (once-front s.front (u ∷ s.rest) split_once) front_kept) in
             let within : (t : ℕ) → is_among b.after t ≡ true → is_among s.front t ≡ true =

@@ -10,30 +10,30 @@ use Rattle.type_table.specs.Lists.{ListsForward}
 use Rattle.type_table.specs.declared.kind.Kind.{Kind}
 use Rattle.type_table.specs.declared.kind.Kind.TheVariants.{Intentions}
 use Rattle.object_trait.specs.Object.{Object, IsCovered}
-use Rattle.type_table.proofs.Legal.{legal-front}
+use Rattle.type_table.proofs.Legal.{legal-front, legal-behind, legal-after}
 use Rattle.type_table.proofs.Elements.{eqb-sym, each-append, each-weaker, each-both, each-passes, each-map}
 use Rattle.serial_order.specs.Operations.{is_among, is_by, ops, of, serial}
-use Rattle.dynamic_atomicity.specs.Dynamic.{Dated, plain, AreOnce, comes_first, IsKeptAt, IsKept}
+use Rattle.dynamic_atomicity.specs.Dynamic.{Dated, plain, AreOnce, comes_first, IsKeptAt, KeepsDated}
 use Rattle.serial_order.specs.declared.entry.Entry.{Entry}
 use Rattle.serial_order.proofs.Facts.{IsLegalAt}
 use Rattle.serial_order.proofs.Lists.{ops-append, serial-snoc, serial-apart, of-more}
 use Rattle.serial_order.proofs.Pairs.{each-front, each-rest, each-at}
-use Rattle.serial_order.proofs.Legal.{legal-behind, legal-after, run-equi}
+use Rattle.serial_order.proofs.Legal.{run-equi}
 use Rattle.dynamic_atomicity.proofs.Before.{first-inside, first-front, first-before, among-append, among-filter, once-front, once-rest, once-apart, once-append, once-filter, rest-outside, rest-without, split_at}
 use Rattle.dynamic_atomicity.proofs.Grown.{IsFront, CameBy, Came, Grown, start, grows, grown-fresh, plain-append}
 use Rattle.dynamic_atomicity.proofs.InRun.{covers_deferred}
 
--- ---- orders that keep what the dates tell
+-- ---- orders that keep what the dates say
 
 -- the front of an order that keeps it
-pub kept-front : (P Q : List ℕ) (D : List Dated) → IsKept (P ++ Q) D → IsKept P D
+pub kept-front : (P Q : List ℕ) (D : List Dated) → KeepsDated (P ++ Q) D → KeepsDated P D
 kept-front P Q D kept = each-weaker (λ b here inside t before. first-front P Q t b.entry.by inside (here (more b inside) t before)) D kept
   where
     more : (b : Dated) → is_among P b.entry.by ≡ true → is_among (P ++ Q) b.entry.by ≡ true
     more b inside = among-append P Q b.entry.by ∙ simp inside
 
 -- those that had committed at some time, and then any others
-pub kept-past : (C X : List ℕ) (D : List Dated) → AllByRecursion (λ (a : Dated). IsFront a.after C) D → AllByRecursion (λ (a : Dated). is_among a.after a.entry.by ≡ false) D → IsKept (C ++ X) D
+pub kept-past : (C X : List ℕ) (D : List Dated) → AllByRecursion (λ (a : Dated). IsFront a.after C) D → AllByRecursion (λ (a : Dated). is_among a.after a.entry.by ≡ false) D → KeepsDated (C ++ X) D
 kept-past C X D fronts fresh = each-both (λ a front fresh_here inside t before.
     let whole : C ++ X ≡ a.after ++ (front.rest ++ X) = ap (λ v. v ++ X) front.is ∙ append_assoc a.after front.rest X in
     subst (λ v. comes_first v t a.entry.by ≡ true) (sym whole) (first-inside a.after (front.rest ++ X) t a.entry.by before fresh_here)) D fronts fresh
@@ -83,7 +83,7 @@ module _ (along : RunsAlong) (inside : EndsInside) (ends : LegalEnds) (equi : Eq
       IsLegalAt o (X ++ k ∷ w) × IsLegalAt o (X ++ (w ++ k ∷ [])) × AreEqui o.table (at (X ++ k ∷ w)) (at (X ++ (w ++ k ∷ [])))
   past X w k free one many =
       let T = o.table in
-      let reached = ends T begin X (legal-front along T begin X w many) in
+      let reached = ends T begin X (legal-front T begin X w many) in
       let covers = covers_deferred o covered kind in
       let member = inside T o.set o.table.initial reached.0 X covers.closed covers.begins_inside reached.1 in
       let joined = forward T o.set reached.0 (k ∷ []) w covers.closed member
@@ -107,7 +107,7 @@ module _ (along : RunsAlong) (inside : EndsInside) (ends : LegalEnds) (equi : Eq
 
   abbrev Claim : List Dated → Type 0
   Claim D =
-      (ts us : List ℕ) → AreOnce ts → AreOnce us → IsKept ts D → IsKept us D → ((t : ℕ) → is_among ts t ≡ is_among us t)
+      (ts us : List ℕ) → AreOnce ts → AreOnce us → KeepsDated ts D → KeepsDated us D → ((t : ℕ) → is_among ts t ≡ is_among us t)
       → IsLegalAt o (ops (serial ts (plain D))) × AreEqui o.table (at (ops (serial ts (plain D)))) (at (ops (serial us (plain D))))
 
   module _ (D : List Dated) (b : Dated) (came : Came o D b) (grown : Grown o D) (claim : Claim D) where
@@ -157,7 +157,7 @@ module _ (along : RunsAlong) (inside : EndsInside) (ends : LegalEnds) (equi : Eq
         ]
 
     -- b is legal after the operations of an order that ends with its transaction
-    own : (P : List ℕ) → AreOnce (P ++ u ∷ []) → is_among P u ≡ false → IsKept (P ++ u ∷ []) D → ((t : ℕ) → is_among C t ≡ true → is_among P t ≡ true) →
+    own : (P : List ℕ) → AreOnce (P ++ u ∷ []) → is_among P u ≡ false → KeepsDated (P ++ u ∷ []) D → ((t : ℕ) → is_among C t ≡ true → is_among P t ≡ true) →
         IsLegalAt o (ops (serial (P ++ u ∷ []) V) ++ k ∷ [])
     own P once apart kept within =
         let A = C ++ u ∷ rest_of P in
@@ -180,15 +180,15 @@ module _ (along : RunsAlong) (inside : EndsInside) (ends : LegalEnds) (equi : Eq
               ],
             )
 
-    -- an order with b's transaction in it: legal with b in its place, and equieffective to b behind the whole
-    in_place : (P Q : List ℕ) → AreOnce (P ++ u ∷ Q) → is_among P u ≡ false → IsKept (P ++ u ∷ Q) D → ((t : ℕ) → is_among C t ≡ true → comes_first (P ++ u ∷ Q) t u ≡ true) →
+    -- an order with b's transaction in it: legal with b in its place, and equieffective to b after the whole
+    in_place : (P Q : List ℕ) → AreOnce (P ++ u ∷ Q) → is_among P u ≡ false → KeepsDated (P ++ u ∷ Q) D → ((t : ℕ) → is_among C t ≡ true → comes_first (P ++ u ∷ Q) t u ≡ true) →
         IsLegalAt o (ops (serial (P ++ u ∷ Q) (plain (D ++ b ∷ []))))
         × AreEqui o.table (at (ops (serial (P ++ u ∷ Q) (plain (D ++ b ∷ []))))) (at (ops (serial (P ++ u ∷ Q) V) ++ k ∷ []))
     in_place P Q once apart kept first =
         let within : (t : ℕ) → is_among C t ≡ true → is_among P t ≡ true = λ t before. first-before P Q t u apart (first t before) in
         let longer : (P ++ u ∷ []) ++ Q ≡ P ++ u ∷ Q = append_assoc P (u ∷ []) Q in
         let once_long : AreOnce ((P ++ u ∷ []) ++ Q) = rw longer once in
-        let kept_long : IsKept ((P ++ u ∷ []) ++ Q) D = rw longer kept in
+        let kept_long : KeepsDated ((P ++ u ∷ []) ++ Q) D = rw longer kept in
         let one = own P (once-front (P ++ u ∷ []) Q once_long) apart (kept-front (P ++ u ∷ []) Q D kept_long) within in
         let X = ops (serial (P ++ u ∷ []) V) in
         let w = ops (serial Q V) in
@@ -223,16 +223,16 @@ module _ (along : RunsAlong) (inside : EndsInside) (ends : LegalEnds) (equi : Eq
             placed_in = rw (serial-apart P V b.entry apart, of-more u V b.entry mine, serial-apart Q V b.entry behind, append_assoc (of u V) (b.entry ∷ []) (serial Q V)) refl
 
     -- of any order with b's transaction in it
-    placed : (ts : List ℕ) → AreOnce ts → IsKept ts (D ++ b ∷ []) → is_among ts u ≡ true →
+    placed : (ts : List ℕ) → AreOnce ts → KeepsDated ts (D ++ b ∷ []) → is_among ts u ≡ true →
         IsLegalAt o (ops (serial ts (plain (D ++ b ∷ []))))
         × AreEqui o.table (at (ops (serial ts (plain (D ++ b ∷ []))))) (at (ops (serial ts V) ++ k ∷ []))
     placed ts once kept among =
         let s = split_at ts u among in
-        let kept_before : IsKept ts D = each-front (IsKeptAt ts) D (b ∷ []) kept in
+        let kept_before : KeepsDated ts D = each-front (IsKeptAt ts) D (b ∷ []) kept in
         let kept_here : (t : ℕ) → is_among C t ≡ true → comes_first ts t u ≡ true =
         (each-rest (IsKeptAt ts) D (b ∷ []) kept).0 among in
         subst (λ v. IsLegalAt o (ops (serial v (plain (D ++ b ∷ [])))) × AreEqui o.table (at (ops (serial v (plain (D ++ b ∷ []))))) (at (ops (serial v V) ++ k ∷ []))) (sym s.is)
-        (in_place s.front s.rest (subst AreOnce s.is once) s.apart (subst (λ v. IsKept v D) s.is kept_before)
+        (in_place s.front s.rest (subst AreOnce s.is once) s.apart (subst (λ v. KeepsDated v D) s.is kept_before)
         (subst (λ v. (t : ℕ) → is_among C t ≡ true → comes_first v t u ≡ true) s.is kept_here))
 
     -- and of one without it

@@ -30,7 +30,7 @@ first-front (w ∷ A) B t v inside first =
       ]
     ]
 
--- what is first before u is in front of u
+-- what is first before u is among those before u
 pub first-before : (P Q : List ℕ) (t u : ℕ) → is_among P u ≡ false → comes_first (P ++ u ∷ Q) t u ≡ true → is_among P t ≡ true
 first-before [] Q t u apart first =
     elim (cases_Bool (u == t)) [
@@ -85,7 +85,7 @@ first-apart (w ∷ ts) t u first =
       ]
     ]
 
--- what is first stays so behind a third
+-- what is first stays so after a third
 pub first-later : (w : ℕ) (ts : List ℕ) (t u : ℕ) → (w == t) ≡ false → (w == u) ≡ false → comes_first ts t u ≡ true → comes_first (w ∷ ts) t u ≡ true
 first-later w ts t u apart other first = simp (apart, other) first
 
@@ -194,7 +194,7 @@ rest-without C P t outside = among-filter (λ v. not (is_among C v)) P t ∙ rw 
 
 -- ---- in two parts
 
--- a list in front of one of its numbers, and behind it
+-- a list before one of its numbers, and after it
 pub record IsSplit (ts : List ℕ) (u : ℕ) : Type 0 where
   pub front : List ℕ
   pub rest : List ℕ

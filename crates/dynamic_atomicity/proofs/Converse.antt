@@ -13,18 +13,18 @@ use Rattle.type_table.proofs.Elements.{each-append, each-map}
 use Rattle.object_trait.specs.Object.{Object, CoversBy, CoversStronglyBy, IsCovered}
 use Rattle.object_trait.specs.declared.event.Event.{Event}
 use Rattle.serial_order.specs.Operations.{is_among, at_object, ops, serial}
-use Rattle.serial_order.specs.History.{Seen, commits}
+use Rattle.serial_order.specs.History.{Summary, commits}
 use Rattle.serial_order.specs.Machine.{IsRun}
-use Rattle.serial_order.specs.Serial.{standing_at, serial_at}
+use Rattle.serial_order.specs.Serial.{surviving_at, serial_at}
 use Rattle.dynamic_atomicity.specs.Dynamic.{IsOrderOf, KeepsPrecedes, executed_at, end_of, EndsAgree, CoveredIsAtomic, CommitOrderKeeps}
 use Rattle.dynamic_atomicity.specs.Converse.{breaking, Goes, AdmitsLegalOnly, IsReached, CoverIsExact, UndoSerialIsExact, StrongIsExact}
 use Rattle.serial_order.specs.declared.entry.Entry.{Entry}
 use Rattle.serial_order.proofs.Facts.{IsLegalAt}
-use Rattle.serial_order.proofs.Legal.{legal-behind, legal-after}
+use Rattle.type_table.proofs.Legal.{legal-behind, legal-after}
 use Rattle.serial_order.proofs.Pairs.{each-all}
 use Rattle.serial_order.proofs.Undo.{covers_undo}
 use Rattle.dynamic_atomicity.proofs.Turned.{filter-all}
-use Rattle.dynamic_atomicity.proofs.Breaking.{done_by, goes_from, first_of_1, first_of_2, stood, at-two, stood-ops, seen_at_end, one_two, two_one, undo_breaks, one_two_runs, two_one_runs}
+use Rattle.dynamic_atomicity.proofs.Breaking.{done_by, goes_from, first_of_1, first_of_2, survived, at-two, survived-ops, summary_at_end, one_two, two_one, undo_breaks, one_two_runs, two_one_runs}
 use Rattle.dynamic_atomicity.proofs.Keeping.{keeps_breaking}
 
 -- ---- the condition is exact
@@ -50,7 +50,7 @@ module _ (objects : List Object) (x : ℕ) (along : RunsAlong) (ends : LegalEnds
   undo_exchanged undo r legal =
       let known = undo_breaks along ends objects x o w p q r there undo free legal in
       let H = breaking x 2 1 w p q r in
-      let in_order : IsLegalAt o (ops (serial (commits H) (standing_at x H))) =
+      let in_order : IsLegalAt o (ops (serial (commits H) (surviving_at x H))) =
       admits H known.0 (commits H) (rw known.1 (record { once = (refl, (refl, (refl, (refl, tt)))); same = λ t. refl }))
       (rw known.1 (keeps_breaking x two_then_one 2 1 w p q r refl refl (refl, (refl, (refl, tt))))) in
       rw known.2 at in_order
@@ -58,21 +58,21 @@ module _ (objects : List Object) (x : ℕ) (along : RunsAlong) (ends : LegalEnds
   -- deferred update: the first commits first, and each of the two orders
   module _ (deferred : o.kind ≡ Intentions) (q_legal : IsLegalAt o (w ++ q ∷ [])) (p_legal : IsLegalAt o (w ++ p ∷ [])) (r : List ℕ) where
     committed_12 : commits (breaking x 1 2 w p q r) ≡ one_then_two
-    committed_12 = ap (λ (s : Seen). s.committed) (seen_at_end objects x along ends o there w p q 1 2 r)
+    committed_12 = ap (λ (s : Summary). s.committed) (summary_at_end objects x along ends o there w p q 1 2 r)
 
     committed_21 : commits (breaking x 2 1 w p q r) ≡ two_then_one
-    committed_21 = ap (λ (s : Seen). s.committed) (seen_at_end objects x along ends o there w p q 2 1 r)
+    committed_21 = ap (λ (s : Summary). s.committed) (summary_at_end objects x along ends o there w p q 2 1 r)
 
     other_order : Goes o.table (w ++ q ∷ p ∷ []) r → IsLegalAt o (w ++ p ∷ q ∷ r)
     other_order goes =
-        rw (ap (λ (s : Seen). ops (serial two_then_one (at_object x s.stands))) (seen_at_end objects x along ends o there w p q 1 2 r) ∙ two_one objects x along ends o there w p q r) at
+        rw (ap (λ (s : Summary). ops (serial two_then_one (at_object x s.survives))) (summary_at_end objects x along ends o there w p q 1 2 r) ∙ two_one objects x along ends o there w p q r) at
         (admits (breaking x 1 2 w p q r) (one_two_runs objects x along ends o there w p q r free deferred q_legal p_legal goes) two_then_one
         (rw committed_12 (record { once = (refl, (refl, (refl, (refl, tt)))); same = either }))
         (keeps_breaking x two_then_one 1 2 w p q r refl refl (refl, (refl, (refl, tt)))))
 
     one_order : Goes o.table (w ++ p ∷ q ∷ []) r → IsLegalAt o (w ++ q ∷ p ∷ r)
     one_order goes =
-        rw (ap (λ (s : Seen). ops (serial one_then_two (at_object x s.stands))) (seen_at_end objects x along ends o there w p q 2 1 r) ∙ one_two objects x along ends o there w p q r) at
+        rw (ap (λ (s : Summary). ops (serial one_then_two (at_object x s.survives))) (summary_at_end objects x along ends o there w p q 2 1 r) ∙ one_two objects x along ends o there w p q r) at
         (admits (breaking x 2 1 w p q r) (two_one_runs objects x along ends o there w p q r free deferred q_legal p_legal goes) one_then_two
         (rw committed_21 (record { once = (refl, (refl, (refl, (refl, tt)))); same = λ t. sym (either t) }))
         (keeps_breaking x one_then_two 2 1 w p q r refl refl (refl, (refl, (refl, tt)))))
@@ -88,7 +88,7 @@ module _ (objects : List Object) (x : ℕ) (along : RunsAlong) (ends : LegalEnds
   abbrev begin : Option ℕ
   begin = Some o.table.initial
 
-  -- what exchanges behind each list that leads to a state commutes backward
+  -- what exchanges after each list that leads to a state commutes backward
   backward_by : (p q : ℕ) → ((w r : List ℕ) → IsLegalAt o (w ++ q ∷ p ∷ r) → IsLegalAt o (w ++ p ∷ q ∷ r)) → CommutesBackward o.table o.set p q
   backward_by p q exchanges s member legal =
       let w = (reached.reach s member).0 in
@@ -142,19 +142,19 @@ undo_serial_is_exact along ends atomic keeps objects x o there undo reached = (
 
 module _ (objects : List Object) (x : ℕ) (along : RunsAlong) (ends : LegalEnds) (o : Object) (there : slice_get objects x ≡ Some o) (undo : o.kind ≡ Undo) (reached : IsReached o) (covered : IsCovered o)
     (equi : (H : List Event) → IsRun objects H → (ts : List ℕ) → IsOrderOf (commits H) ts → KeepsPrecedes x H ts
-    → AreEqui o.table (end_of o (executed_at x H)) (end_of o (serial ts (standing_at x H)))) where
+    → AreEqui o.table (end_of o (executed_at x H)) (end_of o (serial ts (surviving_at x H)))) where
   -- what was executed
   executed-ops : (w : List ℕ) (p q : ℕ) → ops (executed_at x (breaking x 2 1 w p q [])) ≡ w ++ q ∷ p ∷ []
   executed-ops w p q =
-      let S = stood objects x along ends o there w p q in
+      let S = survived objects x along ends o there w p q in
       let among : Entry → Bool = λ e. is_among (0 ∷ 2 ∷ 1 ∷ 3 ∷ []) e.by in
       let all : AllByRecursion (λ e. among e ≡ true) S =
       each-append (λ e. among e ≡ true) (done_by x 0 w ++ first_of_1 objects x along ends o there w p q ∷ []) (first_of_2 objects x along ends o there w p q ∷ [])
       (each-append (λ e. among e ≡ true) (done_by x 0 w) (first_of_1 objects x along ends o there w p q ∷ [])
       (each-map (λ e. among e ≡ true) (λ k. record { by = 0; at = x; op = k }) w (each-all (λ k. refl) w)) (refl, tt)) (refl, tt) in
-      ap (λ (s : Seen). ops (filter (λ (e : Entry). is_among s.committed e.by) (at_object x s.stands))) (seen_at_end objects x along ends o there w p q 2 1 [])
+      ap (λ (s : Summary). ops (filter (λ (e : Entry). is_among s.committed e.by) (at_object x s.survives))) (summary_at_end objects x along ends o there w p q 2 1 [])
       ∙ ap (λ V. ops (filter among (at_object x V))) (append-nil S) ∙ ap (λ V. ops (filter among V)) (at-two objects x along ends o there w p q) ∙ ap ops (filter-all among S all)
-      ∙ stood-ops objects x along ends o there w p q
+      ∙ survived-ops objects x along ends o there w p q
 
   both_ways_at : (p q : ℕ) → o.conflicts p q ≡ false → CommutesBackwardBothWays o.table o.set p q
   both_ways_at p q free s member legal =

@@ -23,11 +23,11 @@ use Rattle.object_trait.proofs.Striking.{each-keep_first}
 use Rattle.type_table.proofs.Elements.{eqb-sym, filter-none, mine-within, each-append, each-weaker, each-passes}
 use Rattle.type_table.proofs.Legal.{legal-front}
 use Rattle.serial_order.specs.Operations.{is_among, is_by, ops, serial, pending}
-use Rattle.serial_order.specs.History.{commits, committed_by, seen, Seen, is_open}
+use Rattle.serial_order.specs.History.{commits, committed_by, summary, Summary, is_open}
 use Rattle.serial_order.specs.Machine.{IsRun, RunsOn, MayFollow, May}
-use Rattle.serial_order.specs.Serial.{standing_at}
+use Rattle.serial_order.specs.Serial.{surviving_at}
 use Rattle.serial_order.specs.Laws.{may_pass}
-use Rattle.dynamic_atomicity.specs.Dynamic.{comes_first, AreOnce, IsOrderOf, is_op_at, Precedes, KeepsPrecedes, Dated, dated_by, plain, dated_after, dated, dated_at, IsKeptAt, IsKept, end_of, EndsAgree, CoveredIsAtomic, RunsAreAtomicLiving, CommitOrderKeeps}
+use Rattle.dynamic_atomicity.specs.Dynamic.{comes_first, AreOnce, IsOrderOf, is_op_at, Precedes, KeepsPrecedes, Dated, dated_by, plain, dated_after, dated, dated_at, IsKeptAt, KeepsDated, end_of, EndsAgree, CoveredIsAtomic, RunsAreAtomicLiving, CommitOrderKeeps}
 use Rattle.serial_order.specs.declared.entry.Entry.{Entry}
 use Rattle.serial_order.proofs.Facts.{IsLegalAt}
 use Rattle.serial_order.proofs.Lists.{ops-append, is_among-apart}
@@ -59,7 +59,7 @@ precedes-more x H e t u h = record {
   operation = h.operation;
 }
 
--- the dates of an operation tell what precedes
+-- the dates of an operation say what precedes
 abbrev Tells : List Event → Dated → Type 0
 Tells H d = (t : ℕ) → is_among d.after t ≡ true → Precedes d.entry.at H t d.entry.by
 
@@ -82,8 +82,8 @@ dates-tell : (objects : List Object) (H : List Event) → IsRun objects H → Al
 dates-tell objects = in_run objects (λ G. AllByRecursion (Tells G) (dated G)) tt
     (λ G e going may h. rw (dated-snoc G e) (each_event G e e.kind refl (each-weaker {P = Tells G} {Q = Tells (G ++ e ∷ [])} (λ (d : Dated) tells t before. precedes-more d.entry.at G e t d.entry.by (tells t before)) (dated G) h)))
 
--- an order that keeps what precedes at x keeps it by the operations that live there
-keeps-living : (objects : List Object) (H : List Event) (x : ℕ) (ts : List ℕ) → IsRun objects H → KeepsPrecedes x H ts → IsKept ts (dated_at x H)
+-- an order that keeps what precedes at x keeps it by the operations that survive there
+keeps-living : (objects : List Object) (H : List Event) (x : ℕ) (ts : List ℕ) → IsRun objects H → KeepsPrecedes x H ts → KeepsDated ts (dated_at x H)
 keeps-living objects H x ts run keeps =
     each-passes (IsKeptAt ts) (λ (d : Dated). d.entry.at == x) (dated H)
     (each-weaker {P = Tells H} {Q = λ (d : Dated). (d.entry.at == x) ≡ true → IsKeptAt ts d} (λ (d : Dated) tells here inside t before. keeps t d.entry.by (subst (λ y. Precedes y H t d.entry.by) (eqb-true d.entry.at x here) (tells t before)) inside) (dated H) (dates-tell objects H run))
@@ -91,12 +91,12 @@ keeps-living objects H x ts run keeps =
 -- ---- commit order
 
 -- each committed once
-once_after : (objects : List Object) (G : List Event) (happened : EventKind) → May objects (seen G) happened → AreOnce (commits G) → AreOnce (commits G ++ committed_by happened)
+once_after : (objects : List Object) (G : List Event) (happened : EventKind) → May objects (summary G) happened → AreOnce (commits G) → AreOnce (commits G ++ committed_by happened)
 once_after objects G (Begin t) may once = rw (append-nil (commits G)) once
 once_after objects G (Op t x k) may once = rw (append-nil (commits G)) once
 once_after objects G (Busy c t x u) may once = rw (append-nil (commits G)) once
 once_after objects G (kind.None t x c) may once = rw (append-nil (commits G)) once
-once_after objects G (Commit t) may once = once-more (commits G) t (open_is_uncommitted (seen G) t may) once
+once_after objects G (Commit t) may once = once-more (commits G) t (open_is_uncommitted (summary G) t may) once
 once_after objects G (Abort t) may once = rw (append-nil (commits G)) once
 once_after objects G (Rollback t n) may once = rw (append-nil (commits G)) once
 
@@ -109,7 +109,7 @@ follows objects start [] e behind run = rw (append-nil start) run.0
 follows objects start (f ∷ before) e behind run = rw (append_assoc start (f ∷ []) before) at (follows objects (start ++ f ∷ []) before e behind run.1)
 
 -- the transaction of an operation is open
-op_is_open : (objects : List Object) (s : Seen) (x u : ℕ) (happened : EventKind) → is_op_at x u happened ≡ true → May objects s happened → is_open s u ≡ true
+op_is_open : (objects : List Object) (s : Summary) (x u : ℕ) (happened : EventKind) → is_op_at x u happened ≡ true → May objects s happened → is_open s u ≡ true
 op_is_open objects s x u (Begin t) is may = absurd (false≢true is)
 op_is_open objects s x u (Op t y k) is may =
     elim (cases_Bool (y == x)) [
@@ -128,9 +128,9 @@ commit_order_keeps objects H run = (record { once = commits_once objects H run; 
     kept : (x : ℕ) → KeepsPrecedes x H (commits H)
     kept x t u h inside =
         let going : RunsOn objects [] (h.before ++ h.happened ∷ h.behind) = subst (IsRun objects) h.whole run in
-        let open_then = op_is_open objects (seen h.before) x u h.happened.kind h.operation (follows objects [] h.before h.happened h.behind going) in
+        let open_then = op_is_open objects (summary h.before) x u h.happened.kind h.operation (follows objects [] h.before h.happened h.behind going) in
         let whole : commits H ≡ commits h.before ++ commits (h.happened ∷ h.behind) = ap commits h.whole ∙ flat_map-append (λ (e : Event). committed_by e.kind) h.before (h.happened ∷ h.behind) in
-        subst (λ C. comes_first C t u ≡ true) (sym whole) (first-inside (commits h.before) (commits (h.happened ∷ h.behind)) t u h.ended (open_is_uncommitted (seen h.before) u open_then))
+        subst (λ C. comes_first C t u ≡ true) (sym whole) (first-inside (commits h.before) (commits (h.happened ∷ h.behind)) t u h.ended (open_is_uncommitted (summary h.before) u open_then))
 
 -- ---- pairs of dated operations
 
@@ -151,7 +151,7 @@ pairs-plain : (R : Entry → Entry → Type 0) (D : List Dated) → Pairs (λ (a
 pairs-plain R [] p = tt
 pairs-plain R (d ∷ D) p = (each-plain (R d.entry) D p.0, pairs-plain R D p.1)
 
--- an operation that the order puts behind a later one may be passed by it
+-- an operation that the order puts after a later one may be passed by it
 turned : (o : Object) (ts : List ℕ) (a b : Dated) → IsApartFree o a b → IsKeptAt ts b → comes_first ts b.entry.by a.entry.by ≡ true → may_pass o a.entry b.entry ≡ true
 turned o ts a b locked kept first =
     let apart = first-apart ts b.entry.by a.entry.by first in
@@ -160,7 +160,7 @@ turned o ts a b locked kept first =
       | inr open_then ↦ locked open_then apart
     ])
 
-turned_free : (o : Object) → o.kind ≡ Undo → (ts : List ℕ) (D : List Dated) → Grown o D → IsKept ts D → Pairs (IsTurnedFree (may_pass o) ts) (plain D)
+turned_free : (o : Object) → o.kind ≡ Undo → (ts : List ℕ) (D : List Dated) → Grown o D → KeepsDated ts D → Pairs (IsTurnedFree (may_pass o) ts) (plain D)
 turned_free o undo ts D grown kept =
     pairs-plain (IsTurnedFree (may_pass o) ts) D
     (pairs-weaker {P = λ (a b : Dated). IsApartFree o a b × IsKeptAt ts b} (λ (a b : Dated) h. turned o ts a b h.0 h.1) D (pairs-with (IsApartFree o) (IsKeptAt ts) D (grown-locked o undo D grown) kept))
@@ -218,7 +218,7 @@ module _ (along : RunsAlong) (parts : PartsSort Entry) (look : SortsLook Entry) 
       let others : List Entry = filter (λ e. not (is_among C e.by)) V in
       let sorted = parts (may_pass o) V W others (parts-mine (may_pass o) (λ e. is_among C e.by) V first) in
       let moved = look o.table o.set (λ e. e.op) (may_pass o) o.table.initial V (W ++ others) covers.closed covers.begins_inside (passes-commute o covers) sorted legal in
-      legal-front along o.table (Some o.table.initial) (ops W) (ops others) (rw (ops-append W others) at moved.0)
+      legal-front o.table (Some o.table.initial) (ops W) (ops others) (rw (ops-append W others) at moved.0)
 
   -- and sorts into the order
   sorted_order : Sorts (may_pass o) W (serial ts V)
@@ -243,16 +243,16 @@ module _ (along : RunsAlong) (inside : EndsInside) (ends : LegalEnds) (extends :
       let known = dated_in_run strikes objects x o there
       (λ escrow C V e admitted legal facts. escrow_op along apply strikes nothing o C V e covered escrow admitted legal facts)
       (λ G going escrow. escrow_in_run along ends apply firm_commits strikes nothing firm_legal fresh objects G x o covered going there escrow) H run in
-      let are : plain (dated_at x H) ≡ standing_at x H = plain-dated_at x H in
+      let are : plain (dated_at x H) ≡ surviving_at x H = plain-dated_at x H in
       let C = commits H in
-      let commit_kept : IsKept C (dated_at x H) = rw (append-nil C) at (kept-past C [] (dated_at x H) known.fronts (grown-fresh o (dated_at x H) known.grown)) in
+      let commit_kept : KeepsDated C (dated_at x H) = rw (append-nil C) at (kept-past C [] (dated_at x H) known.fronts (grown-fresh o (dated_at x H) known.grown)) in
       ⊎_elim
       (λ (undo : o.kind ≡ Undo).
       let legal = (undo_in_run along parts struck look objects H x o covered run there undo).legal in
       let first = subst (Pairs (λ (a b : Entry). is_among C a.by ≡ false → is_among C b.by ≡ true → may_pass o a b ≡ true)) are (open_free o undo C (dated_at x H) known) in
       let free = subst (Pairs (IsTurnedFree (may_pass o) ts)) are (turned_free o undo ts (dated_at x H) known.grown kept) in
-      let moved = undo_order along parts look equi o C ts (standing_at x H) covered undo order legal first free in
-      let strongly = undo_order_strongly along parts look equi o C ts (standing_at x H) covered undo order legal first free in
+      let moved = undo_order along parts look equi o C ts (surviving_at x H) covered undo order legal first free in
+      let strongly = undo_order_strongly along parts look equi o C ts (surviving_at x H) covered undo order legal first free in
       record { legal = moved.0; ends = subst (λ (kind : Kind). EndsAgree kind o x H ts) (sym undo) (moved.1, strongly) })
       (⊎_elim
       (λ (deferred : o.kind ≡ Intentions).
@@ -262,9 +262,9 @@ module _ (along : RunsAlong) (inside : EndsInside) (ends : LegalEnds) (extends :
       record { legal = rw are at one.0; ends = subst (λ (kind : Kind). EndsAgree kind o x H ts) (sym deferred) (rw are at two.1) })
       (λ (escrow : o.kind ≡ Escrow).
       let claim = any_number along ends safe o covered escrow (dated_at x H) known.grown in
-      let one : IsLegalAt o (ops (serial ts (standing_at x H))) = rw are at (claim ts order.once kept) in
-      let two : IsLegalAt o (ops (serial C (standing_at x H))) = rw are at (claim C known.once commit_kept) in
-      let same = same_number ends o.table o.amounts (covers_escrow o covered escrow) o.table.initial C ts (standing_at x H) known.once order.once (λ t. sym (order.same t)) two one in
+      let one : IsLegalAt o (ops (serial ts (surviving_at x H))) = rw are at (claim ts order.once kept) in
+      let two : IsLegalAt o (ops (serial C (surviving_at x H))) = rw are at (claim C known.once commit_kept) in
+      let same = same_number ends o.table o.amounts (covers_escrow o covered escrow) o.table.initial C ts (surviving_at x H) known.once order.once (λ t. sym (order.same t)) two one in
       record { legal = one; ends = subst (λ (kind : Kind). EndsAgree kind o x H ts) (sym escrow) same }))
       (by_kind o.kind)
 

@@ -14,10 +14,10 @@ use Rattle.object_trait.specs.Orders.{same}
 use Rattle.object_trait.specs.Laws.{PartsSort, StruckPart, SortsLook}
 use Rattle.object_trait.specs.declared.event.Event.{Event}
 use Rattle.serial_order.specs.Operations.{at_object, ops, of, serial}
-use Rattle.serial_order.specs.History.{Seen, is_open, commits}
+use Rattle.serial_order.specs.History.{Summary, is_open, commits}
 use Rattle.serial_order.specs.View.{view, is_legal_after, conflicts_with, stops_at, own_at}
 use Rattle.serial_order.specs.Machine.{IsRun}
-use Rattle.serial_order.specs.Serial.{standing_at}
+use Rattle.serial_order.specs.Serial.{surviving_at}
 use Rattle.serial_order.specs.After.{AreInRun}
 use Rattle.serial_order.specs.Laws.{may_pass}
 use Rattle.serial_order.specs.declared.entry.Entry.{Entry}
@@ -46,27 +46,27 @@ passes_both_ways o covered undo a b free = (covers_undo_strongly o covered undo)
 -- ---- what the machine allows is admitted
 
 -- an operation of another open transaction that doesn't keep t from k doesn't stop it
-apart_held : (o : Object) (s : Seen) (x t k : ℕ) (held : Entry) → is_open s held.by ≡ true → (t == held.by) ≡ false → conflicts_with o s x t k held ≡ false → stops_at o.kind o s.committed (at_object x s.stands) t k held ≡ false
+apart_held : (o : Object) (s : Summary) (x t k : ℕ) (held : Entry) → is_open s held.by ≡ true → (t == held.by) ≡ false → conflicts_with o s x t k held ≡ false → stops_at o.kind o s.committed (at_object x s.survives) t k held ≡ false
 apart_held o s x t k held open_held other free = rw (open_held, eqb-sym held.by t, other) at free
 
-pub free_at : (o : Object) (s : Seen) (x t k : ℕ) → AreInRun s → is_open s t ≡ true → AllByRecursion (λ e. conflicts_with o s x t k e ≡ false) (at_object x s.stands)
-    → IsAdmitted o s.committed (at_object x s.stands) (record { by = t; at = x; op = k })
+pub free_at : (o : Object) (s : Summary) (x t k : ℕ) → AreInRun s → is_open s t ≡ true → AllByRecursion (λ e. conflicts_with o s x t k e ≡ false) (at_object x s.survives)
+    → IsAdmitted o s.committed (at_object x s.survives) (record { by = t; at = x; op = k })
 free_at o s x t k known open_now each = record {
   uncommitted = open_is_uncommitted s t open_now;
   free = each-both
       (λ held began free pending other. apart_held o s x t k held (pending_is_open s held.by (began.0) (began.1) pending) other free)
-      (at_object x s.stands) (each-filter _ (λ e. e.at == x) s.stands known.stand) each;
+      (at_object x s.survives) (each-filter _ (λ e. e.at == x) s.survives known.survive) each;
 }
 
 -- ---- in a run
 
 module _ (along : RunsAlong) (parts : PartsSort Entry) (struck : StruckPart Entry) (look : SortsLook Entry) where
   pub undo_in_run : (objects : List Object) (H : List Event) (x : ℕ) (o : Object) → IsCovered o → IsRun objects H
-      → slice_get objects x ≡ Some o → o.kind ≡ Undo → UndoFacts o (commits H) (standing_at x H)
+      → slice_get objects x ≡ Some o → o.kind ≡ Undo → UndoFacts o (commits H) (surviving_at x H)
   undo_in_run objects H x o covered run there undo = at_object_in_run objects x o there (λ C V e. IsLegalAt o (ops V ++ e.op ∷ [])) (UndoFacts o)
       (record {
         op = λ C V e free legal facts. undo_op o C V e covered undo (free_undo o C V e undo free) legal facts;
-        strike = λ C V t n apart facts. undo_strike along parts struck look o C V t n covered undo apart facts;
+        strike = λ C V t n apart facts. undo_strike parts struck look o C V t n covered undo apart facts;
         commit = λ C V t apart facts. undo_commit parts o C V t covered undo apart facts;
       })
       (λ s t k legal. subst (λ (by : Kind). is_legal_after o (view by s x t) k ≡ true) undo legal)
@@ -74,7 +74,7 @@ module _ (along : RunsAlong) (parts : PartsSort Entry) (struck : StruckPart Entr
 
 module _ (along : RunsAlong) (ends : LegalEnds) (apply : FirmAfterApply) (firm_commits : FirmAfterCommit) (strikes : FirmAfterStrike) (nothing : NothingKeeps) (firm_legal : FirmIsLegal) (fresh : FreshIsFirm) where
   pub escrow_in_run : (objects : List Object) (H : List Event) (x : ℕ) (o : Object) → IsCovered o → IsRun objects H
-      → slice_get objects x ≡ Some o → o.kind ≡ Escrow → EscrowFacts o (commits H) (standing_at x H)
+      → slice_get objects x ≡ Some o → o.kind ≡ Escrow → EscrowFacts o (commits H) (surviving_at x H)
   escrow_in_run objects H x o covered run there escrow =
       at_object_in_run objects x o there (λ C V e. IsLegalAt o (ops (serial C V ++ of e.by V) ++ e.op ∷ [])) (EscrowFacts o)
       (record {

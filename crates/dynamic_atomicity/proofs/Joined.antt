@@ -43,7 +43,7 @@ committed-more i M m =
       | inr isnt ↦ rw isnt (ap commits (append-nil (history_of i M)) ∙ sym (append-nil (commits (history_of i M))))
     ]
 
--- where an event of one store's history stands among all
+-- where an event of one store's history comes among all
 pub record IsPlaced (i : ℕ) (M : List At) (before : List Event) (e : Event) : Type 0 where
   pub all_before : List At
   pub at : At
@@ -53,7 +53,7 @@ pub record IsPlaced (i : ℕ) (M : List At) (before : List Event) (e : Event) : 
   pub event : at.event ≡ e
   pub same : history_of i all_before ≡ before
 
--- behind an event of another store
+-- after an event of another store
 further : (i : ℕ) (m : At) (M : List At) (before : List Event) (e : Event) → (m.store == i) ≡ false → IsPlaced i M before e → IsPlaced i (m ∷ M) before e
 further i m M before e its p = record {
   all_before = m ∷ p.all_before;
@@ -65,7 +65,7 @@ further i m M before e its p = record {
   same = rw its p.same;
 }
 
--- and behind one of its own
+-- and after one of its own
 further_own : (i : ℕ) (m : At) (M : List At) (f : Event) (before : List Event) (e : Event) → (m.store == i) ≡ true → m.event ≡ f → IsPlaced i M before e → IsPlaced i (m ∷ M) (f ∷ before) e
 further_own i m M f before e mine first p = record {
   all_before = m ∷ p.all_before;

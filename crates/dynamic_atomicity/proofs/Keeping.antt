@@ -1,4 +1,4 @@
--- Which orders keep what precedes, told event by event; and those of the runs that break.
+-- Which orders keep what precedes, event by event; and those of the runs that break.
 use Rattle.std.proofs.Common.{◌≡◌, ℕ, true, false, ◌==◌, List, [], ◌∷◌, ◌++◌, refl, inl, inr, subst, append-nil, append_assoc}
 use Rattle.std.specs.List.{AllByRecursion}
 use Rattle.std.proofs.lemmas.Bool.{cases_Bool, false≢true, eqb-true, eq-eqb}
@@ -8,12 +8,12 @@ use Rattle.object_trait.specs.declared.event.EventKind.TheVariants.{Begin, Op, C
 use Rattle.serial_order.specs.Operations.{is_among}
 use Rattle.serial_order.specs.History.{commits, committed_by}
 use Rattle.serial_order.specs.Examples.{events}
-use Rattle.dynamic_atomicity.specs.Dynamic.{comes_first, is_op_at, Dated, IsKept, KeepsPrecedes}
+use Rattle.dynamic_atomicity.specs.Dynamic.{comes_first, is_op_at, Dated, KeepsDated, KeepsPrecedes}
 use Rattle.dynamic_atomicity.specs.Converse.{by, breaking}
 
 -- ---- which orders keep what precedes
 
--- each operation comes behind those that had committed, C having committed at the beginning
+-- each operation comes after those that had committed, C having committed at the beginning
 abbrev pub KeepsFrom : ℕ → List ℕ → List ℕ → List Event → Type 0
 KeepsFrom x ts C [] = Unit {0}
 KeepsFrom x ts C (e ∷ H) = ((t u : ℕ) → is_among C t ≡ true → is_op_at x u e.kind ≡ true → comes_first ts t u ≡ true) × KeepsFrom x ts (C ++ committed_by e.kind) H
@@ -77,7 +77,7 @@ keeps_breaking x ts first second w p q r one two three =
       ),
     )
 
--- an order has each operation behind those that had committed before it, where it has it behind each of them
-pub kept-each : (ts : List ℕ) (D : List Dated) → AllByRecursion (λ (d : Dated). AllByRecursion (λ t. comes_first ts t d.entry.by ≡ true) d.after) D → IsKept ts D
+-- an order has each operation after those that had committed before it, where it has it after each of them
+pub kept-each : (ts : List ℕ) (D : List Dated) → AllByRecursion (λ (d : Dated). AllByRecursion (λ t. comes_first ts t d.entry.by ≡ true) d.after) D → KeepsDated ts D
 kept-each ts [] each = tt
 kept-each ts (d ∷ D) each = ((λ inside t before. all-among (λ v. comes_first ts v d.entry.by ≡ true) d.after t each.0 before), kept-each ts D each.1)

@@ -17,7 +17,7 @@ use Rattle.object_trait.specs.declared.event.EventKind.TheVariants.{Begin, Op, C
 use Rattle.serial_order.specs.Operations.{ops, serial}
 use Rattle.serial_order.specs.History.{commits}
 use Rattle.serial_order.specs.Machine.{IsRun}
-use Rattle.serial_order.specs.Serial.{standing_at, serial_at}
+use Rattle.serial_order.specs.Serial.{surviving_at, serial_at}
 use Rattle.dynamic_atomicity.specs.Dynamic.{IsOrderOf, KeepsPrecedes, executed_at, end_of}
 use Rattle.serial_order.specs.Examples.{events}
 
@@ -39,7 +39,7 @@ Goes T v (k ∷ r) = IsLegal T (Some T.initial) (v ++ k ∷ []) × Goes T (v ++ 
 abbrev pub AdmitsLegalOnly : List Object → ℕ → Object → Type 0
 AdmitsLegalOnly objects x o =
     (H : List Event) → IsRun objects H → (ts : List ℕ) → IsOrderOf (commits H) ts → KeepsPrecedes x H ts
-    → IsLegal o.table (Some o.table.initial) (ops (serial ts (standing_at x H)))
+    → IsLegal o.table (Some o.table.initial) (ops (serial ts (surviving_at x H)))
 
 -- a list leads to the state
 abbrev pub IsReachable : Table → ℕ → Type 0
@@ -90,4 +90,4 @@ StrongIsExact =
     (objects : List Object) (x : ℕ) (o : Object) → slice_get objects x ≡ Some o → o.kind ≡ Undo → IsReached o → IsCovered o
     → IsCoveredStrongly o
     ↔ ((H : List Event) → IsRun objects H → (ts : List ℕ) → IsOrderOf (commits H) ts → KeepsPrecedes x H ts
-    → AreEqui o.table (end_of o (executed_at x H)) (end_of o (serial ts (standing_at x H))))
+    → AreEqui o.table (end_of o (executed_at x H)) (end_of o (serial ts (surviving_at x H))))

@@ -12,12 +12,12 @@ use Rattle.object_trait.specs.declared.event.EventKind.TheVariants.{Op, Abort, R
 use Rattle.serial_order.specs.Operations.{is_among, is_by, ops, serial}
 use Rattle.serial_order.specs.History.{commits, committed_by}
 use Rattle.serial_order.specs.Machine.{IsRun, AreCovered}
-use Rattle.serial_order.specs.Serial.{standing_at}
+use Rattle.serial_order.specs.Serial.{surviving_at}
 use Rattle.serial_order.specs.declared.entry.Entry.{Entry}
 
 -- ---- orders of transactions
 
--- t stands in the list, and u stands nowhere before it: t is first
+-- t is in the list, and u is nowhere before it: t is first
 abbrev pub comes_first : List ℕ → ℕ → ℕ → Bool
 comes_first [] t u = false
 comes_first (v ∷ ts) t u = if v == t then not (t == u) else (if v == u then false else comes_first ts t u)
@@ -54,7 +54,7 @@ KeepsPrecedes x H ts = (t u : ℕ) → Precedes x H t u → is_among ts u ≡ tr
 
 -- ---- dated operations
 
--- an operation that lives, with the transactions that had committed when it was executed
+-- an operation that survives, with the transactions that had committed when it was executed
 pub record Dated : Type 0 where
   pub entry : Entry
   pub after : List ℕ
@@ -77,30 +77,30 @@ abbrev pub dated_from : List ℕ → List Dated → List Event → List Dated
 dated_from C D [] = D
 dated_from C D (e ∷ H) = dated_from (C ++ committed_by e.kind) (dated_after C D e.kind) H
 
--- the operations that live, dated
+-- the operations that survive, dated
 abbrev pub dated : List Event → List Dated
 dated H = dated_from [] [] H
 
 abbrev pub dated_at : ℕ → List Event → List Dated
 dated_at x H = filter (λ d. d.entry.at == x) (dated H)
 
--- the order has the operation's transaction behind each that had committed before it
+-- the order has the operation's transaction after each that had committed before it
 abbrev pub IsKeptAt : List ℕ → Dated → Type 0
 IsKeptAt ts d = is_among ts d.entry.by ≡ true → (t : ℕ) → is_among d.after t ≡ true → comes_first ts t d.entry.by ≡ true
 
 -- and so of each of these operations
-abbrev pub IsKept : List ℕ → List Dated → Type 0
-IsKept ts D = AllByRecursion (IsKeptAt ts) D
+abbrev pub KeepsDated : List ℕ → List Dated → Type 0
+KeepsDated ts D = AllByRecursion (IsKeptAt ts) D
 
--- the order keeps what precedes by operations that live
+-- the order keeps what precedes by operations that survive
 abbrev pub KeepsLiving : ℕ → List Event → List ℕ → Type 0
-KeepsLiving x H ts = IsKept ts (dated_at x H)
+KeepsLiving x H ts = KeepsDated ts (dated_at x H)
 
 -- ---- the law
 
--- what lives of committed transactions at x, in the order in which it was executed
+-- what survives of committed transactions at x, in the order in which it was executed
 abbrev pub executed_at : ℕ → List Event → List Entry
-executed_at x H = filter (λ e. is_among (commits H) e.by) (standing_at x H)
+executed_at x H = filter (λ e. is_among (commits H) e.by) (surviving_at x H)
 
 -- the state after some operations
 abbrev pub end_of : Object → List Entry → Option ℕ
@@ -110,14 +110,14 @@ end_of o V = run o.table (Some o.table.initial) (ops V)
 -- Deferred update: the end of commit order is equieffective to it. Escrow: it is the same number
 abbrev pub EndsAgree : Kind → Object → ℕ → List Event → List ℕ → Type 0
 EndsAgree Undo o x H ts =
-    Looks o.table (end_of o (executed_at x H)) (end_of o (serial ts (standing_at x H)))
-    × (IsCoveredStrongly o → AreEqui o.table (end_of o (executed_at x H)) (end_of o (serial ts (standing_at x H))))
-EndsAgree Intentions o x H ts = AreEqui o.table (end_of o (serial (commits H) (standing_at x H))) (end_of o (serial ts (standing_at x H)))
-EndsAgree Escrow o x H ts = end_of o (serial (commits H) (standing_at x H)) ≡ end_of o (serial ts (standing_at x H))
+    Looks o.table (end_of o (executed_at x H)) (end_of o (serial ts (surviving_at x H)))
+    × (IsCoveredStrongly o → AreEqui o.table (end_of o (executed_at x H)) (end_of o (serial ts (surviving_at x H))))
+EndsAgree Intentions o x H ts = AreEqui o.table (end_of o (serial (commits H) (surviving_at x H))) (end_of o (serial ts (surviving_at x H)))
+EndsAgree Escrow o x H ts = end_of o (serial (commits H) (surviving_at x H)) ≡ end_of o (serial ts (surviving_at x H))
 
 -- the order is legal at x, and its end agrees
 pub record IsLegalOrder (o : Object) (x : ℕ) (H : List Event) (ts : List ℕ) : Type 0 where
-  pub legal : IsLegal o.table (Some o.table.initial) (ops (serial ts (standing_at x H)))
+  pub legal : IsLegal o.table (Some o.table.initial) (ops (serial ts (surviving_at x H)))
   pub ends : EndsAgree o.kind o x H ts
 
 -- dynamically atomic at one object: each order that keeps what precedes there
@@ -133,7 +133,7 @@ abbrev pub CoveredIsAtomic : Type 0
 CoveredIsAtomic =
     (objects : List Object) (H : List Event) (x : ℕ) (o : Object) → IsRun objects H → slice_get objects x ≡ Some o → IsCovered o → IsAtomicAt o x H
 
--- also by operations that live alone, which is more: fewer pairs precede
+-- also by operations that survive alone, which is more: fewer pairs precede
 abbrev pub RunsAreAtomicLiving : Type 0
 RunsAreAtomicLiving =
     (objects : List Object) (H : List Event) (x : ℕ) (o : Object) → IsRun objects H → slice_get objects x ≡ Some o → IsCovered o

@@ -16,7 +16,7 @@ use type_table::{
 };
 
 /// At an object that is covered, each order of the committed transactions that keeps what precedes
-/// there by operations that live is legal, and its end agrees.
+/// there by operations that survive is legal, and its end agrees.
 pub fn runs_are_atomic_living()
     ensures { RunsAreAtomicLiving }
 {

@@ -7,21 +7,21 @@ ghost use Rattle.type_table.specs.Examples.{one_way};
 ghost use Rattle.serial_order.specs.Operations.{ops, serial};
 ghost use Rattle.serial_order.specs.History.{commits};
 ghost use Rattle.serial_order.specs.Machine.{IsRun};
-ghost use Rattle.serial_order.specs.Serial.{serial_at, standing_at, IsSerial};
+ghost use Rattle.serial_order.specs.Serial.{serial_at, surviving_at, IsSerial};
 ghost use Rattle.serial_order.specs.Examples.{entry, undo_one_way, undo_counter, undo_semiqueue, one_way_history, semiqueue_history, lock_history, half_deferred_history, number};
-ghost use Rattle.dynamic_atomicity.specs.Dynamic.{comes_first, dated, dated_at, end_of, executed_at, IsKept, KeepsPrecedes};
+ghost use Rattle.dynamic_atomicity.specs.Dynamic.{comes_first, dated, dated_at, end_of, executed_at, KeepsDated, KeepsPrecedes};
 ghost use Rattle.dynamic_atomicity.specs.Joined.{AreJoined, first_commits, history_of, order_at};
 ghost use Rattle.dynamic_atomicity.specs.Converse.{breaking};
 ghost use Rattle.dynamic_atomicity.specs.OrderExamples.{deferred_parting, fives_history, loose_account, one_way_other, parting, parting_history, same_names, two_stores, with_date};
 
-/// Operations that live have the transactions that had committed before them: one counts down after the
+/// Operations that survive have the transactions that had committed before them: one counts down after the
 /// other has committed. One of two that count up takes it back.
 pub fn operations_have_dates()
     ensures behind { dated half_deferred_history ≡ with_date (entry 1 0 0) [] ∷ with_date (entry 0 0 1) (1 ∷ []) ∷ [] }
     ensures struck { dated lock_history ≡ with_date (entry 1 0 0) [] ∷ with_date (entry 1 0 1) [] ∷ [] }
     ensures elsewhere { dated_at 1 half_deferred_history ≡ [] }
-    ensures kept { IsKept (1 ∷ 0 ∷ []) (dated half_deferred_history) }
-    ensures turned { IsKept (0 ∷ 1 ∷ []) (dated half_deferred_history) → ⊥ }
+    ensures kept { KeepsDated (1 ∷ 0 ∷ []) (dated half_deferred_history) }
+    ensures turned { KeepsDated (0 ∷ 1 ∷ []) (dated half_deferred_history) → ⊥ }
 {}
 
 /// Which of two transactions is first in a list.
@@ -42,20 +42,20 @@ pub fn ends_of_orders_may_part()
     ensures keeps { KeepsPrecedes 0 one_way_history (0 ∷ 1 ∷ []) }
     ensures other_keeps { KeepsPrecedes 0 one_way_other (1 ∷ 0 ∷ []) }
     ensures executed { ops (executed_at 0 one_way_history) ≡ 1 ∷ 0 ∷ [] }
-    ensures end { end_of undo_one_way (serial (1 ∷ 0 ∷ []) (standing_at 0 one_way_history)) ≡ Some 4 }
-    ensures other_end { end_of undo_one_way (serial (0 ∷ 1 ∷ []) (standing_at 0 one_way_history)) ≡ Some 3 }
-    ensures end_2 { end_of undo_one_way (serial (0 ∷ 1 ∷ []) (standing_at 0 one_way_other)) ≡ Some 3 }
-    ensures other_end_2 { end_of undo_one_way (serial (1 ∷ 0 ∷ []) (standing_at 0 one_way_other)) ≡ Some 4 }
+    ensures end { end_of undo_one_way (serial (1 ∷ 0 ∷ []) (surviving_at 0 one_way_history)) ≡ Some 4 }
+    ensures other_end { end_of undo_one_way (serial (0 ∷ 1 ∷ []) (surviving_at 0 one_way_history)) ≡ Some 3 }
+    ensures end_2 { end_of undo_one_way (serial (0 ∷ 1 ∷ []) (surviving_at 0 one_way_other)) ≡ Some 3 }
+    ensures other_end_2 { end_of undo_one_way (serial (1 ∷ 0 ∷ []) (surviving_at 0 one_way_other)) ≡ Some 4 }
     ensures parts { Looks one_way (Some 4) (Some 3) → ⊥ }
 {}
 
 /// Each order of two that take from a semiqueue together gives them the same replies.
 pub fn either_takes_first()
-    ensures one { end_of undo_semiqueue (serial (0 ∷ 1 ∷ 2 ∷ []) (standing_at 0 semiqueue_history)) ≡ Some 0 }
-    ensures other { end_of undo_semiqueue (serial (0 ∷ 2 ∷ 1 ∷ []) (standing_at 0 semiqueue_history)) ≡ Some 0 }
-    ensures turned { end_of undo_semiqueue (serial (1 ∷ 0 ∷ 2 ∷ []) (standing_at 0 semiqueue_history)) ≡ None }
-    ensures kept { IsKept (0 ∷ 1 ∷ 2 ∷ []) (dated_at 0 semiqueue_history) }
-    ensures turned_is_not { IsKept (1 ∷ 0 ∷ 2 ∷ []) (dated_at 0 semiqueue_history) → ⊥ }
+    ensures one { end_of undo_semiqueue (serial (0 ∷ 1 ∷ 2 ∷ []) (surviving_at 0 semiqueue_history)) ≡ Some 0 }
+    ensures other { end_of undo_semiqueue (serial (0 ∷ 2 ∷ 1 ∷ []) (surviving_at 0 semiqueue_history)) ≡ Some 0 }
+    ensures turned { end_of undo_semiqueue (serial (1 ∷ 0 ∷ 2 ∷ []) (surviving_at 0 semiqueue_history)) ≡ None }
+    ensures kept { KeepsDated (0 ∷ 1 ∷ 2 ∷ []) (dated_at 0 semiqueue_history) }
+    ensures turned_is_not { KeepsDated (1 ∷ 0 ∷ 2 ∷ []) (dated_at 0 semiqueue_history) → ⊥ }
 {}
 
 /// With deferred update, commit order may be legal where another order that keeps what precedes isn't.
@@ -63,7 +63,7 @@ pub fn commit_order_may_stay_legal()
     ensures runs { IsRun (deferred_parting ∷ []) parting_history }
     ensures serial { IsSerial (deferred_parting ∷ []) parting_history }
     ensures keeps { KeepsPrecedes 0 parting_history (0 ∷ 1 ∷ 2 ∷ []) }
-    ensures illegal { IsLegal parting (Some 0) (ops (serial (0 ∷ 1 ∷ 2 ∷ []) (standing_at 0 parting_history))) → ⊥ }
+    ensures illegal { IsLegal parting (Some 0) (ops (serial (0 ∷ 1 ∷ 2 ∷ []) (surviving_at 0 parting_history))) → ⊥ }
 {}
 
 /// Under escrow each order that keeps what precedes ends at the same number. One that doesn't may be illegal.
@@ -71,11 +71,11 @@ pub fn commit_order_may_stay_legal()
 pub fn numbers_end_the_same()
     ensures runs { IsRun (number ∷ []) fives_history }
     ensures commits { commits fives_history ≡ 1 ∷ 0 ∷ 2 ∷ [] }
-    ensures kept { IsKept (0 ∷ 1 ∷ 2 ∷ []) (dated_at 0 fives_history) }
-    ensures end { end_of number (serial (1 ∷ 0 ∷ 2 ∷ []) (standing_at 0 fives_history)) ≡ Some 0 }
-    ensures other_end { end_of number (serial (0 ∷ 1 ∷ 2 ∷ []) (standing_at 0 fives_history)) ≡ Some 0 }
-    ensures turned { IsKept (0 ∷ 2 ∷ 1 ∷ []) (dated_at 0 fives_history) → ⊥ }
-    ensures illegal { end_of number (serial (0 ∷ 2 ∷ 1 ∷ []) (standing_at 0 fives_history)) ≡ None }
+    ensures kept { KeepsDated (0 ∷ 1 ∷ 2 ∷ []) (dated_at 0 fives_history) }
+    ensures end { end_of number (serial (1 ∷ 0 ∷ 2 ∷ []) (surviving_at 0 fives_history)) ≡ Some 0 }
+    ensures other_end { end_of number (serial (0 ∷ 1 ∷ 2 ∷ []) (surviving_at 0 fives_history)) ≡ Some 0 }
+    ensures turned { KeepsDated (0 ∷ 2 ∷ 1 ∷ []) (dated_at 0 fives_history) → ⊥ }
+    ensures illegal { end_of number (serial (0 ∷ 2 ∷ 1 ∷ []) (surviving_at 0 fives_history)) ≡ None }
 {}
 
 /// Two stores whose commit orders disagree have one order that keeps what precedes at both.

@@ -30,7 +30,7 @@ square-rows_by states test = record {
 
 -- ---- square rows
 
--- no pair lies outside
+-- no pair is outside
 pub relates-past_first : (states s t : ℕ) (rows : List (List Bool)) → IsSquare states rows → states ≤ s → relates rows s t ≡ false
 relates-past_first states s t rows square past =
     ap (λ cells. get_or cells t false) (get_or_past rows s [] (omega (arith, square.height))) ∙ get_or_past [] t false (omega arith)

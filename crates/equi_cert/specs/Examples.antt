@@ -9,7 +9,7 @@ use Rattle.equi_cert.specs.Relation.{relates, rows_by}
 abbrev pub is_among : List (ℕ × ℕ) → ℕ → ℕ → Bool
 is_among pairs s t = s == t || list_any (λ p. p.0 == s && p.1 == t) pairs
 
--- the relation of these pairs and the equal ones, over so many states
+-- the relation of these pairs and the equal ones, over this many states
 abbrev pub related_by : ℕ → List (ℕ × ℕ) → ℕ → ℕ → Bool
 related_by states pairs = relates (rows_by states (is_among pairs))
 

@@ -3,14 +3,14 @@ use Rattle.std.proofs.Common.{◌≡◌, ◌↔◌, ℕ, ◌+◌, ◌-◌, ◌<�
 use Rattle.std.specs.Prelude.{max, slice_get}
 use Rattle.type_table.specs.Table.{Table, next}
 use Rattle.type_table.specs.Run.{run, IsLegal}
-use Rattle.type_table.proofs.Legal.{is_there}
+use Rattle.type_table.proofs.Legal.{is_there, nothing_legal}
 use Rattle.escrow_laws.specs.Amounts.{fall, rise}
 use Rattle.escrow_laws.specs.declared.bounded.Bounded.{Bounded}
 use Rattle.escrow_laws.specs.declared.mark.Mark.{Mark}
 use Rattle.escrow_laws.specs.Bounds.{moved, moved_by, gives_of, takes_of, amounts_of, AreBounds}
 use Rattle.escrow_laws.specs.Marks.{unmarked, marked, marked_by, marked_on}
 use Rattle.escrow_laws.specs.Laws.{MarksAreExact}
-use Rattle.escrow_laws.proofs.Runs.{stuck, legal-step, run-step, step-legal}
+use Rattle.escrow_laws.proofs.Runs.{legal-step, run-step, step-legal}
 use Rattle.escrow_laws.proofs.Numbers.{within, inside_is, moves_by, by_found}
 
 -- ---- one operation
@@ -101,7 +101,7 @@ module _ (T : Table) (top : ℕ) (ops : List Bounded) (bounds : AreBounds T top 
       let closed = ceiling-on ops ks (marked_by m None) in
       let nowhere : next T now k ≡ None = bounds.steps now k ∙ ap (λ found. moved_by found now) is in (
         λ h. absurd (omega (arith, closed, h.1)),
-        λ h. absurd (stuck T ks (rw nowhere at h.2)),
+        λ h. absurd (nothing_legal T ks (rw nowhere at h.2)),
       )
   legal-by k ks m s now at (Some b) is rest =
       let here : next T now k ≡ moved b now = bounds.steps now k ∙ ap (λ found. moved_by found now) is in

@@ -1,4 +1,4 @@
--- Two sums and two extremes tell whether what was done is firm.
+-- Two sums and two extremes say whether what was done is firm.
 use Rattle.std.proofs.Common.{◌≡◌, ℕ, ◌+◌, ◌-◌, ◌<◌, ◌≤◌, true, ◌&&◌, nat_lt, List, [], ◌∷◌, refl, arith}
 use Rattle.std.specs.Prelude.{nat_le}
 use Rattle.std.specs.List.{list_all, sum_by, AllByRecursion}

@@ -8,7 +8,7 @@ use Rattle.type_table.specs.Laws.{RunsAlong}
 use Rattle.type_table.proofs.Legal.{some_state}
 use Rattle.escrow_laws.specs.Amounts.{Amounts, IsNumeric}
 use Rattle.escrow_laws.specs.Firm.{IsIdleFrom, IsFirm, with_op, IsAdmitted}
-use Rattle.escrow_laws.specs.Escrow.{Escrow, Happening, Does, Commits, Strikes, begun, without, struck, after, IsAllowed, left_by, AreAllowed, IsSound}
+use Rattle.escrow_laws.specs.Escrow.{Escrow, Happening, Does, Commits, Strikes, begun, without, struck, escrow_after, IsAllowed, left_by, AreAllowed, IsSound}
 use Rattle.escrow_laws.specs.Laws.{FirmIsSafe, SafeIsFirm, AdmittedWhereSafe, BaseIsSerial}
 use Rattle.escrow_laws.proofs.Staying.{fresh_firm, firm_legal, firm_applied, firm_committed, firm_struck}
 use Rattle.escrow_laws.proofs.Fits.{firm_keeps}
@@ -52,7 +52,7 @@ idle-without own m t idle u far = elim (cases_Bool (u == t)) [
   | inr other ↦ rw other (idle u far)
 ]
 
--- nothing is in front of nothing
+-- the front of nothing is nothing
 take-none : (n : ℕ) (ks : List ℕ) → ks ≡ [] → take n ks ≡ []
 take-none zero ks none = refl
 take-none (suc n) ks none = rw none refl
@@ -82,7 +82,7 @@ committed-sound along T a initial m numeric x t now moved sound reached is = rec
   idle = idle-without x.own m t sound.idle;
 }
 
-stays-sound : RunsAlong → (T : Table) (a : Amounts) (initial m : ℕ) → IsNumeric T a → (x : Escrow) (h : Happening) → IsSound T a initial m x → IsAllowed T a m x h → IsSound T a initial m (after T x h)
+stays-sound : RunsAlong → (T : Table) (a : Amounts) (initial m : ℕ) → IsNumeric T a → (x : Escrow) (h : Happening) → IsSound T a initial m x → IsAllowed T a m x h → IsSound T a initial m (escrow_after T x h)
 stays-sound along T a initial m numeric x (Does t k) sound admitted = record {
   firm = admitted-firm T a x.base m x.own t k numeric sound.idle admitted;
   is_serial = sound.is_serial;
@@ -100,7 +100,7 @@ stays-sound along T a initial m numeric x (Strikes t n) sound allowed = record {
 all-sound : RunsAlong → (T : Table) (a : Amounts) (initial m : ℕ) → IsNumeric T a → (x : Escrow) (hs : List Happening) → IsSound T a initial m x → AreAllowed T a m x hs → IsSound T a initial m (left_by T x hs)
 all-sound along T a initial m numeric x [] sound allowed = sound
 all-sound along T a initial m numeric x (h ∷ hs) sound allowed =
-    all-sound along T a initial m numeric (after T x h) hs (stays-sound along T a initial m numeric x h sound allowed.0) allowed.1
+    all-sound along T a initial m numeric (escrow_after T x h) hs (stays-sound along T a initial m numeric x h sound allowed.0) allowed.1
 
 pub serial_base : RunsAlong → BaseIsSerial
 serial_base along = λ T a initial m hs numeric allowed. all-sound along T a initial m numeric (begun initial) hs (record {

@@ -4,10 +4,10 @@ use Rattle.std.proofs.lemmas.Bool.{cases_lt}
 use Rattle.std.proofs.lemmas.List.{take-append-drop}
 use Rattle.type_table.specs.Table.{Table}
 use Rattle.type_table.specs.Run.{run, IsLegal}
-use Rattle.type_table.proofs.Legal.{some_state}
+use Rattle.type_table.proofs.Legal.{some_state, legal-front}
 use Rattle.escrow_laws.specs.Amounts.{Amounts, IsNumeric, fall, rise}
 use Rattle.escrow_laws.specs.Laws.{FallIsLowest, RiseIsHighest}
-use Rattle.escrow_laws.proofs.Runs.{run-step, run-moved, front-legal, front-falls, front-rises}
+use Rattle.escrow_laws.proofs.Runs.{run-step, run-moved, front-falls, front-rises}
 
 -- a front at whose end the number is at the lowest: how many operations, and that it ends so far below its start
 pub record Falls (T : Table) (a : Amounts) (ks : List ℕ) : Type 0 where
@@ -54,7 +54,7 @@ rises-somewhere T a numeric (k ∷ ks) =
 -- where a front of a legal list ends
 front-end : (T : Table) (s : ℕ) (ks : List ℕ) (count : ℕ) → IsLegal T (Some s) ks → (e : ℕ) × (run T (Some s) (take count ks) ≡ Some e)
 front-end T s ks count legal =
-    some_state (run T (Some s) (take count ks)) (front-legal T (Some s) (take count ks) (drop count ks) (rw (take-append-drop count ks) legal))
+    some_state (run T (Some s) (take count ks)) (legal-front T (Some s) (take count ks) (drop count ks) (rw (take-append-drop count ks) legal))
 
 pub fall_lowest : FallIsLowest
 fall_lowest = λ T a s ks numeric legal.

@@ -1,29 +1,19 @@
 -- What is firm is what is legal whatever happens before.
-use Rattle.std.proofs.Common.{◌≡◌, ℕ, zero, suc, ◌+◌, ◌<◌, false, ◌==◌, cond, List, [], ◌∷◌, ◌++◌, take, drop, Option, Some, refl, sym, ◌∙◌, inl, inr, arith, append_assoc, append-nil}
+use Rattle.std.proofs.Common.{◌≡◌, ℕ, zero, suc, ◌+◌, ◌<◌, false, ◌==◌, cond, List, [], ◌∷◌, ◌++◌, take, drop, Some, refl, sym, ◌∙◌, inl, inr, arith, append_assoc, append-nil}
 use Rattle.std.specs.List.{AllByRecursion}
 use Rattle.std.proofs.lemmas.Bool.{cases_Bool, eq-eqb, ne_eqb, false≢true}
 use Rattle.std.proofs.lemmas.List.{take-append-drop}
 use Rattle.type_table.specs.Table.{Table}
 use Rattle.type_table.specs.Run.{run, IsLegal}
 use Rattle.type_table.specs.Laws.{RunsAlong}
-use Rattle.type_table.proofs.Legal.{some_state, is_there}
+use Rattle.type_table.proofs.Legal.{some_state, is_there, legal-front, legal-behind, legal-after}
 use Rattle.escrow_laws.specs.Amounts.{Amounts, IsNumeric, fall, rise}
 use Rattle.escrow_laws.specs.Firm.{sum_below, except, IsFirm}
 use Rattle.escrow_laws.specs.Safe.{Part, done_by, AreOthers}
 use Rattle.escrow_laws.specs.Laws.{FirmIsSafe, SafeIsFirm}
-use Rattle.escrow_laws.proofs.Runs.{front-legal, legal-between}
+use Rattle.escrow_laws.proofs.Runs.{legal-between}
 use Rattle.escrow_laws.proofs.Lowest.{falls-somewhere, rises-somewhere}
 use Rattle.escrow_laws.proofs.Staying.{firm_legal, firm_struck, firm_committed}
-
--- ---- runs
-
--- legal one after another
-legal-join : RunsAlong → (T : Table) (from : Option ℕ) (v w : List ℕ) (s : ℕ) → run T from v ≡ Some s → IsLegal T (Some s) w → IsLegal T from (v ++ w)
-legal-join along T from v w s reached legal = rw (along T from v w, reached) legal
-
--- and the converse
-legal-rest : RunsAlong → (T : Table) (from : Option ℕ) (v w : List ℕ) (s : ℕ) → run T from v ≡ Some s → IsLegal T from (v ++ w) → IsLegal T (Some s) w
-legal-rest along T from v w s reached legal = rw (along T from v w, reached) at legal
 
 -- ---- what is firm is safe
 
@@ -52,7 +42,7 @@ safe-by along T a numeric t (p ∷ ps) base own firm others =
     let same : rest t ≡ own t = rw apart refl in
     let dones : done_by rest ps ≡ done_by own ps = same-done own rest p.by ps (λ u other. rw other refl) others.1 in
     rw (append_assoc (take p.count (own p.by)) (done_by own ps) (own t))
-    (legal-join along T (Some base) (take p.count (own p.by)) (done_by own ps ++ own t) reached.0 reached.1 (rw (dones, same) at after))
+    (legal-after along T (Some base) (take p.count (own p.by)) (done_by own ps ++ own t) reached.0 reached.1 (rw (dones, same) at after))
 
 pub firm_safe : RunsAlong → FirmIsSafe
 firm_safe along = λ T a base own numeric firm t ps others. safe-by along T a numeric t ps base own firm others
@@ -101,7 +91,7 @@ lowest-parts along T a numeric own t (suc m) =
             ends = λ s e run_is. rw other
                 (let v : List ℕ = take down.count (own m) in
                 let w : List ℕ = done_by own rest.parts in
-                let middle = some_state (run T (Some s) v) (front-legal T (Some s) v w (is_there (run T (Some s) (v ++ w)) e run_is)) in
+                let middle = some_state (run T (Some s) v) (legal-front T (Some s) v w (is_there (run T (Some s) (v ++ w)) e run_is)) in
                 let first = down.ends s middle.0 middle.1 in
                 let second = rest.ends middle.0 e (rw (along T (Some s) v w, middle.1) at run_is) in
                 omega (arith, first, second));
@@ -128,7 +118,7 @@ highest-parts along T a numeric own t (suc m) =
             ends = λ s e run_is. rw other
                 (let v : List ℕ = take up.count (own m) in
                 let w : List ℕ = done_by own rest.parts in
-                let middle = some_state (run T (Some s) v) (front-legal T (Some s) v w (is_there (run T (Some s) (v ++ w)) e run_is)) in
+                let middle = some_state (run T (Some s) v) (legal-front T (Some s) v w (is_there (run T (Some s) (v ++ w)) e run_is)) in
                 let first = up.ends s middle.0 middle.1 in
                 let second = rest.ends middle.0 e (rw (along T (Some s) v w, middle.1) at run_is) in
                 omega (arith, first, second));
@@ -143,9 +133,9 @@ safe_firm along = λ T a base own numeric safe t m s low high.
     let w : List ℕ = done_by own up.parts in
     let lower = safe t down.parts down.others in
     let upper = safe t up.parts up.others in
-    let bottom = some_state (run T (Some base) v) (front-legal T (Some base) v (own t) lower) in
-    let top = some_state (run T (Some base) w) (front-legal T (Some base) w (own t) upper) in
+    let bottom = some_state (run T (Some base) v) (legal-front T (Some base) v (own t) lower) in
+    let top = some_state (run T (Some base) w) (legal-front T (Some base) w (own t) upper) in
     let far_down = down.ends base bottom.0 bottom.1 in
     let far_up = up.ends base top.0 top.1 in
     legal-between T a numeric bottom.0 s top.0 (own t) (omega (arith, low, far_down)) (omega (arith, high, far_up))
-    (legal-rest along T (Some base) v (own t) bottom.0 bottom.1 lower) (legal-rest along T (Some base) w (own t) top.0 top.1 upper)
+    (legal-behind along T (Some base) v (own t) bottom.0 bottom.1 lower) (legal-behind along T (Some base) w (own t) top.0 top.1 upper)

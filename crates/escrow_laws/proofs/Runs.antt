@@ -1,24 +1,18 @@
 -- Runs of operations that move numbers.
 use Rattle.std.proofs.Common.{◌≡◌, ℕ, ◌+◌, ◌≤◌, List, [], ◌∷◌, ◌++◌, Option, Some, None, refl, arith}
-use Rattle.std.proofs.lemmas.Bool.{false≢true}
 use Rattle.type_table.specs.Table.{Table, next}
-use Rattle.type_table.specs.Run.{run, next_of, IsLegal}
-use Rattle.type_table.proofs.Legal.{some_state, is_there}
+use Rattle.type_table.specs.Run.{run, IsLegal}
+use Rattle.type_table.proofs.Legal.{some_state, is_there, nothing_legal}
 use Rattle.escrow_laws.specs.Amounts.{Amounts, IsNumeric, fall, rise}
 
 -- ---- steps
-
--- nothing is legal where there is no state
-pub stuck : (T : Table) (ks : List ℕ) → IsLegal T None ks → ⊥
-stuck T [] h = false≢true h
-stuck T (k ∷ ks) h = stuck T ks h
 
 -- the first step of a legal list
 pub legal-step : (T : Table) (s k : ℕ) (ks : List ℕ) → IsLegal T (Some s) (k ∷ ks) → (t : ℕ) × (next T s k ≡ Some t) × IsLegal T (Some t) ks
 legal-step T s k ks h = there (next T s k) refl h
   where
     there : (o : Option ℕ) → next T s k ≡ o → IsLegal T o ks → (t : ℕ) × (next T s k ≡ Some t) × IsLegal T (Some t) ks
-    there None e legal = absurd (stuck T ks legal)
+    there None e legal = absurd (nothing_legal T ks legal)
     there (Some t) e legal = (t, e, legal)
 
 -- the first step of a run
@@ -30,12 +24,6 @@ run-step T s k e ks is =
 -- and the converse
 pub step-legal : (T : Table) (s k t : ℕ) (ks : List ℕ) → next T s k ≡ Some t → IsLegal T (Some t) ks → IsLegal T (Some s) (k ∷ ks)
 step-legal T s k t ks e legal = rw e legal
-
--- the front of a legal list is legal
-pub front-legal : (T : Table) (from : Option ℕ) (v w : List ℕ) → IsLegal T from (v ++ w) → IsLegal T from v
-front-legal T None [] w h = absurd (stuck T w h)
-front-legal T (Some s) [] w h = refl
-front-legal T from (k ∷ v) w h = front-legal T (next_of T from k) v w h
 
 -- ---- how far they move
 

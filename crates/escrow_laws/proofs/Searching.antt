@@ -88,7 +88,7 @@ alike-legal s t r (Some e) alike = (e, refl, eqb-true (e + s) (r + t) alike)
 otherwise-by : (s t r e : ℕ) (o : Option ℕ) → o ≡ Some e → is_alike s t r o ≡ false → e + s ≡ r + t → ⊥
 otherwise-by s t r e o leads differs same = both_ways (e + s == r + t) (rw leads at differs) (eq-eqb (e + s) (r + t) same)
 
--- the step itself is alike, so what differs is behind it
+-- the step itself is alike, so what differs comes after it
 pub stop-past : (T : Table) (k s t r : ℕ) → next T s k ≡ Some t → s ≤ r → is_alike s t r (next T r k) ≡ false → s < r
 stop-past T k s t r leads from differs =
     elim (cases_lt s r) [

@@ -1,12 +1,14 @@
 -- What is firm stays so.
-use Rattle.std.proofs.Common.{◌≡◌, ℕ, suc, ◌+◌, ◌-◌, ◌≤◌, true, false, not, Bool, ◌&&◌, ◌||◌, ◌==◌, nat_lt, List, [], Some, refl, sym, ap, subst, cond, ◌∙◌, inl, inr, arith}
-use Rattle.std.proofs.lemmas.Bool.{cases_Bool, eqb-true, or_parts, and_parts, and_cases, not-false, both_ways, ltb-false, eq-eqb}
+use Rattle.std.proofs.Common.{◌≡◌, ℕ, suc, ◌+◌, ◌-◌, ◌≤◌, true, false, not, Bool, ◌&&◌, ◌||◌, ◌==◌, nat_lt, List, [], Some, refl, ap, subst, cond, ◌∙◌, inl, inr, arith}
+use Rattle.std.proofs.lemmas.Bool.{cases_Bool, eqb-true, or_parts, and_parts, and_cases, not-false, both_ways, ltb-false}
 use Rattle.type_table.specs.Table.{Table}
 use Rattle.type_table.specs.Run.{IsLegal}
+use Rattle.type_table.proofs.Elements.{differ_turned}
+use Rattle.type_table.proofs.Legal.{legal-front}
 use Rattle.escrow_laws.specs.Amounts.{Amounts, IsNumeric, fall, rise}
 use Rattle.escrow_laws.specs.Firm.{except, others_fall, others_rise, IsIdleFrom, IsFirm, is_low_legal, is_high_legal, keeps}
 use Rattle.escrow_laws.specs.Laws.{FreshIsFirm, FirmAfterApply, FirmAfterCommit, FirmAfterStrike, FirmIsLegal, NothingKeeps}
-use Rattle.escrow_laws.proofs.Runs.{run-moved, front-legal, front-falls, front-rises, legal-between}
+use Rattle.escrow_laws.proofs.Runs.{run-moved, front-falls, front-rises, legal-between}
 use Rattle.escrow_laws.proofs.Sums.{sum-zero, sum-less, sum-all, except-less, except-zero, gap}
 
 pub fresh_firm : FreshIsFirm
@@ -35,18 +37,11 @@ firm_committed = λ T a base now own rest t numeric firm reached gone same u m s
     elim (cases_Bool (u == t)) [
       | inl is ↦ rw (eqb-true u t is, gone) refl
       | inr other ↦
-          let apart = turned u t other in
+          let apart = differ_turned t u other in
           let down = gap (fall a) refl own rest t u m apart gone same in
           let up = gap (rise a) refl own rest t u m apart gone same in
           rw (same u other) (firm u (m + suc t) s (omega (arith, moved.0, low, down)) (omega (arith, moved.1, high, up)))
     ]
-  where
-    turned : (x y : ℕ) → (x == y) ≡ false → (y == x) ≡ false
-    turned x y other =
-        elim (cases_Bool (y == x)) [
-          | inl is ↦ absurd (both_ways (x == y) other (eq-eqb x y (sym (eqb-true y x is))))
-          | inr differ ↦ differ
-        ]
 
 -- ---- a strike
 
@@ -54,7 +49,7 @@ pub firm_struck : FirmAfterStrike
 firm_struck = λ T a base own left firm fronts u m s low high.
     let less_down = sum-less m _ _ (except-less u (λ v. fall a (left v)) (λ v. fall a (own v)) (λ v. rw ((fronts v).1) (front-falls a (left v) (fronts v).0))) in
     let less_up = sum-less m _ _ (except-less u (λ v. rise a (left v)) (λ v. rise a (own v)) (λ v. rw ((fronts v).1) (front-rises a (left v) (fronts v).0))) in
-    front-legal T (Some s) (left u) (fronts u).0 (rw ((fronts u).1) at (firm u m s (omega (arith, low, less_down)) (omega (arith, high, less_up))))
+    legal-front T (Some s) (left u) (fronts u).0 (rw ((fronts u).1) at (firm u m s (omega (arith, low, less_down)) (omega (arith, high, less_up))))
 
 -- ---- the lowest and the highest number
 

@@ -1,4 +1,4 @@
--- Marks and two sums tell who keeps a transaction from what it did last, and whether what was done is firm.
+-- Marks and two sums say who keeps a transaction from what it did last, and whether what was done is firm.
 use Rattle.std.proofs.Common.{◌≡◌, ◌↔◌, ℕ, zero, suc, ◌+◌, ◌-◌, ◌<◌, ◌≤◌, Bool, true, false, not, cond, ◌&&◌, ◌||◌, ◌==◌, nat_lt, List, [], ◌∷◌, Some, is_some, Contains, refl, sym, ap, subst, ◌∙◌, inl, inr, arith}
 use Rattle.std.specs.Prelude.{nat_le, slice_get}
 use Rattle.std.specs.Cmp.{both_ways}

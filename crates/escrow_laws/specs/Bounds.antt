@@ -7,7 +7,7 @@ use Rattle.type_table.specs.Table.{Table, next}
 use Rattle.escrow_laws.specs.Amounts.{Amounts}
 use Rattle.escrow_laws.specs.declared.bounded.Bounded.{Bounded}
 
--- the number after an operation, where that is legal from `low` to `high` and then gives and takes so much. Of numbers from 0 to top:
+-- the number after an operation, where that is legal from `low` to `high` and then gives and takes amounts. Of numbers from 0 to top:
 -- `take k, ok` is legal from k to top and takes k; `take k, short` from 0 to k - 1; `give k, ok` from 0 to top - k, and gives k;
 -- `give k, full` from top - k + 1 to top
 abbrev pub moved : Bounded → ℕ → Option ℕ

@@ -30,10 +30,10 @@ abbrev pub struck : (ℕ → List ℕ) → ℕ → ℕ → ℕ → List ℕ
 struck own t n u = cond (u == t) (take n (own u)) (own u)
 
 -- after it. A commit moves base on by what t did
-abbrev pub after : Table → Escrow → Happening → Escrow
-after T x (Does t k) = record { base = x.base; own = with_op x.own t k; serial = x.serial }
-after T x (Commits t) = record { base = unwrap_or (run T (Some x.base) (x.own t)) x.base; own = without x.own t; serial = x.serial ++ x.own t }
-after T x (Strikes t n) = record { base = x.base; own = struck x.own t n; serial = x.serial }
+abbrev pub escrow_after : Table → Escrow → Happening → Escrow
+escrow_after T x (Does t k) = record { base = x.base; own = with_op x.own t k; serial = x.serial }
+escrow_after T x (Commits t) = record { base = unwrap_or (run T (Some x.base) (x.own t)) x.base; own = without x.own t; serial = x.serial ++ x.own t }
+escrow_after T x (Strikes t n) = record { base = x.base; own = struck x.own t n; serial = x.serial }
 
 -- an operation has to be admitted; a commit, a rollback and an abort are refused to nobody
 abbrev pub IsAllowed : Table → Amounts → ℕ → Escrow → Happening → Type 0
@@ -44,12 +44,12 @@ IsAllowed T a m x (Strikes t n) = Unit {0}
 -- what is left by these, one after another
 abbrev pub left_by : Table → Escrow → List Happening → Escrow
 left_by T x [] = x
-left_by T x (h ∷ hs) = left_by T (after T x h) hs
+left_by T x (h ∷ hs) = left_by T (escrow_after T x h) hs
 
 -- each is allowed where it happens
 abbrev pub AreAllowed : Table → Amounts → ℕ → Escrow → List Happening → Type 0
 AreAllowed T a m x [] = Unit {0}
-AreAllowed T a m x (h ∷ hs) = IsAllowed T a m x h × AreAllowed T a m (after T x h) hs
+AreAllowed T a m x (h ∷ hs) = IsAllowed T a m x h × AreAllowed T a m (escrow_after T x h) hs
 
 -- what each open transaction did stays legal whatever the others do, and base is the state to which what was committed leads, in commit order
 pub record IsSound (T : Table) (a : Amounts) (initial m : ℕ) (x : Escrow) : Type 0 where

@@ -10,7 +10,7 @@ use Rattle.escrow_laws.specs.declared.bounded.Bounded.{Bounded}
 use Rattle.escrow_laws.specs.declared.mark.Mark.{Mark}
 use Rattle.escrow_laws.specs.declared.mark.OpenMark.{OpenMark}
 
--- an operation that is legal from low to high, and then gives, or takes, so much
+-- an operation that is legal from low to high, and then gives, or takes, an amount
 abbrev pub giving : ℕ → ℕ → ℕ → Bounded
 giving low high amount = record { low = low; high = high; gives = amount; takes = 0 }
 

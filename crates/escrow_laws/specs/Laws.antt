@@ -30,7 +30,7 @@ NumbersHaveTables =
 
 -- ---- falls and rises
 
--- the fall of what is legal tells how low its fronts end
+-- the fall of what is legal says how low its fronts end
 abbrev pub FallIsLowest : Type 0
 FallIsLowest = (T : Table) (a : Amounts) (s : ℕ) (ks : List ℕ) → IsNumeric T a → IsLegal T (Some s) ks → IsLowest T s ks (fall a ks)
 
@@ -117,7 +117,7 @@ SumsFit =
     (T : Table) (top base m : ℕ) (ops : List Bounded) (own : ℕ → List ℕ) → AreBounds T top ops → base ≤ top → IsFirm T (amounts_of ops) base own
     → (sum_below m (λ u. fall (amounts_of ops) (own u)) ≤ base) × (base + sum_below m (λ u. rise (amounts_of ops) (own u)) ≤ top)
 
--- who keeps t is told by marks and two sums, and by nothing else
+-- marks and two sums say who keeps t, and need nothing else
 abbrev pub MarksTell : Type 0
 MarksTell =
     (T : Table) (top base m : ℕ) (ops : List Bounded) (own : ℕ → List ℕ) (marks : List OpenMark) (t u : OpenMark) → AreBounds T top ops
@@ -130,7 +130,7 @@ MarksTellFirm =
     (T : Table) (top base m : ℕ) (ops : List Bounded) (own : ℕ → List ℕ) (marks : List OpenMark) → AreBounds T top ops
     → AreMarks top ops own m marks → (are_firm base marks ≡ true) ↔ IsFirm T (amounts_of ops) base own
 
--- so whether it is firm is told by two sums and two extremes
+-- so two sums and two extremes say whether it is firm
 abbrev pub ExtremesTellFirm : Type 0
 ExtremesTellFirm =
     (T : Table) (top base m : ℕ) (ops : List Bounded) (own : ℕ → List ℕ) (marks : List OpenMark) → AreBounds T top ops → base ≤ top

@@ -103,7 +103,7 @@ are_firm base marks = list_all (λ o. is_low base (fallen_of marks) o.mark && is
 
 -- ---- two extremes
 
--- the most that one needs beside what it falls itself: so much has to be there where all have fallen
+-- the most that one needs beside what it falls itself: that much has to be there where all have fallen
 abbrev pub most_needed : List OpenMark → ℕ
 most_needed [] = 0
 most_needed (o ∷ os) = max (o.mark.floor - o.mark.fall) (most_needed os)

@@ -1,4 +1,4 @@
-/// An operation on a number: legal from `low` to `high`, and then it gives and takes so much.
+/// An operation on a number: legal from `low` to `high`, and then it gives and takes these amounts.
 #[derive(Clone, Copy, Debug, PartialEq, Eq)]
 pub struct Bounded {
     pub low: u32,

@@ -137,7 +137,7 @@ fn first_step(table: &TypeTable, k: u8, start: u16) -> Option<Step>
     None
 }
 
-/// The first state behind a step in which its operation isn't legal, or moves otherwise; or the number
+/// The first state after a step in which its operation isn't legal, or moves otherwise; or the number
 /// of states, where there is none.
 fn first_stop(table: &TypeTable, k: u8, step: Step) -> u16
     requires operation { k < length table.now.ops }

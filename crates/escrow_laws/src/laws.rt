@@ -111,7 +111,7 @@ pub fn sums_fit()
     ensures { SumsFit }
 {}
 
-/// Marks and two sums tell who keeps a transaction from what it did last.
+/// Marks and two sums say who keeps a transaction from what it did last.
 pub fn marks_tell()
     ensures { MarksTell }
 {}

@@ -126,7 +126,7 @@ pub fn two_are_marked()
     ensures at_three { are_firm 3 two_marks ≡ false }
 {}
 
-/// A stock of 0 to 1,000: at 500 who takes 1 and who gives 9 are in nobody's way. At 1 a second one may
+/// A stock of 0 to 1,000: at 500 who takes 1 and who gives 9 block nobody. At 1 a second one may
 /// not take 1, and at 990 a second one may not give 9.
 pub fn a_stock_of_a_thousand()
     ensures of_taker { one_taken ≡ (record { fall = 1; rise = 0; above = 0; floor = 1; ceiling = 1001 }) }

@@ -1,11 +1,11 @@
--- Who keeps a transaction from an operation is told by marks and totals.
-use Rattle.std.proofs.Common.{◌≡◌, ◌↔◌, ℕ, ◌+◌, ◌-◌, ◌<◌, ◌≤◌, Bool, true, false, not, cond, eqb, ◌&&◌, ◌==◌, List, [], ◌∷◌, ◌++◌, Contains, Option, Some, None, refl, sym, ap, subst, ◌∙◌, inl, inr, arith}
+-- Marks and totals say who keeps a transaction from an operation.
+use Rattle.std.proofs.Common.{◌≡◌, ℕ, ◌+◌, ◌-◌, Bool, true, false, not, cond, eqb, ◌&&◌, ◌==◌, List, [], ◌∷◌, ◌++◌, Contains, get_or, Option, Some, None, refl, sym, ap, subst, ◌∙◌, inl, inr, arith}
 use Rattle.std.specs.Prelude.{slice_get}
 use Rattle.std.specs.List.{filter, find, AllByRecursion}
 use Rattle.std.specs.Option.{option_map}
-use Rattle.std.proofs.lemmas.Bool.{cases_Bool, eqb-true, eq-eqb, ne_eqb}
+use Rattle.std.proofs.lemmas.Bool.{cases_Bool, eq-eqb, ne_eqb}
 use Rattle.std.proofs.lemmas.List.Elements.{recursion_from_All}
-use Rattle.type_table.proofs.Elements.{differ_turned, each-weaker}
+use Rattle.type_table.proofs.Elements.{differ_turned, each-weaker, find_none, find_same}
 use Rattle.escrow_laws.specs.Bounds.{amounts_of}
 use Rattle.escrow_laws.specs.Firm.{with_op, IsIdleFrom, IsFirm, keeps}
 use Rattle.escrow_laws.specs.Marks.{marked, mark_of, AreMarks, fallen_of, risen_of, mark_keeps}
@@ -14,37 +14,22 @@ use Rattle.escrow_laws.specs.declared.bounded.Bounded.{Bounded}
 use Rattle.escrow_laws.specs.declared.mark.Mark.{Mark}
 use Rattle.escrow_laws.specs.declared.mark.OpenMark.{OpenMark}
 use Rattle.type_table.specs.declared.kind.Kind.TheVariants.{Escrow}
-use Rattle.object_trait.specs.Meaning.{Meaning, object, ops_of, is_open_of, open_of, own_of}
+use Rattle.object_trait.specs.Meaning.{Meaning, object, is_open_of, own_of}
 use Rattle.object_trait.specs.Steps.{above, stops_by, stopper}
 use Rattle.object_trait.specs.declared.log_entry.LogEntry.{LogEntry}
 use Rattle.object_trait.proofs.Escrow.{above-t}
-use Rattle.escrow_manager.specs.Numeric.{bounds_in, greatest, IsInEscrow}
-use Rattle.escrow_manager.specs.Marks.{AreOrdered, mark_in, with_mark}
-use Rattle.escrow_manager.specs.Totals.{totals_of, totals_with, AreFirm}
-use Rattle.escrow_manager.specs.Kept.{AreOpen, AreMarksOf, IsKept}
+use Rattle.object_trait.proofs.Runs.{open-all}
+use Rattle.escrow_manager.specs.Numeric.{bounds_in, greatest}
+use Rattle.escrow_manager.specs.Marks.{mark_in, with_mark}
+use Rattle.escrow_manager.specs.Totals.{totals_with, AreFirm}
+use Rattle.escrow_manager.specs.Kept.{AreMarksOf, IsKeptInEscrow}
 use Rattle.escrow_manager.specs.declared.totals.Totals.{Totals}
 use Rattle.escrow_manager.proofs.Seeing.{seen-put, seen-put_other}
 use Rattle.escrow_manager.proofs.Summing.{sum-put, needed-put, limit-put}
 use Rattle.escrow_manager.proofs.Marking.{mark-more, marks-all, mark-contained, marks-put}
 use Rattle.escrow_manager.proofs.Keeping.{mark_at, idle-above, inside-of, all-open}
 
--- ---- lists
-
-find-same : (p q : LogEntry → Bool) (log : List LogEntry) → AllByRecursion (λ e. p e ≡ q e) log → find p log ≡ find q log
-find-same p q [] same = refl
-find-same p q (e ∷ log) same = elim (cases_Bool (q e)) [
-  | inl is ↦ rw (same.0, is) refl
-  | inr isnt ↦ rw (same.0, isnt) (find-same p q log same.1)
-]
-
-find-none : (p : LogEntry → Bool) (log : List LogEntry) → ((e : LogEntry) → p e ≡ false) → find p log ≡ None
-find-none p [] none = refl
-find-none p (e ∷ log) none = rw (none e) (find-none p log none)
-
-all-kept : (log : List LogEntry) → AllByRecursion (λ e. e.done ≡ false) log → filter (λ e. not e.done) log ≡ log
-all-kept [] flags = refl
-all-kept (e ∷ log) flags =
-    ap (λ done. cond (not done) (e ∷ filter (λ e. not e.done) log) (filter (λ e. not e.done) log)) flags.0 ∙ ap (λ rest. e ∷ rest) (all-kept log flags.1)
+-- ---- what was done
 
 -- who has one more entry did something
 did-more : (e : LogEntry) (log : List LogEntry) (u : ℕ) → (own_of log u ≡ [] → ⊥) → own_of (e ∷ log) u ≡ [] → ⊥
@@ -76,7 +61,7 @@ stopper-told : (m : Meaning) (t k : ℕ) → m.checked.kind ≡ Escrow → AllBy
     ≡ option_map (λ e. e.by) (find (λ e. not (e.by == t) && keeps m.checked.file.table (amounts_of (bounds_in m.checked)) m.base (with_op (own_of m.log) t k) (above t m.log) t e.by) m.log)
 stopper-told m t k escrow open_all =
     ap (λ way. option_map (λ (e : LogEntry). e.by) (find (λ e. not (e.by == t) && stops_by way (object m) m.base m.log t k e) (filter (λ e. not e.done) m.log))) escrow
-    ∙ ap (λ V. option_map (λ (e : LogEntry). e.by) (find (λ e. not (e.by == t) && keeps m.checked.file.table (amounts_of (bounds_in m.checked)) m.base (with_op (own_of m.log) t k) (above t m.log) t e.by) V)) (all-kept m.log open_all)
+    ∙ ap (λ V. option_map (λ (e : LogEntry). e.by) (find (λ e. not (e.by == t) && keeps m.checked.file.table (amounts_of (bounds_in m.checked)) m.base (with_op (own_of m.log) t k) (above t m.log) t e.by) V)) (open-all m.log open_all)
 
 -- whose entry is the first that keeps t, by marks and totals
 abbrev pub first_of : List LogEntry → List OpenMark → ℕ → Totals → Mark → ℕ → ℕ → Option ℕ
@@ -92,7 +77,7 @@ mark_with m t b = marked (mark_at m t) b
 abbrev pub totals_after : Meaning → Totals → ℕ → Bounded → Totals
 totals_after m totals t b = totals_with totals (mark_at m t) (mark_with m t b)
 
-module _ {m : Meaning} {marks : List OpenMark} {totals : Totals} (h : IsKept m marks totals) (t k : ℕ) (b : Bounded) (found : slice_get (bounds_in m.checked) k ≡ Some b) where
+module _ {m : Meaning} {marks : List OpenMark} {totals : Totals} (h : IsKeptInEscrow m marks totals) (t k : ℕ) (b : Bounded) (found : slice_get (bounds_in m.checked) k ≡ Some b) where
   abbrev own_with : ℕ → List ℕ
   own_with = with_op (own_of m.log) t k
 
@@ -156,13 +141,15 @@ module _ {m : Meaning} {marks : List OpenMark} {totals : Totals} (h : IsKept m m
   pub stopper-none : ExtremesTellFirm → FirmKeepsNobody → AreFirm m.base (totals_after m totals t b) → stopper m t k ≡ None
   stopper-none tell nobody firm =
       stopper-told m t k h.numeric.escrow (recursion_from_All (λ (e : LogEntry). e.done ≡ false) m.log (all-open h))
-      ∙ ap (option_map (λ (e : LogEntry). e.by)) (find-none (λ e. not (e.by == t) && keeps m.checked.file.table (amounts_of (bounds_in m.checked)) m.base own_with (above t m.log) t e.by) m.log (λ e. none (not (e.by == t)) (nobody m.checked.file.table (amounts_of (bounds_in m.checked)) m.base (above t m.log) own_with t e.by (firm-with tell firm))))
+      ∙ ap (option_map (λ (e : LogEntry). e.by)) (find_none (λ (e : LogEntry). not (e.by == t) && keeps m.checked.file.table (amounts_of (bounds_in m.checked)) m.base own_with (above t m.log) t e.by) m.log
+      (λ i d i_in. let e : LogEntry = get_or m.log i d in
+      none (not (e.by == t)) (nobody m.checked.file.table (amounts_of (bounds_in m.checked)) m.base (above t m.log) own_with t e.by (firm-with tell firm))))
     where
       none : (a : Bool) {b : Bool} → b ≡ false → (a && b) ≡ false
       none true is = is
       none false is = refl
 
-  -- else the marks tell who does
+  -- else the marks say who does
   keeps-told : MarksTell → (e : LogEntry) → (own_of m.log e.by ≡ [] → ⊥) →
       (not (e.by == t) && keeps m.checked.file.table (amounts_of (bounds_in m.checked)) m.base own_with (above t m.log) t e.by)
       ≡ (not (e.by == t) && mark_keeps m.base (totals_after m totals t b).fallen (totals_after m totals t b).risen (mark_with m t b) (mark_in (greatest m.checked) e.by marks))
@@ -187,6 +174,6 @@ module _ {m : Meaning} {marks : List OpenMark} {totals : Totals} (h : IsKept m m
       let flags = recursion_from_All (λ (e : LogEntry). e.done ≡ false) m.log (all-open h) in
       stopper-told m t k h.numeric.escrow flags
       ∙ ap (option_map (λ (e : LogEntry). e.by))
-      (find-same (λ e. not (e.by == t) && keeps m.checked.file.table (amounts_of (bounds_in m.checked)) m.base own_with (above t m.log) t e.by)
-      (λ e. not (e.by == t) && mark_keeps m.base (totals_after m totals t b).fallen (totals_after m totals t b).risen (mark_with m t b) (mark_in (greatest m.checked) e.by marks)) m.log
+      (find_same (λ (e : LogEntry). not (e.by == t) && keeps m.checked.file.table (amounts_of (bounds_in m.checked)) m.base own_with (above t m.log) t e.by)
+      (λ (e : LogEntry). not (e.by == t) && mark_keeps m.base (totals_after m totals t b).fallen (totals_after m totals t b).risen (mark_with m t b) (mark_in (greatest m.checked) e.by marks)) m.log
       (each-weaker (λ (e : LogEntry) did. keeps-told tell e did) m.log (each-did m.log flags)))

@@ -1,7 +1,7 @@
 -- What a manager keeps by a further operation, a commit, an abort and a strike.
-use Rattle.std.proofs.Common.{◌≡◌, ℕ, ◌+◌, ◌-◌, ◌<◌, ◌≤◌, false, not, eqb, List, [], ◌∷◌, ◌++◌, length, take, All, Some, refl, sym, ap, subst, ◌∙◌, inl, inr, arith}
+use Rattle.std.proofs.Common.{◌≡◌, ℕ, ◌+◌, ◌-◌, ◌<◌, ◌≤◌, false, not, eqb, List, [], ◌∷◌, ◌++◌, length, take, Some, refl, sym, ap, subst, ◌∙◌, arith}
 use Rattle.std.specs.Prelude.{slice_get}
-use Rattle.std.specs.List.{filter, list_any, AllByRecursion}
+use Rattle.std.specs.List.{filter, list_any}
 use Rattle.std.proofs.lemmas.List.{length_push, length-map}
 use Rattle.std.proofs.lemmas.List.Elements.{All-push, All-filter}
 use Rattle.std.proofs.lemmas.List.Filters.{length-filter_both}
@@ -21,19 +21,20 @@ use Rattle.object_trait.specs.Sound.{IsSound}
 use Rattle.object_trait.specs.Steps.{MayApply, applied, IsCommitBy, IsCommit, IsStrikeBy, Keeps}
 use Rattle.object_trait.specs.Laws.{KeepsFirst, KeepsOthers, SoundAfterApply, SoundAfterCommit, SoundAfterStrike}
 use Rattle.object_trait.specs.declared.log_entry.LogEntry.{LogEntry}
+use Rattle.object_trait.proofs.Leaving.{others-stay, own-left, own-count, each-left}
 use Rattle.object_trait.proofs.Runs.{open-apart}
+use Rattle.object_trait.proofs.Striking.{keep_first-length}
 use Rattle.object_trait.proofs.Escrow.{own-more}
 use Rattle.object_trait.proofs.Intentions.{filter-without, filter-itself}
 use Rattle.escrow_manager.specs.Numeric.{bounds_in, greatest, IsInEscrow}
 use Rattle.escrow_manager.specs.Marks.{mark_in, with_mark, without_mark}
 use Rattle.escrow_manager.specs.Totals.{need_of, limit_of, totals_of, totals_with}
-use Rattle.escrow_manager.specs.Kept.{AreMarksOf, IsKept}
+use Rattle.escrow_manager.specs.Kept.{AreMarksOf, IsKeptInEscrow}
 use Rattle.escrow_manager.specs.declared.totals.Totals.{Totals}
 use Rattle.escrow_manager.proofs.Marking.{marks-put, marks-dropped, marks-same}
-use Rattle.escrow_manager.proofs.Keeping.{number_at, escrow-sound, escrow-view, inside-of, fits-of, view-told}
+use Rattle.escrow_manager.proofs.Keeping.{number_at, escrow-sound, escrow-view, fits-of, view-told}
 use Rattle.escrow_manager.proofs.Blocking.{mark_with, listed-with}
 use Rattle.escrow_manager.proofs.Summing.{totals-told}
-use Rattle.escrow_manager.proofs.Leaving.{length-left, others-stay, some-left, each-left}
 
 -- the totals of these marks of what was done at an object
 abbrev pub totals_at : Meaning → List OpenMark → Totals
@@ -41,8 +42,8 @@ totals_at m marks = totals_of (greatest m.checked) marks
 
 -- ---- a further operation
 
-pub applied-kept : SoundAfterApply → {m : Meaning} {marks : List OpenMark} {totals : Totals} → IsKept m marks totals → (t k : ℕ) (b : Bounded) → slice_get (bounds_in m.checked) k ≡ Some b → MayApply m t k →
-    IsKept (applied m t k) (with_mark (record { by = t; mark = mark_with m t b }) marks) (totals_at m (with_mark (record { by = t; mark = mark_with m t b }) marks))
+pub applied-kept : SoundAfterApply → {m : Meaning} {marks : List OpenMark} {totals : Totals} → IsKeptInEscrow m marks totals → (t k : ℕ) (b : Bounded) → slice_get (bounds_in m.checked) k ≡ Some b → MayApply m t k →
+    IsKeptInEscrow (applied m t k) (with_mark (record { by = t; mark = mark_with m t b }) marks) (totals_at m (with_mark (record { by = t; mark = mark_with m t b }) marks))
 applied-kept sound_after {m} {marks} {totals} h t k b found may =
     let entry : LogEntry = record { by = t; op = k; done = false } in
     let room = may.room in
@@ -71,8 +72,8 @@ commits-told m numeric t s log seen rest = record {
   commit = subst (λ way. IsCommitBy way (object m) m.base m.log t s log) (sym numeric.escrow) (record { rest = rest; reached = sym (escrow-view m numeric t) ∙ seen });
 }
 
-pub committed-kept : SoundAfterCommit → MarksAreExact → MarksFit → FirmIsLegal → {m : Meaning} {marks : List OpenMark} {totals : Totals} → IsKept m marks totals → (t s : ℕ) (log : List LogEntry) → view_of m t ≡ Some s →
-    log ≡ filter (λ e. not (is_open_of t e)) m.log → IsKept (committed m s log) (without_mark t marks) (totals_at m (without_mark t marks))
+pub committed-kept : SoundAfterCommit → MarksAreExact → MarksFit → FirmIsLegal → {m : Meaning} {marks : List OpenMark} {totals : Totals} → IsKeptInEscrow m marks totals → (t s : ℕ) (log : List LogEntry) → view_of m t ≡ Some s →
+    log ≡ filter (λ e. not (is_open_of t e)) m.log → IsKeptInEscrow (committed m s log) (without_mark t marks) (totals_at m (without_mark t marks))
 committed-kept sound_after exact fit legal {m} {marks} {totals} h t s log seen rest =
     let rest_of : List LogEntry = filter (λ e. not (is_open_of t e)) m.log in
     let number : s ≡ number_at m t = same_Some s (number_at m t) (sym seen ∙ view-told h exact legal t) in
@@ -83,7 +84,7 @@ committed-kept sound_after exact fit legal {m} {marks} {totals} h t s log seen r
     let states = h.numeric.table.some_states in
     let room = h.room in
     let long = length-filter_both (is_open_of t) (λ e. not (is_open_of t e)) (λ _. refl) m.log in
-    subst (λ V. IsKept (committed m s V) (without_mark t marks) (totals_at m (without_mark t marks))) (sym rest)
+    subst (λ V. IsKeptInEscrow (committed m s V) (without_mark t marks) (totals_at m (without_mark t marks))) (sym rest)
     (record {
       numeric = h.numeric;
       covered = h.covered;
@@ -109,27 +110,25 @@ left-keeps m numeric t n log left = record {
   strike = subst (λ way. IsStrikeBy way (object m) m.base m.log t n m.base log) (sym numeric.escrow) (record { same_base = refl; rest = left });
 }
 
-pub struck-sound : SoundAfterStrike → {m : Meaning} {marks : List OpenMark} {totals : Totals} → IsKept m marks totals → (t n : ℕ) (log : List LogEntry) → log ≡ keep_first (is_open_of t) n m.log → IsSound (with_log m log)
+pub struck-sound : SoundAfterStrike → {m : Meaning} {marks : List OpenMark} {totals : Totals} → IsKeptInEscrow m marks totals → (t n : ℕ) (log : List LogEntry) → log ≡ keep_first (is_open_of t) n m.log → IsSound (with_log m log)
 struck-sound sound_after {m} {marks} {totals} h t n log left = sound_after m (with_log m log) t n h.covered h.sound (left-keeps m h.numeric t n log left)
 
 -- what t did stays legal
-pub struck-legal : SoundAfterStrike → FirmIsLegal → {m : Meaning} {marks : List OpenMark} {totals : Totals} → IsKept m marks totals → (t n : ℕ) (log : List LogEntry) → log ≡ keep_first (is_open_of t) n m.log →
+pub struck-legal : SoundAfterStrike → FirmIsLegal → {m : Meaning} {marks : List OpenMark} {totals : Totals} → IsKeptInEscrow m marks totals → (t n : ℕ) (log : List LogEntry) → log ≡ keep_first (is_open_of t) n m.log →
     IsLegal m.checked.file.table (Some m.base) (own_of log t)
 struck-legal sound_after legal {m} {marks} {totals} h t n log left =
     legal m.checked.file.table (amounts_of (bounds_in m.checked)) m.base (own_of log) t (escrow-sound (with_log m log) h.numeric (struck-sound sound_after h t n log left)).firm
 
-struck-kept : SoundAfterStrike → {m : Meaning} {marks : List OpenMark} {totals : Totals} → IsKept m marks totals → (t n : ℕ) (log : List LogEntry) (new : List OpenMark) → log ≡ keep_first (is_open_of t) n m.log →
-    AreMarksOf (greatest m.checked) (bounds_in m.checked) (own_of log) new → IsKept (with_log m log) new (totals_at m new)
+struck-kept : SoundAfterStrike → {m : Meaning} {marks : List OpenMark} {totals : Totals} → IsKeptInEscrow m marks totals → (t n : ℕ) (log : List LogEntry) (new : List OpenMark) → log ≡ keep_first (is_open_of t) n m.log →
+    AreMarksOf (greatest m.checked) (bounds_in m.checked) (own_of log) new → IsKeptInEscrow (with_log m log) new (totals_at m new)
 struck-kept sound_after {m} {marks} {totals} h t n log new left listed =
     let room = h.room in
-    let long : length log ≤ length m.log = subst (λ V. length V ≤ length m.log) (sym left) (length-left (is_open_of t) n m.log) in
+    let long : length log ≤ length m.log = subst (λ V. length V ≤ length m.log) (sym left) (keep_first-length (is_open_of t) n m.log) in
     record {
       numeric = h.numeric;
       covered = h.covered;
       base_fits = h.base_fits;
-      ops_fit =
-          subst (λ V. All (λ (e : LogEntry). e.op < length m.checked.file.table.ops) V) (sym left)
-          (each-left (λ (e : LogEntry). e.op < length m.checked.file.table.ops) t n m.log h.ops_fit);
+      ops_fit = each-left (λ (e : LogEntry). e.op < length m.checked.file.table.ops) t n m.log log left h.ops_fit;
       room = omega (arith, room, long);
       sound = struck-sound sound_after h t n log left;
       listed = listed;
@@ -137,40 +136,47 @@ struck-kept sound_after {m} {marks} {totals} h t n log new left listed =
     }
 
 -- nothing of t is left
-pub dropped-kept : SoundAfterStrike → KeepsFirst LogEntry → KeepsOthers LogEntry → {m : Meaning} {marks : List OpenMark} {totals : Totals} → IsKept m marks totals → (t n : ℕ) (log : List LogEntry) → n ≡ 0 →
-    log ≡ keep_first (is_open_of t) n m.log → IsKept (with_log m log) (without_mark t marks) (totals_at m (without_mark t marks))
+pub dropped-kept : SoundAfterStrike → KeepsFirst LogEntry → KeepsOthers LogEntry → {m : Meaning} {marks : List OpenMark} {totals : Totals} → IsKeptInEscrow m marks totals → (t n : ℕ) (log : List LogEntry) → n ≡ 0 →
+    log ≡ keep_first (is_open_of t) n m.log → IsKeptInEscrow (with_log m log) (without_mark t marks) (totals_at m (without_mark t marks))
 dropped-kept sound_after first others {m} {marks} {totals} h t n log nothing left =
     struck-kept sound_after h t n log (without_mark t marks) left
     (marks-dropped (greatest m.checked) (bounds_in m.checked) (own_of m.log) (own_of log) marks t h.listed
-    (ap (λ V. own_of V t) left ∙ ap ops_of (first (is_open_of t) n m.log).0 ∙ ap (λ j. ops_of (take j (open_of t m.log))) nothing)
-    (λ u other. ap (λ V. own_of V u) left ∙ others-stay others t u n m.log other))
+    (ap ops_of (own-left first t n m.log log left) ∙ ap (λ j. ops_of (take j (open_of t m.log))) nothing)
+    (λ u other. ap ops_of (others-stay others t u n m.log log left other)))
+
+-- some of t's entries are left, where at least one stays
+some-left : KeepsFirst LogEntry → (t n : ℕ) (old new : List LogEntry) → n ≤ length (open_of t old) → 0 < n → new ≡ keep_first (is_open_of t) n old → own_of new t ≡ [] → ⊥
+some-left first t n old new many some left none =
+    let count : length (own_of new t) ≡ n = length-map (open_of t new) (λ (e : LogEntry). e.op) ∙ own-count first t n old new left many in
+    let nothing = ap length none in
+    omega (arith, count, nothing, some)
 
 -- something is left
-pub rewound-kept : SoundAfterStrike → KeepsFirst LogEntry → KeepsOthers LogEntry → {m : Meaning} {marks : List OpenMark} {totals : Totals} → IsKept m marks totals → (t n : ℕ) (log : List LogEntry) (mark : Mark) →
+pub rewound-kept : SoundAfterStrike → KeepsFirst LogEntry → KeepsOthers LogEntry → {m : Meaning} {marks : List OpenMark} {totals : Totals} → IsKeptInEscrow m marks totals → (t n : ℕ) (log : List LogEntry) (mark : Mark) →
     n ≤ length (open_of t m.log) → 0 < n → log ≡ keep_first (is_open_of t) n m.log → mark ≡ mark_of (greatest m.checked) (bounds_in m.checked) (own_of log t) →
-    IsKept (with_log m log) (with_mark (record { by = t; mark = mark }) marks) (totals_at m (with_mark (record { by = t; mark = mark }) marks))
+    IsKeptInEscrow (with_log m log) (with_mark (record { by = t; mark = mark }) marks) (totals_at m (with_mark (record { by = t; mark = mark }) marks))
 rewound-kept sound_after first others {m} {marks} {totals} h t n log mark many some left made =
     struck-kept sound_after h t n log (with_mark (record { by = t; mark = mark }) marks) left
     (marks-put (greatest m.checked) (bounds_in m.checked) (own_of m.log) (own_of log) marks (record { by = t; mark = mark }) h.listed made
-    (λ none. some-left first t n m.log many some (ap (λ V. own_of V t) (sym left) ∙ none))
-    (λ u other. ap (λ V. own_of V u) left ∙ others-stay others t u n m.log other))
+    (λ none. some-left first t n m.log log many some left none)
+    (λ u other. ap ops_of (others-stay others t u n m.log log left other)))
 
 -- t has a mark there
-pub listed-some : {m : Meaning} {marks : List OpenMark} {totals : Totals} → IsKept m marks totals → (t : ℕ) → 0 < length (open_of t m.log) → list_any (λ (o : OpenMark). eqb o.by t) marks ≡ false → ⊥
+pub listed-some : {m : Meaning} {marks : List OpenMark} {totals : Totals} → IsKeptInEscrow m marks totals → (t : ℕ) → 0 < length (open_of t m.log) → list_any (λ (o : OpenMark). eqb o.by t) marks ≡ false → ⊥
 listed-some {m} {marks} {totals} h t some none =
     let nothing = ap length (h.listed.all t none) in
     let long = length-map (open_of t m.log) (λ (e : LogEntry). e.op) in
     omega (arith, nothing, long, some)
 
--- ---- told otherwise
+-- ---- said otherwise
 
 -- kept, with the marks and totals that were computed
-pub kept-told : {m : Meaning} {marks : List OpenMark} {totals : Totals} (made : List OpenMark) → IsKept m made (totals_at m made) → marks ≡ made → totals ≡ totals_at m marks → IsKept m marks totals
+pub kept-told : {m : Meaning} {marks : List OpenMark} {totals : Totals} (made : List OpenMark) → IsKeptInEscrow m made (totals_at m made) → marks ≡ made → totals ≡ totals_at m marks → IsKeptInEscrow m marks totals
 kept-told {m} {marks} {totals} made h same told =
-    subst (λ x. IsKept m marks x) (sym told) (subst (λ V. IsKept m V (totals_at m V)) (sym same) h)
+    subst (λ x. IsKeptInEscrow m marks x) (sym told) (subst (λ V. IsKeptInEscrow m V (totals_at m V)) (sym same) h)
 
--- where the new mark tells the extremes of the old one, the totals with it are those of the marks with it
-pub told-with : {m : Meaning} {marks : List OpenMark} {totals : Totals} → IsKept m marks totals → (t top : ℕ) (old new : Mark) (made : List OpenMark) → top ≡ greatest m.checked → old ≡ mark_in (greatest m.checked) t marks →
+-- where the extremes of the old mark follow from the new one, the totals with it are those of the marks with it
+pub told-with : {m : Meaning} {marks : List OpenMark} {totals : Totals} → IsKeptInEscrow m marks totals → (t top : ℕ) (old new : Mark) (made : List OpenMark) → top ≡ greatest m.checked → old ≡ mark_in (greatest m.checked) t marks →
     made ≡ with_mark (record { by = t; mark = new }) marks → need_of old ≤ need_of new → limit_of new ≤ limit_of old → totals_with totals old new ≡ totals_of top made
 told-with {m} {marks} {totals} h t top old new made is_top is_old is_made more less =
     let g = greatest m.checked in

@@ -1,27 +1,17 @@
 -- As many marks as open transactions.
 use Rattle.std.proofs.Common.{◌≡◌, ℕ, ◌<◌, ◌≤◌, true, false, eqb, ltb, List, [], ◌∷◌, length, refl, sym, ap, ◌∙◌, inl, inr, arith}
 use Rattle.std.specs.List.{list_any, AllByRecursion}
-use Rattle.std.proofs.lemmas.Bool.{cases_Bool, false≢true, ne_eqb, eqb-true, lt-ltb}
+use Rattle.std.proofs.lemmas.Bool.{cases_Bool, false≢true, eqb-true, lt-ltb}
 use Rattle.std.proofs.lemmas.List.{length-map}
 use Rattle.escrow_laws.specs.declared.bounded.Bounded.{Bounded}
 use Rattle.escrow_laws.specs.declared.mark.OpenMark.{OpenMark}
 use Rattle.object_trait.specs.Laws.{OpensAreCounted}
 use Rattle.object_trait.specs.Meaning.{open_of, own_of}
-use Rattle.object_trait.specs.Orders.{Pairs}
 use Rattle.object_trait.specs.Steps.{open_transactions}
 use Rattle.object_trait.specs.declared.log_entry.LogEntry.{LogEntry}
+use Rattle.object_trait.proofs.Rows.{ordered-differ}
 use Rattle.escrow_manager.specs.Marks.{owners}
 use Rattle.escrow_manager.specs.Kept.{AreMarksOf}
-
--- a smaller number differs from each of these
-smaller-differs : (x : ℕ) (xs : List ℕ) → AllByRecursion (λ y. x < y) xs → AllByRecursion (λ y. eqb y x ≡ false) xs
-smaller-differs x [] each = tt
-smaller-differs x (y ∷ xs) each = let below = each.0 in (ne_eqb y x (λ e. omega (arith, below, e)), smaller-differs x xs each.1)
-
--- of ordered numbers each differs from each later one
-ordered-differ : (xs : List ℕ) → Pairs (λ a b. a < b) xs → Pairs (λ a b. eqb b a ≡ false) xs
-ordered-differ [] ordered = tt
-ordered-differ (x ∷ xs) ordered = (smaller-differs x xs ordered.0, ordered-differ xs ordered.1)
 
 -- whose marks they are
 owner-any : (u : ℕ) (marks : List OpenMark) → list_any (λ t. eqb t u) (owners marks) ≡ list_any (λ (o : OpenMark). eqb o.by u) marks

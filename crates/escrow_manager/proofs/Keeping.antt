@@ -1,30 +1,28 @@
 -- What a manager keeps, and what it knows by that.
-use Rattle.std.proofs.Common.{◌≡◌, ◌↔◌, ℕ, ◌+◌, ◌-◌, ◌<◌, ◌≤◌, true, false, not, eqb, get_or, List, [], ◌∷◌, ◌++◌, length, Option, Some, refl, sym, ap, subst, ◌∙◌, inl, inr, arith}
+use Rattle.std.proofs.Common.{◌≡◌, ◌↔◌, ℕ, ◌+◌, ◌-◌, ◌<◌, ◌≤◌, false, get_or, List, [], ◌∷◌, length, Some, refl, sym, ap, subst, ◌∙◌, arith}
 use Rattle.std.specs.Prelude.{slice_get}
-use Rattle.std.specs.List.{AllByRecursion}
 use Rattle.std.proofs.lemmas.List.Elements.{All-from_recursion}
 use Rattle.std.proofs.lemmas.Option.{slice_get-get_or}
 use Rattle.type_table.specs.Table.{Table}
-use Rattle.type_table.specs.Run.{run, IsLegal}
-use Rattle.escrow_laws.specs.Bounds.{amounts_of, AreBounds}
+use Rattle.type_table.specs.Run.{IsLegal}
+use Rattle.escrow_laws.specs.Bounds.{amounts_of}
 use Rattle.escrow_laws.specs.Firm.{IsIdleFrom, IsFirm}
 use Rattle.escrow_laws.specs.Marks.{mark_of, FitsIn}
 use Rattle.escrow_laws.specs.Laws.{MarksAreExact, MarksFit, FirmIsLegal, ExtremesTellFirm}
 use Rattle.escrow_laws.specs.declared.bounded.Bounded.{Bounded}
 use Rattle.escrow_laws.specs.declared.mark.Mark.{Mark}
 use Rattle.escrow_laws.specs.declared.mark.OpenMark.{OpenMark}
-use Rattle.type_table.specs.declared.kind.Kind.TheVariants.{Escrow}
 use Rattle.table_checker.specs.Checked.{Checked, IsChecked, IsCheckedBy}
-use Rattle.object_trait.specs.Meaning.{Meaning, object, ops_of, open_of, own_of, run_log, view_by, view_of}
+use Rattle.object_trait.specs.Meaning.{Meaning, object, ops_of, open_of, own_of, run_log, view_by, view_of, AreOpen}
 use Rattle.object_trait.specs.Sound.{IsSound, IsSoundBy, IsSoundEscrow}
 use Rattle.object_trait.specs.Steps.{above, IsLegalFor}
 use Rattle.object_trait.specs.Laws.{CheckedIsCovered, FreshIsSound}
 use Rattle.object_trait.specs.declared.log_entry.LogEntry.{LogEntry}
-use Rattle.object_trait.proofs.Escrow.{above-t, above-none}
+use Rattle.object_trait.proofs.Escrow.{above-none}
 use Rattle.escrow_manager.specs.Numeric.{bounds_in, greatest, IsInEscrow}
 use Rattle.escrow_manager.specs.Marks.{IsSmall}
 use Rattle.escrow_manager.specs.Totals.{totals_of}
-use Rattle.escrow_manager.specs.Kept.{AreOpen, IsKept}
+use Rattle.escrow_manager.specs.Kept.{IsKeptInEscrow}
 use Rattle.escrow_manager.specs.declared.totals.Totals.{Totals}
 use Rattle.escrow_manager.specs.declared.manager.EscrowManager.TheInside.{Inside}
 use Rattle.escrow_manager.proofs.Telling.{end-told, step-told, more-small, AreSmall, sums-small}
@@ -67,7 +65,7 @@ module _ (m : Meaning) (numeric : IsInEscrow m.checked) where
 
 -- ---- what is known of a manager
 
-module _ {m : Meaning} {marks : List OpenMark} {totals : Totals} (h : IsKept m marks totals) where
+module _ {m : Meaning} {marks : List OpenMark} {totals : Totals} (h : IsKeptInEscrow m marks totals) where
   pub firm-of : IsFirm m.checked.file.table (amounts_of (bounds_in m.checked)) m.base (own_of m.log)
   firm-of = (escrow-sound m h.numeric h.sound).firm
 
@@ -118,7 +116,7 @@ op-found ops bounds k i n d same at within count =
 
 -- ---- a new manager
 
-pub fresh-kept : CheckedIsCovered → FreshIsSound → (c : Checked) → IsInEscrow c → IsKept (record { checked = c; base = c.file.table.initial; log = [] }) [] (totals_of (greatest c) [])
+pub fresh-kept : CheckedIsCovered → FreshIsSound → (c : Checked) → IsInEscrow c → IsKeptInEscrow (record { checked = c; base = c.file.table.initial; log = [] }) [] (totals_of (greatest c) [])
 fresh-kept covers fresh c numeric =
     let m : Meaning = record { checked = c; base = c.file.table.initial; log = [] } in
     record {

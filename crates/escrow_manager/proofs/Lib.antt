@@ -2,7 +2,6 @@ pub mod Blocking
 pub mod Changing
 pub mod Counting
 pub mod Keeping
-pub mod Leaving
 pub mod Marking
 pub mod Passing
 pub mod Remarking

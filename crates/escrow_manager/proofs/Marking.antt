@@ -1,19 +1,18 @@
 -- From each transaction's mark to the marks of all of them, and back.
-use Rattle.std.proofs.Common.{◌≡◌, ◌↔◌, ℕ, zero, suc, ltb, ◌+◌, ◌-◌, ◌<◌, ◌≤◌, true, false, not, cond, eqb, ◌||◌, List, [], ◌∷◌, ◌++◌, Contains, Some, refl, sym, ap, subst, ◌∙◌, inl, inr, arith}
-use Rattle.std.specs.Prelude.{slice_get, fold}
+use Rattle.std.proofs.Common.{◌≡◌, ℕ, suc, ltb, ◌+◌, ◌-◌, ◌<◌, true, false, not, eqb, List, [], ◌∷◌, ◌++◌, Contains, Some, refl, sym, ap, subst, ◌∙◌, inl, inr, arith}
+use Rattle.std.specs.Prelude.{slice_get}
 use Rattle.std.specs.List.{list_any, AllByRecursion}
-use Rattle.std.proofs.lemmas.Bool.{cases_Bool, cases_lt, false≢true, eqb-true, eq-eqb, ne_eqb, or_from}
+use Rattle.std.proofs.lemmas.Bool.{cases_Bool, cases_lt, false≢true, eqb-true, eq-eqb, ne_eqb}
 use Rattle.type_table.proofs.Elements.{differ_turned, each-weaker}
-use Rattle.object_trait.specs.Orders.{Pairs}
-use Rattle.escrow_laws.specs.Bounds.{AreBounds, amounts_of}
-use Rattle.escrow_laws.specs.Firm.{with_op, IsIdleFrom}
+use Rattle.escrow_laws.specs.Firm.{IsIdleFrom}
 use Rattle.escrow_laws.specs.Marks.{unmarked, marked, marked_by, marked_on, mark_of, AreOnce, AreMarks}
 use Rattle.escrow_laws.specs.declared.bounded.Bounded.{Bounded}
 use Rattle.escrow_laws.specs.declared.mark.Mark.{Mark}
 use Rattle.escrow_laws.specs.declared.mark.OpenMark.{OpenMark}
-use Rattle.escrow_manager.specs.Marks.{owners, AreOrdered, mark_in, with_mark, without_mark}
+use Rattle.escrow_manager.specs.Marks.{owner, owners, AreOrdered, mark_in, with_mark, without_mark}
 use Rattle.escrow_manager.specs.Kept.{AreMarksOf}
-use Rattle.escrow_manager.proofs.Seeing.{seen-put, seen-put_other, seen-dropped, seen-dropped_other, each-put, ordered-put, ordered-dropped}
+use Rattle.object_trait.proofs.Rows.{ordered-put, ordered-dropped}
+use Rattle.escrow_manager.proofs.Seeing.{seen-put, seen-put_other, seen-dropped, seen-dropped_other}
 
 -- ---- marks in their order
 
@@ -141,7 +140,7 @@ marks-put top ops old new marks w h mark did same = record {
         | inr isnt ↦ same u isnt ∙ h.all u (any-put w marks u isnt none)
       ];
   some = each-did marks h.some;
-  ordered = ordered-put w marks h.ordered;
+  ordered = ordered-put owner w marks h.ordered;
 }
   where
     did-same : (o : OpenMark) → (old o.by ≡ [] → ⊥) → new o.by ≡ [] → ⊥
@@ -198,7 +197,7 @@ marks-dropped top ops old new marks t h none same = record {
         | inr isnt ↦ same u isnt ∙ h.all u (any-dropped t marks u isnt unlisted)
       ];
   some = each-did marks h.some;
-  ordered = ordered-dropped (λ o. not (eqb o.by t)) marks h.ordered;
+  ordered = ordered-dropped owner (λ (o : OpenMark). not (eqb o.by t)) marks h.ordered;
 }
   where
     each-did : (qs : List OpenMark) → AllByRecursion (λ (o : OpenMark). old o.by ≡ [] → ⊥) qs → AllByRecursion (λ (o : OpenMark). new o.by ≡ [] → ⊥) (without_mark t qs)
@@ -209,7 +208,7 @@ marks-dropped top ops old new marks t h none same = record {
           | inr isnt ↦ rw isnt (λ nothing. some.0 (sym (same o.by (differ_turned t o.by isnt)) ∙ nothing), each-did qs some.1)
         ]
 
--- ---- told otherwise
+-- ---- said otherwise
 
 -- the marks depend on what each did alone
 pub marks-same : (top : ℕ) (ops : List Bounded) (old new : ℕ → List ℕ) (marks : List OpenMark) → AreMarksOf top ops old marks → ((u : ℕ) → new u ≡ old u) → AreMarksOf top ops new marks

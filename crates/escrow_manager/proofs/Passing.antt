@@ -1,9 +1,10 @@
 -- Loops over the log.
-use Rattle.std.proofs.Common.{◌≡◌, ℕ, zero, suc, ◌+◌, ◌-◌, ◌<◌, ◌≤◌, Bool, true, false, not, cond, ◌&&◌, ◌||◌, eqb, ltb, List, [], ◌∷◌, ◌++◌, length, get_or, take, drop, set, All, refl, sym, ap, subst, ◌∙◌, inl, inr, arith}
+use Rattle.std.proofs.Common.{◌≡◌, ℕ, zero, suc, ◌+◌, ◌-◌, ◌<◌, ◌≤◌, Bool, true, false, not, cond, ◌||◌, eqb, ltb, List, [], ◌∷◌, ◌++◌, length, get_or, take, drop, set, refl, sym, ap, ◌∙◌, inl, inr, arith}
 use mir.Val.{bool_byte}
 use Rattle.std.specs.List.{filter, AllByRecursion}
 use Rattle.std.proofs.lemmas.Bool.{cases_Bool, lt-ltb}
-use Rattle.std.proofs.lemmas.List.{drop_more, drop-drop, take_more_set, take-set, drop-set-lt, append-nil, append_assoc, length-set, get_or-drop}
+use Rattle.std.proofs.lemmas.List.{drop-drop, take_more_set, take-set, drop-set-lt, append_assoc, length-set}
+use Rattle.type_table.proofs.Elements.{next_there}
 use Rattle.object_trait.specs.Strike.{keep_first}
 use Rattle.object_trait.specs.Meaning.{is_open_of, open_of}
 use Rattle.object_trait.specs.declared.log_entry.LogEntry.{LogEntry}
@@ -28,22 +29,12 @@ others-by t (e ∷ log) flags = elim (cases_Bool (eqb e.by t)) [
 
 -- ---- the first of mine stay
 
--- up to i the list has been gone through: those that stay are in the places before kept, and so many of mine are still to stay
+-- up to i the list has been gone through: those that stay are in the places before kept, and `left` of mine are still to stay
 pub record IsKeeping (mine : LogEntry → Bool) (n : ℕ) (old new : List LogEntry) (kept i left : ℕ) : Type 0 where
   pub front : take kept new ++ keep_first mine left (drop i old) ≡ keep_first mine n old
   pub rest : drop i new ≡ drop i old
   pub behind : kept ≤ i
   pub long : length new ≡ length old
-
--- the element at i is still the old one
-same_there : (old new : List LogEntry) (i : ℕ) (e : LogEntry) → drop i new ≡ drop i old → e ≡ get_or new i e → e ≡ get_or old i e
-same_there old new i e rest read =
-    let at : i + 0 ≡ i = omega arith in
-    read ∙ sym (ap (λ n. get_or new n e) at) ∙ sym (get_or-drop i new 0 e) ∙ ap (λ xs. get_or xs 0 e) rest ∙ get_or-drop i old 0 e ∙ ap (λ n. get_or old n e) at
-
--- so each element's fact is one of it
-pub each_there : (P : LogEntry → Type 0) (old new : List LogEntry) (i : ℕ) (e : LogEntry) → All P old → drop i new ≡ drop i old → i < length old → e ≡ get_or new i e → P e
-each_there P old new i e all rest within read = subst P (sym (same_there old new i e rest read)) (all i e within)
 
 -- one more element goes to the first free place, and stays there, or not
 pub keeping-more : (mine : LogEntry → Bool) (n : ℕ) (old new : List LogEntry) (kept i left stays took : ℕ) (e : LogEntry) → IsKeeping mine n old new kept i left → i < length new → e ≡ get_or new i e →
@@ -51,7 +42,7 @@ pub keeping-more : (mine : LogEntry → Bool) (n : ℕ) (old new : List LogEntry
 keeping-more mine n old new kept i left stays took e h within read told taken =
     let long = h.long in
     let behind = h.behind in
-    let next : drop i old ≡ e ∷ drop (i + 1) old = drop_more old i e (omega arith) ∙ ap (λ x. x ∷ drop (i + 1) old) (sym (same_there old new i e h.rest read)) in
+    let next : drop i old ≡ e ∷ drop (i + 1) old = next_there old new i e h.rest (omega arith) read in
     let wanted : take kept new ++ keep_first mine left (e ∷ drop (i + 1) old) ≡ keep_first mine n old = ap (λ V. take kept new ++ keep_first mine left V) (sym next) ∙ h.front in
     let back : drop (i + 1) new ≡ drop (i + 1) old = sym (drop-drop 1 i new) ∙ ap (drop 1) h.rest ∙ drop-drop 1 i old in
     record {

@@ -7,16 +7,15 @@ use Rattle.std.proofs.lemmas.List.Elements.{filter-append}
 use Rattle.type_table.specs.Table.{Table}
 use Rattle.type_table.specs.Run.{run, IsLegal}
 use Rattle.type_table.specs.Laws.{RunsAlong}
-use Rattle.type_table.proofs.Legal.{some_state}
+use Rattle.type_table.proofs.Legal.{some_state, legal-front, legal-behind}
 use Rattle.escrow_laws.specs.Bounds.{AreBounds}
 use Rattle.escrow_laws.specs.Marks.{marked, mark_of}
 use Rattle.escrow_laws.specs.Laws.{MarksFit}
 use Rattle.escrow_laws.specs.declared.bounded.Bounded.{Bounded}
 use Rattle.escrow_laws.specs.declared.mark.Mark.{Mark}
-use Rattle.escrow_laws.proofs.Runs.{front-legal}
 use Rattle.object_trait.specs.Meaning.{ops_of, is_open_of, open_of, own_of}
 use Rattle.object_trait.specs.declared.log_entry.LogEntry.{LogEntry}
-use Rattle.object_trait.proofs.Runs.{ops-append, rest-legal}
+use Rattle.object_trait.proofs.Runs.{ops-append}
 use Rattle.escrow_manager.specs.Marks.{IsSmall}
 use Rattle.escrow_manager.proofs.Marking.{mark-more}
 use Rattle.escrow_manager.proofs.Telling.{step-told, more-small}
@@ -80,11 +79,11 @@ next-small fit along T top base ops bounds inside most log t i e b mark within r
     let parted : own_of log t ≡ own_of (take (i + 1) log) t ++ own_of (drop (i + 1) log) t =
     ap (λ W. own_of W t) (sym (take-append-drop (i + 1) log)) ∙ own-append t (take (i + 1) log) (drop (i + 1) log) in
     let front : IsLegal T (Some base) (own_of (take (i + 1) log) t) =
-    front-legal T (Some base) (own_of (take (i + 1) log) t) (own_of (drop (i + 1) log) t) (subst (λ ks. IsLegal T (Some base) ks) parted legal) in
+    legal-front T (Some base) (own_of (take (i + 1) log) t) (own_of (drop (i + 1) log) t) (subst (λ ks. IsLegal T (Some base) ks) parted legal) in
     let both : IsLegal T (Some base) (own ++ e.op ∷ []) = subst (λ ks. IsLegal T (Some base) ks) own_more front in
-    let before : IsLegal T (Some base) own = front-legal T (Some base) own (e.op ∷ []) both in
+    let before : IsLegal T (Some base) own = legal-front T (Some base) own (e.op ∷ []) both in
     let state = some_state (run T (Some base) own) before in
-    let here : IsLegal T (Some state.0) (e.op ∷ []) = rest-legal along T (Some base) own (e.op ∷ []) state.0 both state.1 in
+    let here : IsLegal T (Some state.0) (e.op ∷ []) = legal-behind along T (Some base) own (e.op ∷ []) state.0 state.1 both in
     let between = (step-told T top base ops bounds state.0 e.op b found).1 here in
     let fits = fit T top base ops own bounds inside before in
     subst (λ x. IsSmall 1023 x b) (sym so_far)

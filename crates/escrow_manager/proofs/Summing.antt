@@ -85,7 +85,7 @@ limit-put top w (o ∷ marks) =
       ]
     ]
 
--- where the other mark needs as much as the one before, just as much as then is told
+-- where the other mark needs as much as the one before, that is just what is computed
 pub needed-told : (top : ℕ) (w : OpenMark) (marks : List OpenMark) → need_of (mark_in top w.by marks) ≤ need_of w.mark → most_needed (with_mark w marks) ≡ max (most_needed marks) (need_of w.mark)
 needed-told top w [] more = omega arith
 needed-told top w (o ∷ marks) more =
@@ -111,7 +111,7 @@ limit-told top w (o ∷ marks) less =
 
 -- ---- the totals
 
--- the totals of the marks with another one, where the extremes of the one before are told by it
+-- the totals of the marks with another one, where the extremes of the one before follow from it
 pub totals-told : (top : ℕ) (w : OpenMark) (marks : List OpenMark) → AreOrdered marks →
     need_of (mark_in top w.by marks) ≤ need_of w.mark → limit_of w.mark ≤ limit_of (mark_in top w.by marks) →
     totals_with (totals_of top marks) (mark_in top w.by marks) w.mark ≡ totals_of top (with_mark w marks)

@@ -1,4 +1,4 @@
--- What the mark of a transaction tells of it, and which numbers fit.
+-- What the mark of a transaction says of it, and which numbers fit.
 use Rattle.std.proofs.Common.{◌≡◌, ◌↔◌, ℕ, ◌+◌, ◌-◌, ◌<◌, ◌≤◌, List, [], ◌∷◌, ◌++◌, Option, Some, refl, sym, ap, subst, ◌∙◌, arith}
 use Rattle.std.specs.Prelude.{slice_get}
 use Rattle.type_table.specs.Table.{Table, next}

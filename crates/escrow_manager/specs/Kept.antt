@@ -13,10 +13,6 @@ use Rattle.escrow_manager.specs.Marks.{AreOrdered, mark_in}
 use Rattle.escrow_manager.specs.Totals.{totals_of}
 use Rattle.escrow_manager.specs.declared.totals.Totals.{Totals}
 
--- none is done
-abbrev pub AreOpen : List LogEntry → Type 0
-AreOpen log = All (λ (e : LogEntry). e.done ≡ false) log
-
 -- each transaction's mark is that of what it did; who did something has one, and nobody else, and they are in their order
 pub record AreMarksOf (top : ℕ) (ops : List Bounded) (own : ℕ → List ℕ) (marks : List OpenMark) : Type 0 where
   pub exact : (t : ℕ) → mark_in top t marks ≡ mark_of top ops (own t)
@@ -25,7 +21,7 @@ pub record AreMarksOf (top : ℕ) (ops : List Bounded) (own : ℕ → List ℕ) 
   pub ordered : AreOrdered marks
 
 -- the type is numeric, the meaning is sound, and the marks and their totals are those of what the open transactions did
-pub record IsKept (m : Meaning) (marks : List OpenMark) (totals : Totals) : Type 0 where
+pub record IsKeptInEscrow (m : Meaning) (marks : List OpenMark) (totals : Totals) : Type 0 where
   pub numeric : IsInEscrow m.checked
   pub covered : IsCovered (object m)
   pub base_fits : m.base < m.checked.file.table.states

@@ -8,8 +8,7 @@ ghost use Rattle.type_table.specs.declared.kind.Kind.TheVariants.{Escrow};
 ghost use Rattle.escrow_laws.specs.Marks.{marked, mark_of, mark_keeps};
 ghost use Rattle.escrow_manager.specs.Numeric.{bounds_in, greatest};
 ghost use Rattle.object_trait.specs.Strike.{keep_first};
-ghost use Rattle.object_trait.specs.Meaning.{is_open_of, open_of, own_of};
-ghost use Rattle.escrow_manager.specs.Kept.{AreOpen};
+ghost use Rattle.object_trait.specs.Meaning.{is_open_of, open_of, AreOpen, own_of};
 ghost use Rattle.escrow_manager.specs.Marks.{AreOrdered, mark_in, IsSmall};
 
 use crate::marks::mark_in;
@@ -44,7 +43,7 @@ pub fn take_out(log: &mut Vec<LogEntry>, t: u32)
     log.retain(|entry| entry.by != t);
 }
 
-/// Whether an entry stays, where so many of mine are still to stay.
+/// Whether an entry stays, where `left` of mine are still to stay.
 fn stays(mine: bool, left: usize) -> bool
     ensures { result ≡ (not mine || nat_lt 0 left) }
 {

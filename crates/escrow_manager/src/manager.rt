@@ -43,13 +43,13 @@ pub struct EscrowManager {
 
 impl Model for EscrowManager {
     ghost use Rattle.object_trait.specs.Meaning.{Meaning};
-    ghost use Rattle.escrow_manager.specs.Kept.{IsKept};
+    ghost use Rattle.escrow_manager.specs.Kept.{IsKeptInEscrow};
 
     ghost Value = { Meaning };
 
     ghost view = { λ a. record { checked = a.checked.value; base = a.base; log = a.log.items } };
 
-    ghost invariant = { λ a. IsKept (record { checked = a.checked.value; base = a.base; log = a.log.items }) a.marks.items a.totals };
+    ghost invariant = { λ a. IsKeptInEscrow (record { checked = a.checked.value; base = a.base; log = a.log.items }) a.marks.items a.totals };
 }
 
 impl EscrowManager {

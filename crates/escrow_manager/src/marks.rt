@@ -41,7 +41,7 @@ pub fn mark_at(marks: &Vec<OpenMark>, at: usize, t: u32, top: u32) -> Mark
     }
 }
 
-/// The same, where the place isn't wanted.
+/// The same, where the place isn't asked for.
 pub fn mark_in(marks: &Vec<OpenMark>, t: u32, top: u32) -> Mark
     requires ordered { AreOrdered marks.now.items }
     requires top { top + 1 < 2 ^ 32 }

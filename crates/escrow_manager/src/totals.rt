@@ -13,7 +13,7 @@ pub struct Totals {
     pub fallen: u64,
     /// How far all rise.
     pub risen: u64,
-    /// The most that one needs beside what it falls itself: so much is there where all have fallen.
+    /// The most that one needs beside what it falls itself: that much is there where all have fallen.
     pub needed: u64,
     /// The least limit of one and of what it rises itself: where all have risen, the number is below.
     pub limit: u64,
@@ -74,7 +74,7 @@ impl Totals {
     }
 
     /// Whether a new mark needs as much as the old one did, and stays as far below its limit: then the
-    /// extremes of all are told by it and by those before.
+    /// extremes of all follow from it and from those before.
     pub fn stand(old: Mark, new: Mark) -> bool
         ensures { (result ≡ true) ↔ ((need_of old ≤ need_of new) × (limit_of new ≤ limit_of old)) }
     {

@@ -10,7 +10,7 @@ use Rattle.type_table.proofs.Legal.{legal-somewhere}
 use Rattle.exact_tables.specs.Tell.{Tells, comes_before, IsDistinguishing}
 use Rattle.exact_tables.specs.Examples.{two_items}
 
--- a list that begins with an operation that is legal nowhere tells nothing
+-- a list that begins with an operation that is legal nowhere distinguishes nothing
 stuck : (T : Table) (s k : ℕ) (b : Option ℕ) (w : List ℕ) → next T s k ≡ None → Tells T (Some s) b (k ∷ w) → ⊥
 stuck T s k b w none tells = false≢true (rw none at (legal-somewhere T (next T s k) w tells.0))
 

@@ -18,11 +18,11 @@ Tested P = (b : Bool) × ((b ≡ true) ↔ P)
 not-untested : (P : Type 0) → (Tested P → ⊥) → ⊥
 not-untested P none = none (false, (λ e. absurd (false≢true e), λ p. absurd (none (true, (λ e. p, λ q. refl)))))
 
--- nor that something is wanting at a number below n, if it can't be wanting at any
-not-wanting_below : (P : ℕ → Type 0) (n : ℕ) → ((i : ℕ) → i < n → (P i → ⊥) → ⊥) → (((i : ℕ) → i < n → P i) → ⊥) → ⊥
-not-wanting_below P zero each none = none (below_none P)
-not-wanting_below P (suc n) each none =
-    not-wanting_below P n (λ i below. each i (omega (arith, below))) (λ all.
+-- nor that something is missing at a number below n, if it can't be missing at any
+not-missing_below : (P : ℕ → Type 0) (n : ℕ) → ((i : ℕ) → i < n → (P i → ⊥) → ⊥) → (((i : ℕ) → i < n → P i) → ⊥) → ⊥
+not-missing_below P zero each none = none (below_none P)
+not-missing_below P (suc n) each none =
+    not-missing_below P n (λ i below. each i (omega (arith, below))) (λ all.
     each n (omega arith) (λ here. none (λ i below. below_more P n all here i (omega (arith, below)))))
 
 -- tests of looks-like at all pairs of states
@@ -61,8 +61,8 @@ pub greatest-is_exact : StepsWithin → SimulationLooks → GreatestIsExact
 greatest-is_exact within looks = λ T related table simulation inside greatest s t. (
   λ pair. ((inside s t pair).0, (inside s t pair).1, looks T related s t simulation pair),
   λ like. true_from_ne_false (related s t) (λ apart.
-      not-wanting_below (λ a. (b : ℕ) → b < T.states → Tested (Looks T (Some a) (Some b))) T.states
-      (λ a a_in. not-wanting_below (λ b. Tested (Looks T (Some a) (Some b))) T.states (λ b b_in. not-untested (Looks T (Some a) (Some b))))
+      not-missing_below (λ a. (b : ℕ) → b < T.states → Tested (Looks T (Some a) (Some b))) T.states
+      (λ a a_in. not-missing_below (λ b. Tested (Looks T (Some a) (Some b))) T.states (λ b b_in. not-untested (Looks T (Some a) (Some b))))
       (λ tests.
       let pair = looks-pick T tests s t (cases_lt s T.states) (cases_lt t T.states) like.0 like.1 like.2 in
       false≢true (sym apart ∙ greatest (by_tests T tests) s t (tests-simulate within T tests table) like.0 like.1 pair))),

@@ -2,4 +2,11 @@ pub mod Looks
 pub mod Greatest
 pub mod Conditions
 pub mod Least
+pub mod Beginnings
+pub mod Strikes
+pub mod RoundFacts
+pub mod Loops
+pub mod StepLists
+pub mod AlikePairs
 pub mod Examples
+pub mod Nearer

@@ -1,16 +1,17 @@
 //! Worked examples of the definitions: each function does nothing, and its contract is the example.
 #![tactic(auto, unfolding(type_table::specs::Table::next))]
 
-ghost use Rattle.std.specs.Prelude.{◌≡◌, Bool, true, false, [], ◌∷◌, Some, List};
+ghost use Rattle.std.specs.Prelude.{◌≡◌, Bool, true, false, [], ◌∷◌, Some, None, List};
 ghost use Rattle.equi_cert.specs.Relation.{relates};
 ghost use Rattle.type_table.specs.Commute.{Covers};
 ghost use Rattle.type_table.specs.ConflictTable.{conflicts};
 ghost use Rattle.type_table.specs.Examples.{one_way};
 ghost use Rattle.type_table.specs.StateSet.{has};
 ghost use Rattle.table_checker.specs.Examples.{counter_file, one_way_file};
+ghost use Rattle.exact_tables.specs.Distances.{number_at, distance, distance_to};
 ghost use Rattle.exact_tables.specs.Exact.{IsExact, IsExactFile};
 ghost use Rattle.exact_tables.specs.Examples.{two_items};
-ghost use Rattle.exact_tables.specs.Tell.{IsDistinguishing, comes_before};
+ghost use Rattle.exact_tables.specs.Tell.{Tells, IsDistance, IsDistinguishing, comes_before};
 
 use crate::laws::covers_exactly;
 use equi_cert::simulation_looks;
@@ -24,7 +25,14 @@ pub fn lists_in_ascending_order()
     ensures front { comes_before (1 ∷ []) (1 ∷ 0 ∷ []) ≡ true }
 {}
 
-/// From state 2 q and then r is legal, and from state 0 it isn't; no operation alone tells them apart.
+pub fn numbers_are_distances()
+    ensures alike { distance (record { states = 2; cells = 0 ∷ 3 ∷ 1 ∷ 0 ∷ [] }) 0 0 ≡ None }
+    ensures row { number_at (record { states = 2; cells = 0 ∷ 3 ∷ 1 ∷ 0 ∷ [] }) 0 1 ≡ 3 }
+    ensures back { distance (record { states = 2; cells = 0 ∷ 3 ∷ 1 ∷ 0 ∷ [] }) 1 0 ≡ Some 1 }
+    ensures nothing { distance_to (record { states = 2; cells = 0 ∷ 3 ∷ 1 ∷ 0 ∷ [] }) 1 None ≡ Some 0 }
+{}
+
+/// From state 2 q and then r is legal, and from state 0 it isn't; no operation alone distinguishes them.
 pub fn q_and_r_tell_two_from_zero()
     ensures { IsDistinguishing one_way (Some 2) (Some 0) (1 ∷ 2 ∷ []) }
 {}

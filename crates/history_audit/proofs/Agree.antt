@@ -4,13 +4,13 @@ use Rattle.std.proofs.lemmas.Option.{same_Some}
 use Rattle.type_table.specs.Table.{Table}
 use Rattle.type_table.specs.Laws.{RunsAlong}
 use Rattle.object_trait.specs.declared.event.Event.{Event}
-use Rattle.serial_order.specs.History.{seen, MayStand, GoesOn}
+use Rattle.serial_order.specs.History.{summary, ContinuesHistory, AllContinue}
 use Rattle.history_audit.specs.Audit.{IsAudit, IsFirstBad, ComesBefore, IsFirstIllegal}
 use Rattle.history_audit.specs.Laws.{AuditsAgree, AlikeIsWritten}
 use Rattle.history_audit.specs.Text.{audit_text}
 use Rattle.history_audit.specs.declared.outcome.AuditFault.{AuditFault}
 use Rattle.history_audit.specs.declared.outcome.AuditFault.TheVariants.{BadEvent, IllegalOp, NoMemory}
-use Rattle.history_audit.proofs.Serials.{audited-serial, serial-each, never-bad, stands-at}
+use Rattle.history_audit.proofs.Serials.{audited-serial, serial-each, never-bad, continues-at}
 
 -- ---- lists
 
@@ -36,7 +36,7 @@ finals-agree tables H order finals other more one two =
 -- ---- the first bad event
 
 -- of events that go on up to a place, each before it may come where it does
-may-before : (tables : List Table) (before H : List Event) (n at : ℕ) (e : Event) → GoesOn tables before (take n H) → at < n → slice_get H at ≡ Some e
+may-before : (tables : List Table) (before H : List Event) (n at : ℕ) (e : Event) → AllContinue tables before (take n H) → at < n → slice_get H at ≡ Some e
     → (take at (take n H) ≡ take at H) × (slice_get (take n H) at ≡ Some e)
 may-before tables before H zero at e goes low there = absurd (omega (arith, low))
 may-before tables before [] (suc n) zero e goes low there = (refl, there)
@@ -50,8 +50,8 @@ may-before tables before (f ∷ H) (suc n) (suc at) e goes low there =
 none-before : (tables : List Table) (H : List Event) (n at : ℕ) → IsFirstBad tables H n → IsFirstBad tables H at → at < n → ⊥
 none-before tables H n at first other low =
     let same = may-before tables [] H n at other.event first.history low other.there in
-    let may = stands-at tables [] (take n H) at other.event first.history same.1 in
-    other.bad (subst (λ K. MayStand tables (seen K) other.event.kind) same.0 may)
+    let may = continues-at tables [] (take n H) at other.event first.history same.1 in
+    other.bad (subst (λ K. ContinuesHistory tables (summary K) other.event.kind) same.0 may)
 
 -- two numbers of which neither is below the other
 same-number : (a b : ℕ) → (a < b → ⊥) → (b < a → ⊥) → a ≡ b

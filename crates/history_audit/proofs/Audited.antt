@@ -11,9 +11,9 @@ use Rattle.object_trait.specs.declared.event.EventKind.{EventKind}
 use Rattle.object_trait.specs.declared.event.EventKind.TheVariants as kind
 use Rattle.object_trait.specs.declared.event.EventKind.TheVariants.{Begin, Op, Busy, Commit, Abort, Rollback}
 use Rattle.serial_order.specs.Operations.{ops, is_by, of, serial}
-use Rattle.serial_order.specs.History.{Seen, seen, commits, committed_by, standing, IsOperation, IsHistory}
-use Rattle.serial_order.specs.Serial.{standing_at, serial_at}
-use Rattle.serial_order.specs.After.{after, SeenAfter}
+use Rattle.serial_order.specs.History.{Summary, summary, commits, committed_by, surviving, IsOperation, IsHistory}
+use Rattle.serial_order.specs.Serial.{surviving_at, serial_at}
+use Rattle.serial_order.specs.After.{summary_next, SummaryAfter}
 use Rattle.serial_order.specs.Held.{OwnAfter}
 use Rattle.serial_order.specs.declared.entry.Entry.{Entry}
 use Rattle.history_audit.specs.Judges.{Judges}
@@ -35,7 +35,7 @@ use Rattle.history_audit.proofs.Kept.{goes-more, there-after, KeepsCommitted, ke
 
 -- ---- before the first event
 
-pub nothing-audited : (tables : List Table) (a : Auditor) → AreRows a.judge (seen []) → AreInitial tables a.states.items → a.order.items ≡ [] → a.illegal ≡ None → IsAuditing tables [] a
+pub nothing-audited : (tables : List Table) (a : Auditor) → AreRows a.judge (summary []) → AreInitial tables a.states.items → a.order.items ≡ [] → a.illegal ≡ None → IsAuditing tables [] a
 nothing-audited tables a rows initial order illegal = record {
   history = tt;
   rows = rows;
@@ -47,7 +47,7 @@ nothing-audited tables a rows initial order illegal = record {
 -- ---- what a commit commits
 
 -- only a commit commits operations
-commit-of : (happened : EventKind) (s : Seen) (its : List Operation) → Some its ≡ committed_in happened s → (t : ℕ) × (happened ≡ Commit t) × (its ≡ operations_of t s)
+commit-of : (happened : EventKind) (s : Summary) (its : List Operation) → Some its ≡ committed_in happened s → (t : ℕ) × (happened ≡ Commit t) × (its ≡ operations_of t s)
 commit-of (Commit t) s its is = (t, refl, same_Some its (operations_of t s) is)
 commit-of (Begin t) s its is = absurd (none-some its (sym is))
 commit-of (Op t x k) s its is = absurd (none-some its (sym is))
@@ -57,7 +57,7 @@ commit-of (Abort t) s its is = absurd (none-some its (sym is))
 commit-of (Rollback t n) s its is = absurd (none-some its (sym is))
 
 -- where none are committed, there is no commit
-none-of : (happened : EventKind) (s : Seen) → None ≡ committed_in happened s → committed_by happened ≡ []
+none-of : (happened : EventKind) (s : Summary) → None ≡ committed_in happened s → committed_by happened ≡ []
 none-of (Commit t) s is = absurd (none-some (operations_of t s) is)
 none-of (Begin t) s is = refl
 none-of (Op t x k) s is = refl
@@ -70,22 +70,22 @@ none-of (Rollback t n) s is = refl
 pub operations-there : (tables : List Table) (H : List Event) (a : Auditor) (e : Event) (its : List Operation) (rows : List (Option (List Operation)))
     → IsAuditing tables H a → Judges tables a.judge e.kind (Ok (Some its)) rows → AreOperations tables its
 operations-there tables H a e its rows known judged =
-    let (t, is, are) = commit-of e.kind (seen H) its ((judged H e.worker known.rows).2) in
+    let (t, is, are) = commit-of e.kind (summary H) its ((judged H e.worker known.rows).2) in
     let P : List Operation → Type 0 = λ l. AreOperations tables l in
     subst P (sym are)
-    (each-map (λ (o : Operation). IsOperation (slice_get tables o.x) o.k) plain (of t (standing H))
-    (each-filter (λ (f : Entry). IsOperation (slice_get tables f.at) f.op) (is_by t) (standing H) known.there))
+    (each-map (λ (o : Operation). IsOperation (slice_get tables o.x) o.k) plain (of t (surviving H))
+    (each-filter (λ (f : Entry). IsOperation (slice_get tables f.at) f.op) (is_by t) (surviving H) known.there))
 
 -- ---- one more event
 
-module _ (seen_after : SeenAfter) (own_after : OwnAfter) (along : RunsAlong) (tables : List Table) (H : List Event) (e : Event) where
+module _ (summary_after : SummaryAfter) (own_after : OwnAfter) (along : RunsAlong) (tables : List Table) (H : List Event) (e : Event) where
   -- where no transaction commits, the order and the states stay
   audit-kept : (more order states : List ℕ) → more ≡ [] → KeepsCommitted H (H ++ e ∷ []) more → IsAudit tables H order states → IsAudit tables (H ++ e ∷ []) order states
   audit-kept more order states none kept known = record {
     order_is = known.order_is ∙ sym (kept.commits_are ∙ ap (λ m. commits H ++ m) none ∙ append-nil (commits H));
     as_many = known.as_many;
     states = λ x T s table at.
-        ap (λ V. run T (Some T.initial) (ops V)) (serial-more H (H ++ e ∷ []) more kept x ∙ ap (λ m. serial_at x H ++ serial m (standing_at x (H ++ e ∷ []))) none ∙ append-nil (serial_at x H))
+        ap (λ V. run T (Some T.initial) (ops V)) (serial-more H (H ++ e ∷ []) more kept x ∙ ap (λ m. serial_at x H ++ serial m (surviving_at x (H ++ e ∷ []))) none ∙ append-nil (serial_at x H))
         ∙ known.states x T s table at;
   }
 
@@ -99,17 +99,17 @@ module _ (seen_after : SeenAfter) (own_after : OwnAfter) (along : RunsAlong) (ta
       → IsAuditing tables (H ++ e ∷ []) (record a { judge = rows })
   other-audited a rows known judged =
       let said = judged H e.worker known.rows in
-      let kept = keeps-committed seen_after own_after tables H e (said.0) in
+      let kept = keeps-committed summary_after own_after tables H e (said.0) in
       record {
         history = goes-more tables [] H e known.history (said.0);
         rows = said.1;
-        there = rw (ap (λ (s : Seen). s.stands) (seen_after H e)) (there-after tables (seen H) e.kind (said.0) known.there);
+        there = rw (ap (λ (s : Summary). s.survives) (summary_after H e)) (there-after tables (summary H) e.kind (said.0) known.there);
         ready = known.ready;
-        so_far = so_far-kept (committed_by e.kind) a.order.items a.states.items a.illegal (none-of e.kind (seen H) (said.2)) kept known.so_far;
+        so_far = so_far-kept (committed_by e.kind) a.order.items a.states.items a.illegal (none-of e.kind (summary H) (said.2)) kept known.so_far;
       }
 
   so_far-replayed : (t : ℕ) (its : List Operation) (illegal : Option Illegal) (old new : Auditor) → old.illegal ≡ illegal
-      → KeepsCommitted H (H ++ e ∷ []) (t ∷ []) → standing (H ++ e ∷ []) ≡ standing H → its ≡ map plain (of t (standing H))
+      → KeepsCommitted H (H ++ e ∷ []) (t ∷ []) → surviving (H ++ e ∷ []) ≡ surviving H → its ≡ map plain (of t (surviving H))
       → AuditsSoFar tables H old.order.items old.states.items illegal → ReplaysFrom illegal tables t its old new → AreStates tables new.states.items
       → AuditsSoFar tables (H ++ e ∷ []) new.order.items new.states.items new.illegal
   so_far-replayed t its None old new is kept same are known replays ready =
@@ -124,17 +124,17 @@ module _ (seen_after : SeenAfter) (own_after : OwnAfter) (along : RunsAlong) (ta
       → new.judge ≡ rows → AreStates tables new.states.items → Commits tables e.kind its (record a { judge = rows }) new → IsAuditing tables (H ++ e ∷ []) new
   commit-audited a new rows its known judged judge ready commits =
       let said = judged H e.worker known.rows in
-      let (t, is, are) = commit-of e.kind (seen H) its (said.2) in
+      let (t, is, are) = commit-of e.kind (summary H) its (said.2) in
       let P : EventKind → Type 0 = λ happened. Commits tables happened its (record a { judge = rows }) new in
       let Q : EventKind → Type 0 = λ happened. KeepsCommitted H (H ++ e ∷ []) (committed_by happened) in
       record {
         history = goes-more tables [] H e known.history (said.0);
         rows = rw judge (said.1);
-        there = rw (ap (λ (s : Seen). s.stands) (seen_after H e)) (there-after tables (seen H) e.kind (said.0) known.there);
+        there = rw (ap (λ (s : Summary). s.survives) (summary_after H e)) (there-after tables (summary H) e.kind (said.0) known.there);
         ready = ready;
         so_far = so_far-replayed t its a.illegal (record a { judge = rows }) new refl
-            (subst Q is (keeps-committed seen_after own_after tables H e (said.0)))
-            (ap (λ (s : Seen). s.stands) (seen_after H e) ∙ ap (λ happened. (after (seen H) happened).stands) is)
+            (subst Q is (keeps-committed summary_after own_after tables H e (said.0)))
+            (ap (λ (s : Summary). s.survives) (summary_after H e) ∙ ap (λ happened. (summary_next (summary H) happened).survives) is)
             are known.so_far (subst P is commits) ready;
       }
 
@@ -150,14 +150,14 @@ abbrev pub start : Event
 start = record { worker = 0; kind = Begin 0 }
 
 -- it commits nothing
-pub other-taken : SeenAfter → OwnAfter → RunsAlong → (tables : List Table) (events : List Event) (at : ℕ) (a : Auditor) (rows : List (Option (List Operation))) (its : Option (List Operation))
+pub other-taken : SummaryAfter → OwnAfter → RunsAlong → (tables : List Table) (events : List Event) (at : ℕ) (a : Auditor) (rows : List (Option (List Operation))) (its : Option (List Operation))
     → at < length events → IsAuditing tables (take at events) a → its ≡ None → Judges tables a.judge (get_or events at start).kind (Ok its) rows
     → IsAuditing tables (take (at + 1) events) (record a { judge = rows })
-other-taken seen_after own_after along tables events at a rows its inside known is judged =
+other-taken summary_after own_after along tables events at a rows its inside known is judged =
     let P : Option (List Operation) → Type 0 = λ o. Judges tables a.judge (get_or events at start).kind (Ok o) rows in
     let Q : List Event → Type 0 = λ H. IsAuditing tables H (record a { judge = rows }) in
     subst Q (sym (take-found events at (get_or events at start) (slice_get-get_or events at start inside)))
-    (other-audited seen_after own_after along tables (take at events) (get_or events at start) a rows known (subst P is judged))
+    (other-audited summary_after own_after along tables (take at events) (get_or events at start) a rows known (subst P is judged))
 
 -- its transaction's operations are of objects that are there
 pub taken-there : (tables : List Table) (events : List Event) (at : ℕ) (a : Auditor) (rows : List (Option (List Operation))) (maybe : Option (List Operation)) (its : List Operation)
@@ -173,17 +173,17 @@ leads-on tables events (Ok u) P Q lead said = lead said
 leads-on tables events (Err fault) P Q lead said = let R : AuditFault → Type 0 = λ f. Audits tables events (Err f) in subst R (sym said) tt
 
 -- it is a commit
-pub commit-taken : SeenAfter → OwnAfter → RunsAlong → (tables : List Table) (events : List Event) (at : ℕ) (a new : Auditor) (rows : List (Option (List Operation))) (maybe : Option (List Operation))
+pub commit-taken : SummaryAfter → OwnAfter → RunsAlong → (tables : List Table) (events : List Event) (at : ℕ) (a new : Auditor) (rows : List (Option (List Operation))) (maybe : Option (List Operation))
     (its : List Operation) (result : Result (Unit {0}) AuditFault) → at < length events → IsAuditing tables (take at events) a → maybe ≡ Some its
     → Judges tables a.judge (get_or events at start).kind (Ok maybe) rows → new.judge ≡ rows → AreStates tables new.states.items
     → MatchResult result (λ _. Commits tables (get_or events at start).kind its (record a { judge = rows }) new) (λ fault. fault ≡ NoMemory)
     → MatchResult result (λ _. IsAuditing tables (take (at + 1) events) new) (λ fault. Audits tables events (Err fault))
-commit-taken seen_after own_after along tables events at a new rows maybe its result inside known is judged judge ready said =
+commit-taken summary_after own_after along tables events at a new rows maybe its result inside known is judged judge ready said =
     let P : Option (List Operation) → Type 0 = λ o. Judges tables a.judge (get_or events at start).kind (Ok o) rows in
     let Q : List Event → Type 0 = λ H. IsAuditing tables H new in
     leads-on tables events result (Commits tables (get_or events at start).kind its (record a { judge = rows }) new) (IsAuditing tables (take (at + 1) events) new)
     (λ commits. subst Q (sym (take-found events at (get_or events at start) (slice_get-get_or events at start inside)))
-    (commit-audited seen_after own_after along tables (take at events) (get_or events at start) a new rows its known (subst P is judged) judge ready commits))
+    (commit-audited summary_after own_after along tables (take at events) (get_or events at start) a new rows its known (subst P is judged) judge ready commits))
     said
 
 -- it is bad
@@ -204,7 +204,7 @@ pub judged-of : (tables : List Table) (old rows : List (Option (List Operation))
 judged-of tables old rows result event happened is judged = let P : EventKind → Type 0 = λ k. Judges tables old k result rows in subst P (sym is) judged
 
 -- an event that is no commit commits nothing
-pub none-committed : (happened : EventKind) (s : Seen) (its : Option (List Operation)) → ((t : ℕ) → happened ≡ Commit t → ⊥) → its ≡ committed_in happened s → its ≡ None
+pub none-committed : (happened : EventKind) (s : Summary) (its : Option (List Operation)) → ((t : ℕ) → happened ≡ Commit t → ⊥) → its ≡ committed_in happened s → its ≡ None
 none-committed (Commit t) s its other is = absurd (other t refl)
 none-committed (Begin t) s its other is = is
 none-committed (Op t x k) s its other is = is
@@ -213,7 +213,7 @@ none-committed (kind.None t x c) s its other is = is
 none-committed (Abort t) s its other is = is
 none-committed (Rollback t n) s its other is = is
 
--- ---- behind the last event
+-- ---- after the last event
 
 said-at_last : (tables : List Table) (H : List Event) (order states : List ℕ) (illegal : Option Illegal) (result : Result Audit AuditFault)
     → IsHistory tables H → AuditsSoFar tables H order states illegal

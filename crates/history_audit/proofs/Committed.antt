@@ -11,8 +11,8 @@ use Rattle.type_table.specs.Laws.{RunsAlong}
 use Rattle.type_table.proofs.Elements.{found-last}
 use Rattle.object_trait.specs.declared.event.Event.{Event}
 use Rattle.serial_order.specs.Operations.{ops, of, serial}
-use Rattle.serial_order.specs.History.{commits, standing}
-use Rattle.serial_order.specs.Serial.{standing_at, serial_at}
+use Rattle.serial_order.specs.History.{commits, surviving}
+use Rattle.serial_order.specs.Serial.{surviving_at, serial_at}
 use Rattle.serial_order.specs.declared.entry.Entry.{Entry}
 use Rattle.history_audit.specs.Rows.{plain}
 use Rattle.history_audit.specs.declared.operation.Operation.{Operation}
@@ -25,27 +25,27 @@ use Rattle.history_audit.proofs.Lists.{take-and_next, own-ops, ops_at-split}
 use Rattle.history_audit.proofs.Serials.{found, stuck-along, audited-serial, serial-each}
 
 module _ (along : RunsAlong) (tables : List Table) (H K : List Event) (t : ℕ) (its : List Operation)
-    (kept : KeepsCommitted H K (t ∷ [])) (same : standing K ≡ standing H) (are : its ≡ map plain (of t (standing H)))
+    (kept : KeepsCommitted H K (t ∷ [])) (same : surviving K ≡ surviving H) (are : its ≡ map plain (of t (surviving H)))
     (order old : List ℕ) (known : IsAudit tables H order old) where
   -- the transaction's operations at an object
-  own : (x : ℕ) → ops (of t (standing_at x K)) ≡ ops_at x its
-  own x = own-ops x t (standing K) ∙ ap (λ V. ops_at x (map plain (of t V))) same ∙ ap (ops_at x) (sym are)
+  own : (x : ℕ) → ops (of t (surviving_at x K)) ≡ ops_at x its
+  own x = own-ops x t (surviving K) ∙ ap (λ V. ops_at x (map plain (of t V))) same ∙ ap (ops_at x) (sym are)
 
   -- the serial order goes on with them
   serial-ops : (x : ℕ) → ops (serial_at x K) ≡ ops (serial_at x H) ++ ops_at x its
   serial-ops x =
       ap ops (serial-more H K (t ∷ []) kept x)
-      ∙ map-append (λ (e : Entry). e.op) (serial_at x H) (of t (standing_at x K) ++ [])
-      ∙ ap (λ V. ops (serial_at x H) ++ ops V) (append-nil (of t (standing_at x K)))
+      ∙ map-append (λ (e : Entry). e.op) (serial_at x H) (of t (surviving_at x K) ++ [])
+      ∙ ap (λ V. ops (serial_at x H) ++ ops V) (append-nil (of t (surviving_at x K)))
       ∙ ap (λ w. ops (serial_at x H) ++ w) (own x)
 
   -- and up to one of them with the first of them
   up_to-last : (x j : ℕ) → serial_up_to K (length (commits H)) t x j ≡ ops (serial_at x H) ++ take (suc j) (ops_at x its)
   up_to-last x j =
-      ap (λ C. ops (serial C (standing_at x K) ++ take (suc j) (of t (standing_at x K)))) (front-kept H K (t ∷ []) kept (length (commits H)) (omega arith) ∙ take_all (length (commits H)) (commits H) (omega arith))
-      ∙ ap (λ V. ops (V ++ take (suc j) (of t (standing_at x K)))) (serial-kept H K (t ∷ []) kept x)
-      ∙ map-append (λ (e : Entry). e.op) (serial_at x H) (take (suc j) (of t (standing_at x K)))
-      ∙ ap (λ w. ops (serial_at x H) ++ w) (sym (take-map (λ (e : Entry). e.op) (suc j) (of t (standing_at x K))) ∙ ap (take (suc j)) (own x))
+      ap (λ C. ops (serial C (surviving_at x K) ++ take (suc j) (of t (surviving_at x K)))) (front-kept H K (t ∷ []) kept (length (commits H)) (omega arith) ∙ take_all (length (commits H)) (commits H) (omega arith))
+      ∙ ap (λ V. ops (V ++ take (suc j) (of t (surviving_at x K)))) (serial-kept H K (t ∷ []) kept x)
+      ∙ map-append (λ (e : Entry). e.op) (serial_at x H) (take (suc j) (of t (surviving_at x K)))
+      ∙ ap (λ w. ops (serial_at x H) ++ w) (sym (take-map (λ (e : Entry). e.op) (suc j) (of t (surviving_at x K))) ∙ ap (take (suc j)) (own x))
 
   -- from the serial state
   run-behind : (x : ℕ) (T : Table) (s : ℕ) (w : List ℕ) → slice_get tables x ≡ Some T → slice_get old x ≡ Some s
@@ -74,16 +74,16 @@ module _ (along : RunsAlong) (tables : List Table) (H K : List Event) (t : ℕ) 
   -- ---- one isn't
 
   module _ (new : List ℕ) (ready : AreStates tables new) (q : Stop) (replayed : AreReplayed tables old its (length its) new (Some q)) (stopped : IsStopped tables old its q) where
-    -- those before it at its object, it, and those behind it
+    -- those before it at its object, it, and those after it
     parts : (rest : List ℕ) × (ops_at q.object its ≡ ops_at q.object (take q.place its) ++ stopped.operation.k ∷ rest)
     parts = ops_at-split q.object its q.place stopped.operation stopped.there (eq-eqb stopped.operation.x q.object stopped.at)
 
     -- its own place is below the number of the transaction's operations there
-    inside : length (ops_at q.object (take q.place its)) < length (of t (standing_at q.object K))
+    inside : length (ops_at q.object (take q.place its)) < length (of t (surviving_at q.object K))
     inside =
         let front = ops_at q.object (take q.place its) in
         let all = ap length (parts.1) ∙ length-append front (stopped.operation.k ∷ parts.0) in
-        let many = sym (length-map (of t (standing_at q.object K)) (λ (e : Entry). e.op)) ∙ ap length (own q.object) in
+        let many = sym (length-map (of t (surviving_at q.object K)) (λ (e : Entry). e.op)) ∙ ap length (own q.object) in
         omega (arith, all, many)
 
     illegal : IsIllegalAt tables K (length order) q.object (length (ops_at q.object (take q.place its)))
@@ -130,7 +130,7 @@ module _ (along : RunsAlong) (tables : List Table) (H K : List Event) (t : ℕ) 
         ∙ ap (λ s'. run T (Some s') (take (suc l) (ops_at q.object (take q.place its)))) same_state
         ∙ ap (run T (Some s)) (sym first) ∙ stuck)
 
-    -- an operation of this transaction that isn't legal isn't so behind the serial state
+    -- an operation of this transaction that isn't legal isn't so after the serial state
     stuck-at : (y l : ℕ) (wrong : IsIllegalAt tables K (length order) y l) (s : ℕ) → slice_get old y ≡ Some s → run wrong.table (Some s) (take (suc l) (ops_at y its)) ≡ None
     stuck-at y l wrong s from =
         let is : wrong.t ≡ t = same_Some wrong.t t (sym wrong.committed ∙ at-last) in

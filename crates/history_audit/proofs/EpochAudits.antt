@@ -25,7 +25,7 @@ pub audits-at : (tables begun : List Table) (Hs : List (List Event)) (n : ℕ) (
     → begun ≡ tables_after tables audits → Audits begun H (Ok a) → slice_get Hs n ≡ Some H → AreAudits tables (take (suc n) Hs) (audits ++ a ∷ [])
 audits-at tables begun Hs n audits H a before are its at = audits-more tables Hs n audits H a before at (subst (λ them. Audits them H (Ok a)) are its)
 
--- behind it the tables begin where it ends
+-- after it the tables begin where it ends
 pub tables-more : (tables : List Table) (audits : List Audit) (a : Audit) → tables_after tables (audits ++ a ∷ []) ≡ tables_at (tables_after tables audits) a.finals.items
 tables-more tables [] a = refl
 tables-more tables (b ∷ audits) a = tables-more (tables_at tables b.finals.items) audits a

@@ -3,10 +3,10 @@ use Rattle.std.proofs.Common.{◌≡◌, ◌≢◌, ℕ, zero, suc, List, [], �
 use Rattle.std.specs.declared.alloc.Global.{Global}
 use Rattle.std.specs.List.{AllByRecursion}
 use Rattle.std.proofs.lemmas.Bool.{false≢true}
-use Rattle.std.proofs.lemmas.Option.{none-some}
+use Rattle.std.proofs.lemmas.Option.{slice_get_within}
 use Rattle.type_table.specs.Table.{Table}
 use Rattle.type_table.specs.Run.{IsLegal}
-use Rattle.type_table.proofs.Elements.{found-map}
+use Rattle.type_table.proofs.Elements.{element_at, found-map}
 use Rattle.table_checker.specs.Checked.{Checked}
 use Rattle.object_trait.specs.Object.{object_of}
 use Rattle.object_trait.specs.declared.event.Event.{Event}
@@ -14,11 +14,12 @@ use Rattle.object_trait.specs.declared.event.EventKind.{EventKind}
 use Rattle.object_trait.specs.declared.event.EventKind.TheVariants as kind
 use Rattle.object_trait.specs.declared.event.EventKind.TheVariants.{Begin, Op, Busy, Commit, Abort, Rollback}
 use Rattle.serial_order.specs.Operations.{ops}
-use Rattle.serial_order.specs.History.{Seen, seen, IsOperation, MayStand, GoesOn, IsHistory}
+use Rattle.serial_order.specs.History.{Summary, summary, IsOperation, ContinuesHistory, AllContinue, IsHistory}
 use Rattle.serial_order.specs.Laws.{AreChecked, RunIsHistory}
 use Rattle.serial_order.specs.Serial.{serial_at}
 use Rattle.serial_order.specs.Epochs.{AreEpochs, Epoch, EpochsAreSerial, types_after, types_at}
 use Rattle.serial_order.specs.Epochs as epochs
+use Rattle.serial_order.proofs.EpochTypes.{length-types_at}
 use Rattle.history_audit.specs.Laws.{tables_of}
 use Rattle.history_audit.specs.Epochs.{AreHistories, AreSerialOver, EpochsDecide, EpochsPass, PassEpochs, serial_over}
 use Rattle.history_audit.specs.declared.outcome.Audit.{Audit}
@@ -49,7 +50,7 @@ operation-before (c ∷ types) (s ∷ kept) zero k there = there
 operation-before (c ∷ types) (s ∷ kept) (suc x) k there = operation-before types kept x k there
 
 -- so what may come next at these may come next at those
-event-before : (types : List Checked) (kept : List ℕ) (s : Seen) (e : EventKind) → MayStand (tables (types_at types kept)) s e → MayStand (tables types) s e
+event-before : (types : List Checked) (kept : List ℕ) (s : Summary) (e : EventKind) → ContinuesHistory (tables (types_at types kept)) s e → ContinuesHistory (tables types) s e
 event-before types kept s (Begin t) may = may
 event-before types kept s (Op t x k) may = (may.0, operation-before types kept x k may.1)
 event-before types kept s (Busy c t x u) may = (may.0, operation-before types kept x c may.1)
@@ -58,9 +59,9 @@ event-before types kept s (Commit t) may = may
 event-before types kept s (Abort t) may = may
 event-before types kept s (Rollback t n) may = may
 
-goes-before : (types : List Checked) (kept : List ℕ) (before H : List Event) → GoesOn (tables (types_at types kept)) before H → GoesOn (tables types) before H
+goes-before : (types : List Checked) (kept : List ℕ) (before H : List Event) → AllContinue (tables (types_at types kept)) before H → AllContinue (tables types) before H
 goes-before types kept before [] goes = tt
-goes-before types kept before (e ∷ H) goes = (event-before types kept (seen before) e.kind goes.0, goes-before types kept (before ++ e ∷ []) H goes.1)
+goes-before types kept before (e ∷ H) goes = (event-before types kept (summary before) e.kind goes.0, goes-before types kept (before ++ e ∷ []) H goes.1)
 
 all-before : (types : List Checked) (kept : List ℕ) (Hs : List (List Event)) → AreHistories (tables (types_at types kept)) Hs → AreHistories (tables types) Hs
 all-before types kept [] them = tt
@@ -81,23 +82,13 @@ same-serial x [] = refl
 same-serial x (e ∷ es) = ap (λ them. ops (serial_at x e.history) ++ them) (same-serial x es)
 
 -- each type goes on to the end
-still-there : (types : List Checked) (kept : List ℕ) (x : ℕ) (c : Checked) → length kept ≡ length types → slice_get types x ≡ Some c → (d : Checked) × (slice_get (types_at types kept) x ≡ Some d)
-still-there [] kept x c as_many at = absurd (none-some c at)
-still-there (b ∷ types) [] x c as_many at = absurd (omega (arith, as_many))
-still-there (b ∷ types) (s ∷ kept) zero c as_many at = (_, refl)
-still-there (b ∷ types) (s ∷ kept) (suc x) c as_many at = still-there types kept x c (omega (arith, as_many)) at
-
-as-long : (types : List Checked) (kept : List ℕ) → length kept ≡ length types → length (types_at types kept) ≡ length types
-as-long [] kept as_many = refl
-as-long (c ∷ types) [] as_many = absurd (omega (arith, as_many))
-as-long (c ∷ types) (s ∷ kept) as_many = ap suc (as-long types kept (omega (arith, as_many)))
-
 there-at_last : (types : List Checked) (es : List Epoch) (n : ℕ) (x : ℕ) (c : Checked) → length types ≡ n → AllByRecursion (λ (e : Epoch). length e.kept ≡ n) es → slice_get types x ≡ Some c
     → (last : Checked) × (slice_get (types_after types es) x ≡ Some last)
 there-at_last types [] n x c long whole at = (c, at)
 there-at_last types (e ∷ es) n x c long whole at =
-    let (d, there) = still-there types e.kept x c (whole.0 ∙ sym long) at in
-    there-at_last (types_at types e.kept) es n x d (as-long types e.kept (whole.0 ∙ sym long) ∙ long) whole.1 there
+    let many = length-types_at types e.kept (whole.0 ∙ sym long) in
+    let (d, there) = element_at (types_at types e.kept) x (omega (arith, slice_get_within types x c at, many)) in
+    there-at_last (types_at types e.kept) es n x d (many ∙ long) whole.1 there
 
 epoch-serial : EpochsAreSerial → (types : List Checked) (es : List Epoch) → AreChecked types → AreEpochs types es → AllByRecursion (λ (e : Epoch). length e.kept ≡ length types) es
     → AreSerialOver (tables types) (histories es)

@@ -1,4 +1,4 @@
--- How an event is judged, told by the row of its transaction.
+-- How an event is judged, by the row of its transaction.
 use Rattle.std.proofs.Common.{◌≡◌, ℕ, ◌-◌, ◌<◌, ◌≤◌, true, List, [], ◌∷◌, ◌++◌, length, take, set, Option, Some, None, is_some, Result, Ok, Err, slice_get, refl, sym, ap, subst, ◌∙◌, arith}
 use Rattle.std.proofs.lemmas.Bool.{false≢true}
 use Rattle.std.proofs.lemmas.List.{length-map}
@@ -11,7 +11,7 @@ use Rattle.open_transactions.specs.Transactions as table
 use Rattle.open_transactions.specs.Transactions.{row}
 use Rattle.open_transactions.proofs.InSlots.{open-began}
 use Rattle.serial_order.specs.Operations.{of}
-use Rattle.serial_order.specs.History.{Seen, seen, is_open, IsOperation, MayStand}
+use Rattle.serial_order.specs.History.{Summary, summary, is_open, IsOperation, ContinuesHistory}
 use Rattle.history_audit.specs.declared.event_fault.EventFault.{EventFault}
 use Rattle.history_audit.specs.declared.event_fault.EventFault.TheVariants.{Bad}
 use Rattle.history_audit.specs.declared.operation.Operation.{Operation}
@@ -31,7 +31,7 @@ there rows shown t shown_is opened =
 
 -- ---- one row that agrees with what is seen
 
-module _ (rows : List (Option (List Operation))) (s : Seen) (t : ℕ) (known : AreRows rows s) where
+module _ (rows : List (Option (List Operation))) (s : Summary) (t : ℕ) (known : AreRows rows s) where
   -- a transaction with a row is open
   opened : (its : List Operation) → slice_get rows t ≡ Some (Some its) → is_open s t ≡ true
   opened its there = sym (known.each t (Some its) there).going
@@ -40,9 +40,9 @@ module _ (rows : List (Option (List Operation))) (s : Seen) (t : ℕ) (known : A
   operations : (its : List Operation) → slice_get rows t ≡ Some (Some its) → its ≡ operations_of t s
   operations its there = (known.each t (Some its) there).operations its refl
 
-  -- so many as there are
-  counted : (its : List Operation) → slice_get rows t ≡ Some (Some its) → length its ≡ length (of t s.stands)
-  counted its there = ap length (operations its there) ∙ length-map (of t s.stands) plain
+  -- as many as there are
+  counted : (its : List Operation) → slice_get rows t ≡ Some (Some its) → length its ≡ length (of t s.survives)
+  counted its there = ap length (operations its there) ∙ length-map (of t s.survives) plain
 
   -- one without isn't
   closed : slice_get rows t ≡ Some None → is_open s t ≡ true → ⊥
@@ -51,12 +51,12 @@ module _ (rows : List (Option (List Operation))) (s : Seen) (t : ℕ) (known : A
 -- ---- events that are taken
 
 module _ (law : MovedRowsAgree) (tables : List Table) (old new : List (Option (List Operation))) where
-  -- what may stand wherever the rows agree, and moves them as it should
-  taken : (event : EventKind) (its : Option (List Operation)) → ((s : Seen) → AreRows old s → MayStand tables s event × (its ≡ committed_in event s))
+  -- what continues the history wherever the rows agree, and moves them as it should
+  taken : (event : EventKind) (its : Option (List Operation)) → ((s : Summary) → AreRows old s → ContinuesHistory tables s event × (its ≡ committed_in event s))
       → RowsMove event old new → Judges tables old event (Ok its) new
   taken event its fits move =
       λ H w known.
-      let f = fits (seen H) known in
+      let f = fits (summary H) known in
       (f.0, law tables H (record { worker = w; kind = event }) old new known f.0 move, f.1)
 
   pub begin_judged : (t : ℕ) → t ≡ length old → new ≡ old ++ Some [] ∷ [] → Judges tables old (Begin t) (Ok None) new
@@ -100,28 +100,28 @@ module _ (tables : List Table) (old new : List (Option (List Operation))) (t : �
   -- those of a transaction that ended
   module _ (there : slice_get old t ≡ Some None) where
     pub op_closed : (x k : ℕ) → Judges tables old (Op t x k) (Err Bad) new
-    op_closed x k = λ H known may. closed old (seen H) t known there may.0
+    op_closed x k = λ H known may. closed old (summary H) t known there may.0
 
     pub busy_closed : (c x u : ℕ) → Judges tables old (Busy c t x u) (Err Bad) new
-    busy_closed c x u = λ H known may. closed old (seen H) t known there may.0
+    busy_closed c x u = λ H known may. closed old (summary H) t known there may.0
 
     pub none_closed : (x c : ℕ) → Judges tables old (kind.None t x c) (Err Bad) new
-    none_closed x c = λ H known may. closed old (seen H) t known there may.0
+    none_closed x c = λ H known may. closed old (summary H) t known there may.0
 
     pub commit_closed : Judges tables old (Commit t) (Err Bad) new
-    commit_closed = λ H known may. closed old (seen H) t known there may
+    commit_closed = λ H known may. closed old (summary H) t known there may
 
     pub abort_closed : Judges tables old (Abort t) (Err Bad) new
-    abort_closed = λ H known may. closed old (seen H) t known there may
+    abort_closed = λ H known may. closed old (summary H) t known there may
 
     pub rollback_closed : (n : ℕ) → Judges tables old (Rollback t n) (Err Bad) new
-    rollback_closed n = λ H known may. closed old (seen H) t known there may.0
+    rollback_closed n = λ H known may. closed old (summary H) t known there may.0
 
   -- a rollback of none, or of more than there are
   pub rollback_outside : (n : ℕ) (its : List Operation) → slice_get old t ≡ Some (Some its) → (0 < n → n ≤ length its → ⊥) → Judges tables old (Rollback t n) (Err Bad) new
   rollback_outside n its there outside =
       λ H known may.
-      let count = counted old (seen H) t known its there in
+      let count = counted old (summary H) t known its there in
       let few = may.2 in
       outside may.1 (omega (arith, count, few))
 

@@ -14,9 +14,9 @@ use Rattle.object_trait.specs.declared.event.EventKind.TheVariants as kind
 use Rattle.object_trait.specs.declared.event.EventKind.TheVariants.{Begin, Op, Busy, Commit, Abort, Rollback}
 use Rattle.object_trait.proofs.Striking.{each-keep_first}
 use Rattle.serial_order.specs.Operations.{is_among, ops, at_object, is_by, of, serial}
-use Rattle.serial_order.specs.History.{Seen, seen, is_open, commits, committed_by, standing, IsOperation, MayStand, GoesOn}
-use Rattle.serial_order.specs.Serial.{standing_at, serial_at}
-use Rattle.serial_order.specs.After.{after, SeenAfter}
+use Rattle.serial_order.specs.History.{Summary, summary, is_open, commits, committed_by, surviving, IsOperation, ContinuesHistory, AllContinue}
+use Rattle.serial_order.specs.Serial.{surviving_at, serial_at}
+use Rattle.serial_order.specs.After.{summary_next, SummaryAfter}
 use Rattle.serial_order.specs.Held.{OwnAfter}
 use Rattle.serial_order.specs.declared.entry.Entry.{Entry}
 use Rattle.history_audit.specs.Audit.{IsIllegalAt, IsFirstIllegal, serial_up_to}
@@ -24,22 +24,22 @@ use Rattle.history_audit.proofs.Lists.{among-at, among-take, serial-same}
 
 -- ---- one more event
 
--- a history goes on by an event that may stand behind it
-pub goes-more : (tables : List Table) (before H : List Event) (e : Event) → GoesOn tables before H → MayStand tables (seen (before ++ H)) e.kind → GoesOn tables before (H ++ e ∷ [])
+-- a history goes on by an event that continues it
+pub goes-more : (tables : List Table) (before H : List Event) (e : Event) → AllContinue tables before H → ContinuesHistory tables (summary (before ++ H)) e.kind → AllContinue tables before (H ++ e ∷ [])
 goes-more tables before [] e goes may = (rw (append-nil before) at may, tt)
 goes-more tables before (f ∷ H) e goes may =
     (goes.0, goes-more tables (before ++ f ∷ []) H e goes.1 (rw (append_assoc before (f ∷ []) H) may))
 
--- each operation that lives is one of an object that is there
-pub there-after : (tables : List Table) (s : Seen) (happened : EventKind) → MayStand tables s happened
-    → AllByRecursion (λ (e : Entry). IsOperation (slice_get tables e.at) e.op) s.stands → AllByRecursion (λ (e : Entry). IsOperation (slice_get tables e.at) e.op) (after s happened).stands
+-- each operation that survives is one of an object that is there
+pub there-after : (tables : List Table) (s : Summary) (happened : EventKind) → ContinuesHistory tables s happened
+    → AllByRecursion (λ (e : Entry). IsOperation (slice_get tables e.at) e.op) s.survives → AllByRecursion (λ (e : Entry). IsOperation (slice_get tables e.at) e.op) (summary_next s happened).survives
 there-after tables s (Begin t) may known = known
-there-after tables s (Op t x k) may known = each-append (λ (e : Entry). IsOperation (slice_get tables e.at) e.op) s.stands ((record { by = t; at = x; op = k }) ∷ []) known (may.1, tt)
+there-after tables s (Op t x k) may known = each-append (λ (e : Entry). IsOperation (slice_get tables e.at) e.op) s.survives ((record { by = t; at = x; op = k }) ∷ []) known (may.1, tt)
 there-after tables s (Busy c t x u) may known = known
 there-after tables s (kind.None t x c) may known = known
 there-after tables s (Commit t) may known = known
-there-after tables s (Abort t) may known = each-keep_first (λ (e : Entry). IsOperation (slice_get tables e.at) e.op) (is_by t) 0 s.stands known
-there-after tables s (Rollback t n) may known = each-keep_first (λ (e : Entry). IsOperation (slice_get tables e.at) e.op) (is_by t) _ s.stands known
+there-after tables s (Abort t) may known = each-keep_first (λ (e : Entry). IsOperation (slice_get tables e.at) e.op) (is_by t) 0 s.survives known
+there-after tables s (Rollback t n) may known = each-keep_first (λ (e : Entry). IsOperation (slice_get tables e.at) e.op) (is_by t) _ s.survives known
 
 -- ---- committed transactions
 
@@ -50,7 +50,7 @@ second-fails true true c is = absurd (false≢true is)
 second-fails false b c is = absurd (false≢true is)
 
 -- an open transaction is no committed one
-other-than-open : (s : Seen) (t u : ℕ) → is_open s t ≡ true → is_among s.committed u ≡ true → (t == u) ≡ false
+other-than-open : (s : Summary) (t u : ℕ) → is_open s t ≡ true → is_among s.committed u ≡ true → (t == u) ≡ false
 other-than-open s t u opened committed =
     elim (cases_Bool (t == u)) [
       | inl is ↦
@@ -60,7 +60,7 @@ other-than-open s t u opened committed =
     ]
 
 -- the operations of a committed transaction are the same after any event
-same-own : OwnAfter → (tables : List Table) (s : Seen) (happened : EventKind) (u : ℕ) → MayStand tables s happened → is_among s.committed u ≡ true → of u (after s happened).stands ≡ of u s.stands
+same-own : OwnAfter → (tables : List Table) (s : Summary) (happened : EventKind) (u : ℕ) → ContinuesHistory tables s happened → is_among s.committed u ≡ true → of u (summary_next s happened).survives ≡ of u s.survives
 same-own own tables s (Begin t) u may committed = refl
 same-own own tables s (Op t x k) u may committed = rw (other-than-open s t u may.0 committed) at (own s (Op t x k) u)
 same-own own tables s (Busy c t x v) u may committed = refl
@@ -70,7 +70,7 @@ same-own own tables s (Abort t) u may committed = rw (other-than-open s t u may 
 same-own own tables s (Rollback t n) u may committed = rw (other-than-open s t u may.0 committed) at (own s (Rollback t n) u)
 
 -- a commit is the last in commit order
-committed-after : (s : Seen) (happened : EventKind) → (after s happened).committed ≡ s.committed ++ committed_by happened
+committed-after : (s : Summary) (happened : EventKind) → (summary_next s happened).committed ≡ s.committed ++ committed_by happened
 committed-after s (Begin t) = sym (append-nil s.committed)
 committed-after s (Op t x k) = sym (append-nil s.committed)
 committed-after s (Busy c t x u) = sym (append-nil s.committed)
@@ -82,30 +82,30 @@ committed-after s (Rollback t n) = sym (append-nil s.committed)
 -- the longer history has the commits of the other one and these, and each of the other's committed transactions has the operations that it had
 pub record KeepsCommitted (H K : List Event) (more : List ℕ) : Type 0 where
   pub commits_are : commits K ≡ commits H ++ more
-  pub same : (x u : ℕ) → is_among (commits H) u ≡ true → of u (standing_at x K) ≡ of u (standing_at x H)
+  pub same : (x u : ℕ) → is_among (commits H) u ≡ true → of u (surviving_at x K) ≡ of u (surviving_at x H)
 
-pub keeps-committed : SeenAfter → OwnAfter → (tables : List Table) (H : List Event) (e : Event) → MayStand tables (seen H) e.kind → KeepsCommitted H (H ++ e ∷ []) (committed_by e.kind)
-keeps-committed seen_after own tables H e may = record {
-  commits_are = ap (λ (s : Seen). s.committed) (seen_after H e) ∙ committed-after (seen H) e.kind;
+pub keeps-committed : SummaryAfter → OwnAfter → (tables : List Table) (H : List Event) (e : Event) → ContinuesHistory tables (summary H) e.kind → KeepsCommitted H (H ++ e ∷ []) (committed_by e.kind)
+keeps-committed summary_after own tables H e may = record {
+  commits_are = ap (λ (s : Summary). s.committed) (summary_after H e) ∙ committed-after (summary H) e.kind;
   same = λ x u committed.
-      filter-turned (is_by u) (λ f. f.at == x) (standing (H ++ e ∷ []))
-      ∙ ap (at_object x) (ap (λ (s : Seen). of u s.stands) (seen_after H e) ∙ same-own own tables (seen H) e.kind u may committed)
-      ∙ sym (filter-turned (is_by u) (λ f. f.at == x) (standing H));
+      filter-turned (is_by u) (λ f. f.at == x) (surviving (H ++ e ∷ []))
+      ∙ ap (at_object x) (ap (λ (s : Summary). of u s.survives) (summary_after H e) ∙ same-own own tables (summary H) e.kind u may committed)
+      ∙ sym (filter-turned (is_by u) (λ f. f.at == x) (surviving H));
 }
 
 -- ---- places in the serial order
 
 module _ (H K : List Event) (more : List ℕ) (kept : KeepsCommitted H K more) where
   -- the serial order of the transactions that had committed
-  pub serial-kept : (x : ℕ) → serial (commits H) (standing_at x K) ≡ serial_at x H
-  serial-kept x = serial-same (commits H) (standing_at x K) (standing_at x H) (kept.same x)
+  pub serial-kept : (x : ℕ) → serial (commits H) (surviving_at x K) ≡ serial_at x H
+  serial-kept x = serial-same (commits H) (surviving_at x K) (surviving_at x H) (kept.same x)
 
   -- and with those that committed since
-  pub serial-more : (x : ℕ) → serial_at x K ≡ serial_at x H ++ serial more (standing_at x K)
+  pub serial-more : (x : ℕ) → serial_at x K ≡ serial_at x H ++ serial more (surviving_at x K)
   serial-more x =
-      ap (λ C. serial C (standing_at x K)) kept.commits_are
-      ∙ flat_map-append (λ t. of t (standing_at x K)) (commits H) more
-      ∙ ap (λ V. V ++ serial more (standing_at x K)) (serial-kept x)
+      ap (λ C. serial C (surviving_at x K)) kept.commits_are
+      ∙ flat_map-append (λ t. of t (surviving_at x K)) (commits H) more
+      ∙ ap (λ V. V ++ serial more (surviving_at x K)) (serial-kept x)
 
   place-kept : (i : ℕ) → i < length (commits H) → slice_get (commits K) i ≡ slice_get (commits H) i
   place-kept i inside = ap (λ C. slice_get C i) kept.commits_are ∙ slice_get-front (commits H) more i inside
@@ -118,10 +118,10 @@ module _ (H K : List Event) (more : List ℕ) (kept : KeepsCommitted H K more) w
   up_to-kept i u x j at =
       let inside = slice_get_within (commits H) i u at in
       let first = front-kept i (omega (arith, inside)) in
-      let same = serial-same (take i (commits H)) (standing_at x K) (standing_at x H) (λ t is. kept.same x t (among-take (commits H) i t is)) in
-      ap (λ C. ops (serial C (standing_at x K) ++ take (suc j) (of u (standing_at x K)))) first
-      ∙ ap (λ V. ops (V ++ take (suc j) (of u (standing_at x K)))) same
-      ∙ ap (λ V. ops (serial (take i (commits H)) (standing_at x H) ++ take (suc j) V)) (kept.same x u (among-at (commits H) i u at))
+      let same = serial-same (take i (commits H)) (surviving_at x K) (surviving_at x H) (λ t is. kept.same x t (among-take (commits H) i t is)) in
+      ap (λ C. ops (serial C (surviving_at x K) ++ take (suc j) (of u (surviving_at x K)))) first
+      ∙ ap (λ V. ops (V ++ take (suc j) (of u (surviving_at x K)))) same
+      ∙ ap (λ V. ops (serial (take i (commits H)) (surviving_at x H) ++ take (suc j) V)) (kept.same x u (among-at (commits H) i u at))
 
   -- an operation of them that isn't legal stays so
   illegal-kept : (tables : List Table) (i x j : ℕ) → IsIllegalAt tables H i x j → IsIllegalAt tables K i x j

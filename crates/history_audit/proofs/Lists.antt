@@ -1,5 +1,5 @@
 -- Lists: what is at a place, and the operations of a transaction at an object.
-use Rattle.std.proofs.Common.{◌≡◌, ◌≢◌, ℕ, zero, suc, ◌≤◌, Bool, true, false, cond, ◌||◌, ◌==◌, List, [], ◌∷◌, ◌++◌, length, map, filter, take, set, Some, slice_get, refl, sym, ap, subst, ◌∙◌, inl, inr, append-nil, arith}
+use Rattle.std.proofs.Common.{◌≡◌, ◌≢◌, ℕ, zero, suc, ◌≤◌, Bool, true, false, cond, ◌||◌, ◌==◌, List, [], ◌∷◌, ◌++◌, length, map, filter, take, Some, slice_get, refl, sym, ap, subst, ◌∙◌, inl, inr, append-nil, arith}
 use Rattle.std.proofs.lemmas.Bool.{cases_Bool, eq-eqb, false≢true}
 use Rattle.std.proofs.lemmas.List.{map-append}
 use Rattle.std.proofs.lemmas.List.Elements.{filter-append}
@@ -13,15 +13,7 @@ use Rattle.history_audit.specs.Replay.{ops_at}
 
 -- ---- what is at a place
 
--- what was written at another place changes nothing here
-pub slice_get-set_other : {X : Type 0} (xs : List X) (i j : ℕ) (v : X) → i ≢ j → slice_get (set xs i v) j ≡ slice_get xs j
-slice_get-set_other [] i j v other = refl
-slice_get-set_other (x ∷ xs) zero zero v other = absurd (other refl)
-slice_get-set_other (x ∷ xs) zero (suc j) v other = refl
-slice_get-set_other (x ∷ xs) (suc i) zero v other = refl
-slice_get-set_other (x ∷ xs) (suc i) (suc j) v other = slice_get-set_other xs i j v (λ e. other (ap suc e))
-
--- the first ones, and one behind them
+-- the first ones, and one after them
 pub take-and_next : {X : Type 0} (xs : List X) (y : X) (ys : List X) → take (suc (length xs)) (xs ++ y ∷ ys) ≡ xs ++ y ∷ []
 take-and_next [] y ys = refl
 take-and_next (x ∷ xs) y ys = ap (λ rest. x ∷ rest) (take-and_next xs y ys)
@@ -86,7 +78,7 @@ ops_at-apart x its o isnt =
     ∙ map-append (λ (p : Operation). p.k) (filter (λ (p : Operation). p.x == x) its) []
     ∙ append-nil (ops_at x its)
 
--- the operations at the object before one of them, it, and those behind it
+-- the operations at the object before one of them, it, and those after it
 pub ops_at-split : (x : ℕ) (its : List Operation) (p : ℕ) (o : Operation) → slice_get its p ≡ Some o → (o.x == x) ≡ true → (rest : List ℕ) × (ops_at x its ≡ ops_at x (take p its) ++ o.k ∷ rest)
 ops_at-split x [] p o at is = absurd (none-some o at)
 ops_at-split x (a ∷ its) zero o at is =

@@ -8,13 +8,13 @@ use Rattle.std.proofs.lemmas.Option.{none-some, same_Some, slice_get_within, sli
 use Rattle.type_table.specs.Table.{Table, next}
 use Rattle.type_table.specs.Run.{run, next_of}
 use Rattle.type_table.specs.Laws.{RunsAlong}
-use Rattle.type_table.proofs.Elements.{each-found, found-set, take-found}
+use Rattle.type_table.proofs.Elements.{each-found, found-set, found-set_other, take-found}
 use Rattle.serial_order.specs.History.{IsOperation}
 use Rattle.history_audit.specs.declared.operation.Operation.{Operation}
 use Rattle.history_audit.specs.Replay.{ops_at, AreOperations, AreStates, next_by, next_at, is_stopped_at, with_state, stop_by, states_after, stop_after, IsStopped, AreReplayed}
 use Rattle.history_audit.specs.Auditor.{AreInitial}
 use Rattle.history_audit.specs.declared.replay.Stop.{Stop}
-use Rattle.history_audit.proofs.Lists.{slice_get-set_other, apart, ops_at-here, ops_at-apart}
+use Rattle.history_audit.proofs.Lists.{apart, ops_at-here, ops_at-apart}
 use Rattle.history_audit.proofs.Serials.{found}
 
 -- ---- where it stops
@@ -95,7 +95,7 @@ module _ (along : RunsAlong) (tables : List Table) (old : List ℕ) (its : List 
                 ∙ sym (subst Q (sym same) (found-set states x e (slice_get_within states x now here)))
             | inr other ↦
                 ap (run T (Some s)) (ops-apart x other) ∙ known.states_are x T s table from goes
-                ∙ sym (slice_get-set_other states o.x x e (apart o.x x other))
+                ∙ sym (found-set_other states o.x x e (λ same. apart o.x x other (sym same)))
           ]
 
   -- it isn't legal

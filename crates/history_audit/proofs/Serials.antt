@@ -1,4 +1,4 @@
--- When the serial order is legal at each object: told of tables and of objects, and what it says of each operation.
+-- When the serial order is legal at each object: by tables and by objects, and what it says of each operation.
 use Rattle.std.proofs.Common.{◌≡◌, ℕ, zero, suc, List, [], ◌∷◌, ◌++◌, length, take, drop, Option, Some, None, option_map, slice_get, refl, sym, ap, subst, ◌∙◌, append_assoc, append-nil, arith}
 use Rattle.std.proofs.lemmas.Bool.{false≢true}
 use Rattle.std.proofs.lemmas.List.{map-append, take-append-drop}
@@ -10,8 +10,8 @@ use Rattle.type_table.proofs.Legal.{run_from_none}
 use Rattle.object_trait.specs.Object.{Object}
 use Rattle.object_trait.specs.declared.event.Event.{Event}
 use Rattle.serial_order.specs.Operations.{ops, of, serial}
-use Rattle.serial_order.specs.History.{commits, seen, MayStand, GoesOn, IsHistory}
-use Rattle.serial_order.specs.Serial.{standing_at, serial_at, IsSerial}
+use Rattle.serial_order.specs.History.{commits, summary, ContinuesHistory, AllContinue, IsHistory}
+use Rattle.serial_order.specs.Serial.{surviving_at, serial_at, IsSerial}
 use Rattle.serial_order.specs.declared.entry.Entry.{Entry}
 use Rattle.history_audit.specs.Audit.{IsAudit, IsFirstBad, IsIllegalAt, AreSerial}
 use Rattle.history_audit.specs.Laws.{tables_of}
@@ -51,7 +51,7 @@ of_objects objects H serial x T at =
 
 -- ---- what is serially before an operation
 
--- the operations of a transaction stand behind those of the transactions before it
+-- the operations of a transaction come after those of the transactions before it
 pub serial-split : (C : List ℕ) (V : List Entry) (i t : ℕ) → slice_get C i ≡ Some t → (rest : List Entry) × (serial C V ≡ serial (take i C) V ++ (of t V ++ rest))
 serial-split [] V i t at = absurd (none-some t at)
 serial-split (u ∷ C) V zero t at = (serial C V, ap (λ v. of v V ++ serial C V) (same_Some u t at))
@@ -73,25 +73,25 @@ serial-front C V i t n at =
 pub stuck-along : RunsAlong → (T : Table) (from : Option ℕ) (v w : List ℕ) → run T from v ≡ None → IsLegal T from (v ++ w) → ⊥
 stuck-along along T from v w stuck legal = false≢true (rw (along T from v w, stuck, run_from_none T w) at legal)
 
--- where the serial order is legal, so is each operation behind what is serially before it
+-- where the serial order is legal, so is each operation after what is serially before it
 pub serial-each : RunsAlong → (tables : List Table) (H : List Event) (i x j : ℕ) → AreSerial tables H → IsIllegalAt tables H i x j → ⊥
 serial-each along tables H i x j legal wrong =
-    let (rest, is) = serial-front (commits H) (standing_at x H) i wrong.t (suc j) wrong.committed in
-    let front = serial (take i (commits H)) (standing_at x H) ++ take (suc j) (of wrong.t (standing_at x H)) in
+    let (rest, is) = serial-front (commits H) (surviving_at x H) i wrong.t (suc j) wrong.committed in
+    let front = serial (take i (commits H)) (surviving_at x H) ++ take (suc j) (of wrong.t (surviving_at x H)) in
     let whole : ops (serial_at x H) ≡ ops front ++ ops rest = ap ops is ∙ map-append (λ (e : Entry). e.op) front rest in
     stuck-along along wrong.table (Some wrong.table.initial) (ops front) (ops rest) wrong.illegal (rw whole at (legal x wrong.table wrong.object))
 
 -- ---- events of a history
 
--- each event of a history may stand behind those before it
-pub stands-at : (tables : List Table) (before H : List Event) (at : ℕ) (e : Event) → GoesOn tables before H → slice_get H at ≡ Some e → MayStand tables (seen (before ++ take at H)) e.kind
-stands-at tables before [] at e goes there = absurd (none-some e there)
-stands-at tables before (f ∷ H) zero e goes there =
-    let P : Event → Type 0 = λ g. MayStand tables (seen (before ++ [])) g.kind in
+-- each event of a history can follow those before it
+pub continues-at : (tables : List Table) (before H : List Event) (at : ℕ) (e : Event) → AllContinue tables before H → slice_get H at ≡ Some e → ContinuesHistory tables (summary (before ++ take at H)) e.kind
+continues-at tables before [] at e goes there = absurd (none-some e there)
+continues-at tables before (f ∷ H) zero e goes there =
+    let P : Event → Type 0 = λ g. ContinuesHistory tables (summary (before ++ [])) g.kind in
     subst P (same_Some f e there) (rw (append-nil before) goes.0)
-stands-at tables before (f ∷ H) (suc at) e goes there =
-    rw (append_assoc before (f ∷ []) (take at H)) at (stands-at tables (before ++ f ∷ []) H at e goes.1 there)
+continues-at tables before (f ∷ H) (suc at) e goes there =
+    rw (append_assoc before (f ∷ []) (take at H)) at (continues-at tables (before ++ f ∷ []) H at e goes.1 there)
 
 -- none is bad
 pub never-bad : (tables : List Table) (H : List Event) (at : ℕ) → IsHistory tables H → IsFirstBad tables H at → ⊥
-never-bad tables H at history wrong = wrong.bad (stands-at tables [] H at wrong.event history wrong.there)
+never-bad tables H at history wrong = wrong.bad (continues-at tables [] H at wrong.event history wrong.there)

@@ -11,7 +11,7 @@ use Rattle.object_trait.specs.declared.event.EventKind.{EventKind}
 use Rattle.object_trait.specs.declared.event.EventKind.TheVariants as kind
 use Rattle.object_trait.specs.declared.event.EventKind.TheVariants.{Begin, Op, Busy, Commit, Abort, Rollback}
 use Rattle.serial_order.specs.Operations.{ops}
-use Rattle.serial_order.specs.History.{Seen, seen, IsOperation, MayStand, GoesOn, IsHistory}
+use Rattle.serial_order.specs.History.{Summary, summary, IsOperation, ContinuesHistory, AllContinue, IsHistory}
 use Rattle.serial_order.specs.Serial.{serial_at}
 use Rattle.history_audit.specs.Audit.{AreSerial}
 use Rattle.history_audit.specs.Epochs.{tables_at, tables_after, AreAudits, HasFault, AuditsEpochs, serial_over, AreSerialOver, AreHistories, YesIsSerialOver, EpochsDecide}
@@ -19,8 +19,7 @@ use Rattle.history_audit.specs.declared.outcome.Audit.{Audit}
 use Rattle.history_audit.specs.declared.outcome.AuditFault.{AuditFault}
 use Rattle.history_audit.specs.declared.outcome.AuditFault.TheVariants.{BadEvent, IllegalOp, NoMemory}
 use Rattle.history_audit.specs.declared.outcome.EpochFault.{EpochFault}
-use Rattle.type_table.proofs.Legal.{legal-front}
-use Rattle.serial_order.proofs.Legal.{legal-behind}
+use Rattle.type_table.proofs.Legal.{legal-front, legal-behind}
 use Rattle.history_audit.proofs.Serials.{found, serial-each, never-bad}
 
 -- ---- tables that begin at other states
@@ -41,7 +40,7 @@ same-operations (T ∷ tables) (s ∷ states) zero k = refl
 same-operations (T ∷ tables) (s ∷ states) (suc x) k = same-operations tables states x k
 
 -- and the same events may come next
-same-events : (tables : List Table) (states : List ℕ) (s : Seen) (e : EventKind) → MayStand (tables_at tables states) s e ≡ MayStand tables s e
+same-events : (tables : List Table) (states : List ℕ) (s : Summary) (e : EventKind) → ContinuesHistory (tables_at tables states) s e ≡ ContinuesHistory tables s e
 same-events tables states s (Begin t) = refl
 same-events tables states s (Op t x k) = rw (same-operations tables states x k) refl
 same-events tables states s (Busy c t x u) = rw (same-operations tables states x c) refl
@@ -50,9 +49,9 @@ same-events tables states s (Commit t) = refl
 same-events tables states s (Abort t) = refl
 same-events tables states s (Rollback t n) = refl
 
-goes-alike : (tables : List Table) (states : List ℕ) (before H : List Event) → GoesOn (tables_at tables states) before H ≡ GoesOn tables before H
+goes-alike : (tables : List Table) (states : List ℕ) (before H : List Event) → AllContinue (tables_at tables states) before H ≡ AllContinue tables before H
 goes-alike tables states before [] = refl
-goes-alike tables states before (e ∷ H) = rw (same-events tables states (seen before) e.kind, goes-alike tables states (before ++ e ∷ []) H) refl
+goes-alike tables states before (e ∷ H) = rw (same-events tables states (summary before) e.kind, goes-alike tables states (before ++ e ∷ []) H) refl
 
 -- so they have the same histories
 pub histories-alike : (tables : List Table) (states : List ℕ) (H : List Event) → IsHistory (tables_at tables states) H ≡ IsHistory tables H
@@ -135,14 +134,14 @@ module _ (along : RunsAlong) (alike : RunsAlike) where
             ∙ ap (λ them. them ++ rest) (sym (append_assoc (ops (serial_at x G)) (serial_over x (take n Hs)) (ops (serial_at x H)))),
       )
 
-  -- behind the audits of the first histories the next one is serially legal
+  -- after the audits of the first histories the next one is serially legal
   serial-next : (tables : List Table) (Hs : List (List Event)) (n : ℕ) (audits : List Audit) (H : List Event) → AreSerialOver tables Hs → AreAudits tables (take n Hs) audits
       → slice_get Hs n ≡ Some H → AreSerial (tables_after tables audits) H
   serial-next tables Hs n audits H serial before there x U at =
       let (T, its) = table-before tables audits x U at in
       let (s, runs, behind) = leads tables (take n Hs) audits before x T its in
       let (rest, is) = serial-first x Hs n H there in
-      let front = legal-front along T (Some T.initial) (serial_over x (take n Hs) ++ ops (serial_at x H)) rest (subst (IsLegal T (Some T.initial)) is (serial x T its)) in
+      let front = legal-front T (Some T.initial) (serial_over x (take n Hs) ++ ops (serial_at x H)) rest (subst (IsLegal T (Some T.initial)) is (serial x T its)) in
       let next : IsLegal T (Some s) (ops (serial_at x H)) = legal-behind along T (Some T.initial) (serial_over x (take n Hs)) (ops (serial_at x H)) s runs front in
       let same : table_at T s ≡ U = same_Some (table_at T s) U (sym behind ∙ at) in
       let P : Table → Type 0 = λ V. IsLegal V (Some V.initial) (ops (serial_at x H)) in

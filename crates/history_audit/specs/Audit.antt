@@ -4,8 +4,8 @@ use Rattle.type_table.specs.Table.{Table}
 use Rattle.type_table.specs.Run.{run, IsLegal}
 use Rattle.object_trait.specs.declared.event.Event.{Event}
 use Rattle.serial_order.specs.Operations.{ops, of, serial}
-use Rattle.serial_order.specs.History.{commits, seen, MayStand, IsHistory}
-use Rattle.serial_order.specs.Serial.{standing_at, serial_at}
+use Rattle.serial_order.specs.History.{commits, summary, ContinuesHistory, IsHistory}
+use Rattle.serial_order.specs.Serial.{surviving_at, serial_at}
 use Rattle.history_audit.specs.declared.outcome.Audit.{Audit}
 use Rattle.history_audit.specs.declared.outcome.AuditFault.{AuditFault}
 use Rattle.history_audit.specs.declared.outcome.AuditFault.TheVariants.{BadEvent, IllegalOp, NoMemory}
@@ -20,26 +20,26 @@ pub record IsAudit (tables : List Table) (H : List Event) (order finals : List �
 
 -- ---- the first event that is bad
 
--- the events before it are a history, and it may not stand behind them
+-- the events before it are a history, and it can't follow them
 pub record IsFirstBad (tables : List Table) (H : List Event) (at : ℕ) : Type 0 where
   pub history : IsHistory tables (take at H)
   pub event : Event
   pub there : slice_get H at ≡ Some event
-  pub bad : MayStand tables (seen (take at H)) event.kind → ⊥
+  pub bad : ContinuesHistory tables (summary (take at H)) event.kind → ⊥
 
 -- ---- the first operation that isn't legal
 
--- at x, what is serially up to operation j of the transaction t that committed behind i others
+-- at x, what is serially up to operation j of the transaction t that committed after i others
 abbrev pub serial_up_to : List Event → ℕ → ℕ → ℕ → ℕ → List ℕ
-serial_up_to H i t x j = ops (serial (take i (commits H)) (standing_at x H) ++ take (suc j) (of t (standing_at x H)))
+serial_up_to H i t x j = ops (serial (take i (commits H)) (surviving_at x H) ++ take (suc j) (of t (surviving_at x H)))
 
--- operation j at object x of the i-th committed transaction, each counted from 0, isn't legal behind those that are serially before it
+-- operation j at object x of the i-th committed transaction, each counted from 0, isn't legal after those that are serially before it
 pub record IsIllegalAt (tables : List Table) (H : List Event) (i x j : ℕ) : Type 0 where
   pub t : ℕ
   pub table : Table
   pub committed : slice_get (commits H) i ≡ Some t
   pub object : slice_get tables x ≡ Some table
-  pub there : j < length (of t (standing_at x H))
+  pub there : j < length (of t (surviving_at x H))
   pub illegal : run table (Some table.initial) (serial_up_to H i t x j) ≡ None
 
 -- the first three numbers come before the other three, in ascending order

@@ -5,7 +5,7 @@ use Rattle.type_table.specs.Table.{Table}
 use Rattle.object_trait.specs.declared.event.Event.{Event}
 use Rattle.object_trait.specs.declared.event.EventKind.{EventKind}
 use Rattle.object_trait.specs.declared.event.EventKind.TheVariants.{Commit}
-use Rattle.serial_order.specs.History.{seen, standing, IsOperation, IsHistory}
+use Rattle.serial_order.specs.History.{summary, surviving, IsOperation, IsHistory}
 use Rattle.serial_order.specs.declared.entry.Entry.{Entry}
 use Rattle.history_audit.specs.Rows.{AreRows}
 use Rattle.history_audit.specs.declared.operation.Operation.{Operation}
@@ -28,8 +28,8 @@ AuditsSoFar tables H order states (Some p) = IsFirstIllegal tables H p.commit_in
 -- the events are a history, and what is kept agrees with them
 pub record IsAuditing (tables : List Table) (H : List Event) (a : Auditor) : Type 0 where
   pub history : IsHistory tables H
-  pub rows : AreRows a.judge (seen H)
-  pub there : AllByRecursion (λ (e : Entry). IsOperation (slice_get tables e.at) e.op) (standing H)
+  pub rows : AreRows a.judge (summary H)
+  pub there : AllByRecursion (λ (e : Entry). IsOperation (slice_get tables e.at) e.op) (surviving H)
   pub ready : AreStates tables a.states.items
   pub so_far : AuditsSoFar tables H a.order.items a.states.items a.illegal
 
@@ -59,7 +59,7 @@ pub record Replays (tables : List Table) (t : ℕ) (its : List Operation) (old n
   pub order : new.order.items ≡ old.order.items ++ t ∷ []
   pub illegal : new.illegal ≡ illegal_at (length old.order.items) its stop
 
--- behind the first operation that isn't legal nothing is replayed
+-- after the first operation that isn't legal nothing is replayed
 abbrev pub ReplaysFrom : Option Illegal → List Table → ℕ → List Operation → Auditor → Auditor → Type 0
 ReplaysFrom None tables t its old new = Replays tables t its old new
 ReplaysFrom (Some p) tables t its old new = new ≡ old

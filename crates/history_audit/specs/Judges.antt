@@ -4,7 +4,7 @@ use Rattle.type_table.specs.Table.{Table}
 use Rattle.object_trait.specs.declared.event.Event.{Event}
 use Rattle.object_trait.specs.declared.event.EventKind.{EventKind}
 use Rattle.object_trait.specs.declared.event.EventKind.TheVariants.{Begin, Op}
-use Rattle.serial_order.specs.History.{seen, MayStand}
+use Rattle.serial_order.specs.History.{summary, ContinuesHistory}
 use Rattle.history_audit.specs.declared.operation.Operation.{Operation}
 use Rattle.history_audit.specs.declared.event_fault.EventFault.{EventFault}
 use Rattle.history_audit.specs.declared.event_fault.EventFault.TheVariants.{Bad, NoMemory}
@@ -16,14 +16,14 @@ takes_memory (Begin t) = true
 takes_memory (Op t x k) = true
 takes_memory _ = false
 
--- The event is judged behind every list of events with which the old rows agree. Where it is taken it may stand there, the new rows
--- agree with the events and this one, whichever worker's it is, and what is handed out is what it commits. Where it is bad it may
--- not stand there. Memory is refused to a begin or an operation alone
+-- The event is judged after every list of events with which the old rows agree. Where it is taken it can follow there, the new rows
+-- agree with the events and this one, whichever worker's it is, and what is handed out is what it commits. Where it is bad it
+-- can't follow there. Memory is refused to a begin or an operation alone
 abbrev pub Judges : List Table → List (Option (List Operation)) → EventKind → Result (Option (List Operation)) EventFault → List (Option (List Operation)) → Type 0
 Judges tables old event (Ok its) new =
-    (H : List Event) (w : ℕ) → AreRows old (seen H)
-    → MayStand tables (seen H) event × AreRows new (seen (H ++ (record { worker = w; kind = event }) ∷ [])) × (its ≡ committed_in event (seen H))
-Judges tables old event (Err Bad) new = (H : List Event) → AreRows old (seen H) → MayStand tables (seen H) event → ⊥
+    (H : List Event) (w : ℕ) → AreRows old (summary H)
+    → ContinuesHistory tables (summary H) event × AreRows new (summary (H ++ (record { worker = w; kind = event }) ∷ [])) × (its ≡ committed_in event (summary H))
+Judges tables old event (Err Bad) new = (H : List Event) → AreRows old (summary H) → ContinuesHistory tables (summary H) event → ⊥
 Judges tables old event (Err NoMemory) new = takes_memory event ≡ true
 
 -- the event is judged, whatever it commits

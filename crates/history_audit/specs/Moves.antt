@@ -4,7 +4,7 @@ use Rattle.type_table.specs.Table.{Table}
 use Rattle.object_trait.specs.declared.event.Event.{Event}
 use Rattle.object_trait.specs.declared.event.EventKind.{EventKind}
 use Rattle.object_trait.specs.declared.event.EventKind.TheVariants.{Begin, Op, Commit, Abort, Rollback}
-use Rattle.serial_order.specs.History.{seen, MayStand}
+use Rattle.serial_order.specs.History.{summary, ContinuesHistory}
 use Rattle.history_audit.specs.declared.operation.Operation.{Operation}
 use Rattle.history_audit.specs.Rows.{AreRows}
 
@@ -14,7 +14,7 @@ pub record IsRowMoved (old new : List (Option (List Operation))) (t : ℕ) (move
   pub was : slice_get old t ≡ Some (Some its)
   pub becomes : new ≡ slice_set old t (moved its)
 
--- a begin adds a row without operations; an operation comes behind those of its row, the end of a transaction takes its row out, a
+-- a begin adds a row without operations; an operation comes after those of its row, the end of a transaction takes its row out, a
 -- rollback strikes the last n operations of its row; and other events change nothing
 abbrev pub RowsMove : EventKind → List (Option (List Operation)) → List (Option (List Operation)) → Type 0
 RowsMove (Begin t) old new = new ≡ old ++ Some [] ∷ []
@@ -28,4 +28,4 @@ RowsMove _ old new = new ≡ old
 abbrev pub MovedRowsAgree : Type 0
 MovedRowsAgree =
     (tables : List Table) (H : List Event) (e : Event) (old new : List (Option (List Operation)))
-    → AreRows old (seen H) → MayStand tables (seen H) e.kind → RowsMove e.kind old new → AreRows new (seen (H ++ e ∷ []))
+    → AreRows old (summary H) → ContinuesHistory tables (summary H) e.kind → RowsMove e.kind old new → AreRows new (summary (H ++ e ∷ []))

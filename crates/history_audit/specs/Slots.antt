@@ -8,7 +8,7 @@ use Rattle.history_audit.specs.declared.slots.Slot.{Slot}
 abbrev pub number_of : Slot → ℕ
 number_of slot = slot.number
 
--- its row: its operations that live
+-- its row: its operations that survive
 abbrev pub row_of : Slot → List Operation
 row_of slot = slot.operations
 

@@ -6,7 +6,7 @@ use Rattle.history_audit.specs.declared.outcome.Audit.{Audit}
 use Rattle.history_audit.specs.declared.outcome.AuditFault.{AuditFault}
 use Rattle.history_audit.specs.declared.outcome.AuditFault.TheVariants.{BadEvent, IllegalOp, NoMemory}
 
--- a line of words behind a `#`: one space between two, and a LF
+-- a line of words after a `#`: one space between two, and a LF
 abbrev pub comment : List (List ℕ) → List ℕ
 comment words = join_with_byte 32 (codes "#" ∷ words) ++ 10 ∷ []
 

@@ -13,7 +13,7 @@ use crate::operation::Operation;
 use crate::outcome::{Audit, AuditFault};
 use crate::replay::{Stop, count_at, replay};
 use object_trait::{Event, EventKind};
-use serial_order::{own_after, seen_after};
+use serial_order::{own_after, summary_after};
 use std::alloc::{AllocError, Global};
 use type_table::{TypeTable, runs_along};
 
@@ -29,7 +29,7 @@ pub struct Illegal {
 }
 
 /// What an audit keeps of the events so far: what their judge keeps, the commit order, the serial states, and the
-/// first operation that isn't legal, behind which nothing is replayed.
+/// first operation that isn't legal, after which nothing is replayed.
 #[derive(Drop)]
 pub struct Auditor {
     judge: Judge,
@@ -53,7 +53,7 @@ impl Auditor {
         })
     }
 
-    /// Takes the event at this place, behind those before it.
+    /// Takes the event at this place, after those before it.
     pub fn take(
         &mut self,
         tables: &[&TypeTable],
@@ -65,7 +65,7 @@ impl Auditor {
         ensures { MatchResult result (λ _. IsAuditing (map (λ t. t.now) tables.now) (take (at + 1) events.now) self.new)
             (λ fault. Audits (map (λ t. t.now) tables.now) events.now (Err fault)) }
     {
-        seen_after();
+        summary_after();
         own_after();
         runs_along();
         let event = events[at];

@@ -44,7 +44,7 @@ fn audit_each(
     Ok(audits)
 }
 
-/// Audits the history of this epoch at tables that begin, behind a yes, at the states in which it ends.
+/// Audits the history of this epoch at tables that begin, after a yes, at the states in which it ends.
 fn audit_next(
     alloc: Global,
     epoch: usize,

@@ -18,7 +18,7 @@ use type_table::TypeTable;
 type Verdict = Result<(), EventFault>;
 
 /// Judges events one after another, and keeps of those before what that takes: for each transaction that
-/// began its operations that live, and nothing where it ended.
+/// began its operations that survive, and nothing where it ended.
 #[derive(Drop)]
 pub struct Judge {
     rows: Slots,
@@ -63,7 +63,7 @@ impl Judge {
         }
     }
 
-    /// Judges a commit of t, and hands out the operations of t that live, in order. Where it is bad, nothing
+    /// Judges a commit of t, and hands out the operations of t that survive, in order. Where it is bad, nothing
     /// changes.
     pub fn commit(&mut self, t: u32) -> Result<Operations, EventFault>
         ensures judged { (tables : List Table) → Judges tables self.old (kind.Commit t) (handed result) self.new }

@@ -1,14 +1,14 @@
 //! Laws of the audit: each is a function that does nothing, whose contract is the law.
 
 ghost use Rattle.std.specs.Prelude.{[]};
-ghost use Rattle.serial_order.specs.History.{seen};
+ghost use Rattle.serial_order.specs.History.{summary};
 ghost use Rattle.history_audit.specs.Rows.{AreRows};
 ghost use Rattle.history_audit.specs.Epochs.{EpochsDecide, EpochsPass, YesIsSerialOver};
 ghost use Rattle.history_audit.specs.Moves.{MovedRowsAgree};
 ghost use Rattle.history_audit.specs.Laws.{YesIsSerial, SerialHistoriesPass, RunsPass, AuditDecides, AuditsAgree, AlikeIsWritten};
 
 use serial_order::{
-    epochs_are_serial, headline, history_opens_after, own_after, run_is_history, seen_after,
+    epochs_are_serial, headline, history_opens_after, own_after, run_is_history, summary_after,
 };
 use type_table::{runs_alike, runs_along};
 
@@ -46,14 +46,14 @@ pub fn audit_decides()
 
 /// Before the first event there are no rows.
 pub fn nothing_began()
-    ensures { AreRows [] (seen []) }
+    ensures { AreRows [] (summary []) }
 {}
 
 /// Where rows agree with some events, the rows to which one more leads agree with these and it.
 pub fn moved_rows_agree()
     ensures { MovedRowsAgree }
 {
-    seen_after();
+    summary_after();
     history_opens_after();
     own_after();
 }

@@ -5,7 +5,7 @@ use smallvec::SmallVec;
 use std::alloc::{AllocError, Global};
 use std::marker::Model;
 
-/// The operations of one transaction that live, in the order in which they were executed. Contracts see the
+/// The operations of one transaction that survive, in the order in which they were executed. Contracts see the
 /// list of them.
 #[derive(Drop)]
 pub struct Operations {

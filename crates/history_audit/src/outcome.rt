@@ -16,12 +16,12 @@ pub struct Audit {
 /// Why an audit has no yes.
 #[derive(Clone, Copy, Debug, PartialEq, Eq, Error)]
 pub enum AuditFault {
-    /// The event at this place, counted from 0, may not stand behind those before it. It is the first such one.
+    /// The event at this place, counted from 0, can't follow those before it. It is the first such one.
     #[error("BadEvent {at}")]
     BadEvent {
         at: usize,
     },
-    /// Each event may stand where it does, and this operation isn't legal behind those that are serially before
+    /// Each event can follow those before it, and this operation isn't legal after those that are serially before
     /// it. It is the first such one in ascending order of these three numbers.
     #[error("IllegalOp {commit_index} {object} {op_index}")]
     IllegalOp {
@@ -29,7 +29,7 @@ pub enum AuditFault {
         commit_index: usize,
         /// The object, by its place.
         object: u32,
-        /// Its place among the operations of its transaction at this object that live, from 0.
+        /// Its place among the operations of its transaction at this object that survive, from 0.
         op_index: usize,
     },
     /// Memory was refused.

@@ -21,7 +21,7 @@ struct Slot {
 
 /// The transactions of a history, numbered 0, 1, 2, .. as they begin.
 ///
-/// Contracts see a row for each that began: its operations that live, in order, where it is open, and
+/// Contracts see a row for each that began: its operations that survive, in order, where it is open, and
 /// nothing where it ended.
 #[derive(Drop)]
 pub(crate) struct Slots {
@@ -70,7 +70,7 @@ impl Slots {
         t < self.slot_of.len() && self.slot_of[t] != ENDED
     }
 
-    /// How many operations of t live.
+    /// How many operations of t survive.
     pub(crate) fn count(&self, t: u32) -> usize
         requires { is_open self.now t ≡ true }
         ensures { result ≡ length (its_of (row self.now t)) }

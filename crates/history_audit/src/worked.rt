@@ -6,7 +6,7 @@ ghost use Rattle.type_table.specs.Run.{run};
 ghost use Rattle.type_table.specs.Examples.{counter, one_way};
 ghost use Rattle.type_table.specs.Table.{table_at};
 ghost use Rattle.object_trait.specs.declared.event.EventKind.TheVariants as kind;
-ghost use Rattle.serial_order.specs.History.{seen, IsHistory};
+ghost use Rattle.serial_order.specs.History.{summary, IsHistory};
 ghost use Rattle.serial_order.specs.Examples.{one_way_history, unlocked_history, two_objects_history};
 ghost use Rattle.history_audit.specs.declared.event_fault.EventFault.TheVariants as fault;
 ghost use Rattle.history_audit.specs.Rows.{operations_of, committed_in, IsRow, AreRows};
@@ -77,21 +77,21 @@ pub fn lines_of_audits()
     ensures nothing { audit_text (Err AuditFault.NoMemory) ≡ [] }
 {}
 
-/// A row has the operations of its transaction that live, over all objects, as they were executed.
+/// A row has the operations of its transaction that survive, over all objects, as they were executed.
 pub fn operations_are_told()
-    ensures some { operations_of 0 (seen two_ups) ≡ operation 1 0 ∷ operation 0 0 ∷ [] }
-    ensures none { operations_of 1 (seen two_ups) ≡ [] }
-    ensures committed { committed_in (kind.Commit 0) (seen two_ups) ≡ Some (operation 1 0 ∷ operation 0 0 ∷ []) }
-    ensures aborted { committed_in (kind.Abort 0) (seen two_ups) ≡ None }
+    ensures some { operations_of 0 (summary two_ups) ≡ operation 1 0 ∷ operation 0 0 ∷ [] }
+    ensures none { operations_of 1 (summary two_ups) ≡ [] }
+    ensures committed { committed_in (kind.Commit 0) (summary two_ups) ≡ Some (operation 1 0 ∷ operation 0 0 ∷ []) }
+    ensures aborted { committed_in (kind.Abort 0) (summary two_ups) ≡ None }
 {}
 
 /// A row is none where its transaction ended, and no other.
 pub fn a_row_says_what_its_transaction_did()
-    ensures open { IsRow (Some (operation 1 0 ∷ operation 0 0 ∷ [])) 0 (seen two_ups) }
-    ensures ended { IsRow None 1 (seen two_ups) }
-    ensures lost { IsRow None 0 (seen two_ups) → ⊥ }
-    ensures struck { IsRow (Some (operation 1 0 ∷ [])) 0 (seen two_ups) → ⊥ }
-    ensures kept { IsRow (Some []) 1 (seen two_ups) → ⊥ }
+    ensures open { IsRow (Some (operation 1 0 ∷ operation 0 0 ∷ [])) 0 (summary two_ups) }
+    ensures ended { IsRow None 1 (summary two_ups) }
+    ensures lost { IsRow None 0 (summary two_ups) → ⊥ }
+    ensures struck { IsRow (Some (operation 1 0 ∷ [])) 0 (summary two_ups) → ⊥ }
+    ensures kept { IsRow (Some []) 1 (summary two_ups) → ⊥ }
 {}
 
 /// What events do to the rows: here a transaction takes an operation back, and ends.
@@ -105,7 +105,7 @@ pub fn rows_move()
 /// The first transaction may commit two operations or take them back, and the third may begin. It may not be
 /// the fourth, the second ended, and there are no three operations to take back.
 pub fn events_are_judged()
-    ensures agrees { AreRows two_ups_rows (seen two_ups) }
+    ensures agrees { AreRows two_ups_rows (summary two_ups) }
     ensures commits { Judges two_counters two_ups_rows (kind.Commit 0) (Ok (Some (operation 1 0 ∷ operation 0 0 ∷ []))) (None ∷ None ∷ []) }
     ensures takes_back { Judges two_counters two_ups_rows (kind.Rollback 0 1) (Ok None) one_up_rows }
     ensures begins { Judges two_counters two_ups_rows (kind.Begin 2) (Ok None) (two_ups_rows ++ Some [] ∷ []) }

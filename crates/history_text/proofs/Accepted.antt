@@ -3,8 +3,8 @@ use Rattle.std.proofs.Common.{◌≡◌, ℕ, ◌+◌, ◌<◌, ◌≤◌, true,
 use Rattle.std.specs.List.{AllByRecursion}
 use Rattle.std.proofs.lemmas.Bool.{lt-ltb, lt-leb, le-leb}
 use Rattle.std.proofs.lemmas.List.Sums.{sum_by-append, sum_by-cons}
-use Rattle.type_table.proofs.Elements.{each-append}
-use Rattle.line_text.specs.Rules.{has_stood}
+use Rattle.type_table.proofs.Elements.{each-append, none_any}
+use Rattle.line_text.specs.Rules.{was_read}
 use Rattle.line_text.specs.Accepted.{HasPassed, IsAccepted}
 use Rattle.object_trait.specs.declared.event.Event.{Event}
 use Rattle.store_text.specs.Body.{store_rules, rank_of}
@@ -12,10 +12,9 @@ use Rattle.store_text.specs.declared.line.Line.TheVariants.{End}
 use Rattle.store_text.specs.declared.line.ObjectLine.{ObjectLine}
 use Rattle.history_text.specs.Events.{events, line_of, is_in_range}
 use Rattle.history_text.specs.Canonical.{object_line, event_line, canonical_lines, AreInRange}
-use Rattle.history_text.proofs.Taken.{never}
 use Rattle.history_text.proofs.Follows.{HistoryLine, count, AreUpTo, Follow, follow_append, accepted_with_end, not_late, not_late_single, ascending}
 
--- one more line behind others
+-- one more line after others
 count-push : (rank : ℕ) (before : List HistoryLine) (x : HistoryLine) → count rank (before ++ x ∷ []) ≡ count rank before + cond (eqb (rank_of x) rank) 1 0
 count-push rank before x =
     let test : HistoryLine → ℕ = λ y. cond (eqb (rank_of y) rank) 1 0 in
@@ -38,7 +37,7 @@ object_passes before o low room fit = record {
   in_range = le-leb o.file 255 fit;
   has_room = lt-leb 256 (count 1 before) room;
   ascending = ascending before (object_line o);
-  no_twin = never before;
+  no_twin = none_any before;
 }
 
 -- so do all
@@ -55,42 +54,42 @@ objects_follow before (o ∷ objects) low room fit =
 -- ---- events
 
 -- the line of an event passes
-event_passes : (before : List HistoryLine) (e : Event) → AreUpTo 2 before → has_stood (store_rules events) before 1 ≡ true → count 2 before < 1000000
+event_passes : (before : List HistoryLine) (e : Event) → AreUpTo 2 before → was_read (store_rules events) before 1 ≡ true → count 2 before < 1000000
     → is_in_range (line_of e) ≡ true → HasPassed (store_rules events) before (event_line e)
-event_passes before e low stood room fit = record {
+event_passes before e low is_read room fit = record {
   in_order = not_late before (event_line e) low refl;
-  lacks_none = rw stood refl;
+  lacks_none = rw is_read refl;
   misses_none = refl;
   in_range = fit;
   has_room = lt-leb 1000000 (count 2 before) room;
   ascending = ascending before (event_line e);
-  no_twin = never before;
+  no_twin = none_any before;
 }
 
 -- so do all
 events_follow : (before : List HistoryLine) (happened : List Event) → AreUpTo 2 before → 0 < count 1 before → count 2 before + length happened ≤ 1000000
     → AllByRecursion (λ e. is_in_range (line_of e) ≡ true) happened → Follow before (map event_line happened)
-events_follow before [] low stood room fit = tt
-events_follow before (e ∷ happened) low stood room fit =
+events_follow before [] low is_read room fit = tt
+events_follow before (e ∷ happened) low is_read room fit =
     let next = before ++ event_line e ∷ [] in
     let more : count 2 next ≡ count 2 before + 1 = count-push 2 before (event_line e) in (
-      event_passes before e low (lt-ltb 0 (count 1 before) stood) (omega (arith, room)) fit.0,
-      events_follow next happened (each-append (λ x. rank_of x ≤ 2) before (event_line e ∷ []) low (omega arith, tt)) (omega (arith, stood, count-more 1 before (event_line e))) (omega (arith, more, room)) fit.1,
+      event_passes before e low (lt-ltb 0 (count 1 before) is_read) (omega (arith, room)) fit.0,
+      events_follow next happened (each-append (λ x. rank_of x ≤ 2) before (event_line e ∷ []) low (omega arith, tt)) (omega (arith, is_read, count-more 1 before (event_line e))) (omega (arith, more, room)) fit.1,
     )
 
 -- ---- `end`
 
 end_passes : (before : List HistoryLine) → AreUpTo 2 before → 0 < count 1 before → HasPassed (store_rules events) before End
 end_passes before low some =
-    let stood : has_stood (store_rules events) before 1 ≡ true = lt-ltb 0 (count 1 before) some in
+    let is_read : was_read (store_rules events) before 1 ≡ true = lt-ltb 0 (count 1 before) some in
     record {
       in_order = not_late_single before low;
-      lacks_none = rw stood refl;
+      lacks_none = rw is_read refl;
       misses_none = refl;
       in_range = refl;
       has_room = refl;
       ascending = ascending before End;
-      no_twin = never before;
+      no_twin = none_any before;
     }
 
 -- ---- all together

@@ -1,12 +1,12 @@
--- Lines that pass their tests one behind the other.
+-- Lines that pass their tests one after the other.
 use Rattle.std.proofs.Common.{◌≡◌, ℕ, zero, suc, ◌≤◌, true, false, cond, not, ◌&&◌, eqb, ltb, List, [], ◌∷◌, ◌++◌, length, take, Option, Some, None, refl, sym, ap, subst, ◌∙◌, arith, append_assoc}
 use Rattle.std.specs.List.{AllByRecursion, slice_get, sum_by}
 use Rattle.std.proofs.lemmas.Bool.{lt-ltb, le-ltb, ne_eqb, or_from, or_right, and_left}
 use Rattle.std.proofs.lemmas.List.{append-nil, length-append, take-append-le}
 use Rattle.std.proofs.lemmas.List.Sums.{sum_by-append, sum_by-cons}
 use Rattle.std.proofs.lemmas.Option.{none-some, same_Some}
-use Rattle.type_table.proofs.Elements.{each-found}
-use Rattle.line_text.specs.Rules.{has_stood, last_item}
+use Rattle.type_table.proofs.Elements.{each-found, each-take}
+use Rattle.line_text.specs.Rules.{was_read, last_item}
 use Rattle.line_text.specs.LineTests.{item_fault, is_late, is_single, ascends}
 use Rattle.line_text.specs.Accepted.{HasPassed, IsAccepted}
 use Rattle.store_text.specs.Body.{store_rules, rank_of, sections}
@@ -14,7 +14,6 @@ use Rattle.store_text.specs.declared.line.Line.{Line}
 use Rattle.store_text.specs.declared.line.Line.TheVariants.{End}
 use Rattle.history_text.specs.declared.event_line.EventLine.{EventLine}
 use Rattle.history_text.specs.Events.{events}
-use Rattle.history_text.proofs.Taken.{all_take}
 
 -- a line of a history
 abbrev pub HistoryLine : Type 0
@@ -28,7 +27,7 @@ count rank lines = sum_by (λ x. cond (eqb (rank_of x) rank) 1 0) lines
 abbrev pub AreUpTo : ℕ → List HistoryLine → Type 0
 AreUpTo rank lines = AllByRecursion (λ x. rank_of x ≤ rank) lines
 
--- each of these lines passes its tests behind the lines before and those in front of it
+-- each of these lines passes its tests after all lines before it
 abbrev pub Follow : List HistoryLine → List HistoryLine → Type 0
 Follow before [] = Unit {0}
 Follow before (x ∷ xs) = HasPassed (store_rules events) before x × Follow (before ++ x ∷ []) xs
@@ -64,17 +63,17 @@ accepted_with_end lines low h = record {
   each = λ n x at. no_fault (take n (lines ++ End ∷ [])) x (follow_at [] (lines ++ End ∷ []) n x h at);
   before_end = λ n below.
       let within : n ≤ length lines = omega (arith, below, length-append lines (End ∷ [])) in
-      ap (λ front. has_stood (store_rules events) front 3) (take-append-le n lines (End ∷ []) within) ∙ ap (ltb 0) (no_ends (take n lines) (all_take (λ x. rank_of x ≤ 2) lines n low));
+      ap (λ front. was_read (store_rules events) front 3) (take-append-le n lines (End ∷ []) within) ∙ ap (ltb 0) (no_ends (take n lines) (each-take (λ x. rank_of x ≤ 2) n lines low));
   has_ended = lt-ltb 0 (count 3 (lines ++ End ∷ [])) (omega (arith, sum_by-append (λ x. cond (eqb (rank_of x) 3) 1 0) lines (End ∷ [])));
 }
 
--- ---- tests behind lines of no higher rank
+-- ---- tests after lines of no higher rank
 
 -- the last of lines of no rank above this one
 last_low : (rank : ℕ) (before : List HistoryLine) (y : HistoryLine) → AreUpTo rank before → last_item before ≡ Some y → rank_of y ≤ rank
 last_low rank before y h at = each-found (λ x. rank_of x ≤ rank) before _ y h at
 
--- a line behind lines of no higher rank isn't late, where its section may have several lines
+-- a line after lines of no higher rank isn't late, where its section may have several lines
 pub not_late : (before : List HistoryLine) (x : HistoryLine) → AreUpTo (rank_of x) before → is_single (slice_get (sections false) (rank_of x)) ≡ false
     → is_late (store_rules events) (last_item before) x ≡ false
 not_late before x h several = by_last (last_item before) (λ y at. last_low (rank_of x) before y h at)
@@ -89,7 +88,7 @@ not_late before x h several = by_last (last_item before) (λ y at. last_low (ran
         and_false true = refl
         and_false false = refl
 
--- nor is one behind lines of lower ranks
+-- nor is one after lines of lower ranks
 pub not_late_single : (before : List HistoryLine) → AreUpTo 2 before → is_late (store_rules events) (last_item before) End ≡ false
 not_late_single before h = by_last (last_item before) (λ y at. last_low 2 before y h at)
   where

@@ -1,4 +1,3 @@
-pub mod Taken
 pub mod Writing
 pub mod Follows
 pub mod Accepted

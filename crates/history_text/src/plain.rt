@@ -9,7 +9,7 @@ use line_text::number_before;
 use object_trait::Event;
 
 /// Keeps the event of a text's first line, where that is a plain one whose numbers are in range and there
-/// is room for it, and gives what is behind it.
+/// is room for it, and gives what comes after it.
 #[inline(always)]
 pub fn keep_plain<'a>(kept: &mut Vec<Event>, text: &'a [u8]) -> Option<&'a [u8]>
     ensures items { MatchOption result
@@ -57,7 +57,7 @@ fn keep_rarer<'a>(kept: &mut Vec<Event>, text: &'a [u8]) -> Option<&'a [u8]>
     }
 }
 
-/// Puts the event of a line whose numbers are in range behind the others.
+/// Puts the event of a line whose numbers are in range after the others.
 #[inline(always)]
 fn keep(kept: &mut Vec<Event>, line: EventLine) -> Option<()>
     requires { vec_len kept.old < vec_capacity kept.old }

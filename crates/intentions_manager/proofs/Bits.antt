@@ -1,13 +1,12 @@
 -- Words with the bits of entries' operations.
-use Rattle.std.proofs.Common.{◌≡◌, ℕ, ◌<◌, ◌≤◌, Bool, false, not, ◌&&◌, ◌==◌, eqb, List, [], ◌∷◌, ◌++◌, length, get_or, None, bit_and, All, refl, sym, ap, ◌∙◌, arith, ◌+◌, take, Some, slice_get, subst}
+use Rattle.std.proofs.Common.{◌≡◌, ℕ, ◌<◌, ◌≤◌, Bool, not, ◌&&◌, ◌==◌, eqb, List, [], ◌∷◌, ◌++◌, length, get_or, None, bit_and, All, sym, ap, ◌∙◌, arith, ◌+◌, take, Some, slice_get, subst}
 use Rattle.std.specs.Int.{bit_at}
 use Rattle.std.specs.List.{find}
 use Rattle.std.proofs.lemmas.Bool.{and_right}
 use Rattle.std.proofs.lemmas.List.{take_all}
 use Rattle.std.proofs.lemmas.Option.{slice_get-get_or}
-use Rattle.type_table.proofs.Elements.{take-found}
-use Rattle.std.proofs.lemmas.List.Elements.{All-push, All-weaker, All-head, All-tail}
-use Rattle.std.proofs.lemmas.Nat.Bits.{bit_at_and, bit_at-zero}
+use Rattle.type_table.proofs.Elements.{take-found, find_none, bits_apart}
+use Rattle.std.proofs.lemmas.List.Elements.{All-push, All-weaker}
 use Rattle.type_table.specs.ConflictTable.{conflicts}
 use Rattle.object_trait.specs.declared.log_entry.LogEntry.{LogEntry}
 use Rattle.intentions_manager.specs.Kept.{HasBits}
@@ -32,15 +31,6 @@ bits-all word log seen same i past bits =
     let end : length log ≤ i = subst (λ (xs : List LogEntry). length xs ≤ i) same past in
     subst (HasBits word) (take_all i log end) bits
 
--- what is in one of two words that have no bit in common isn't in the other
-unmarked : (row word k : ℕ) → bit_and row word ≡ 0 → bit_at word k ≡ 1 → bit_at row k ≡ 0
-unmarked row word k apart marked =
-    let e = sym (bit_at_and row word k) ∙ ap (λ n. bit_at n k) apart ∙ bit_at-zero k in omega (arith, e, marked)
-
-find_none : {X : Type 0} (p : X → Bool) (xs : List X) → All (λ x. p x ≡ false) xs → find p xs ≡ None
-find_none p [] none = refl
-find_none p (x ∷ xs) none = rw (All-head (λ y. p y ≡ false) x xs none) (find_none p xs (All-tail (λ y. p y ≡ false) x xs none))
-
 -- where the row of k and the word have no bit in common, no entry keeps another from k
 pub no-conflict : (rows : List (List Bool)) (t k row word : ℕ) (log : List LogEntry) → ((q : ℕ) → q < length rows → eqb (bit_at row q) 1 ≡ conflicts rows k q) → length rows ≤ 64
     → bit_and row word ≡ 0 → All (λ (e : LogEntry). e.op < length rows) log → HasBits word log → find (λ (e : LogEntry). not (e.by == t) && conflicts rows k e.op) log ≡ None
@@ -48,5 +38,5 @@ no-conflict rows t k row word log shows few apart within bits =
     find_none (λ (e : LogEntry). not (e.by == t) && conflicts rows k e.op) log
     (λ i d i_in. let e : LogEntry = get_or log i d in
     let low = within i d i_in in
-    let clear = unmarked row word e.op apart (bits i d i_in (omega (arith, low, few))) in
+    let clear = bits_apart row word e.op apart (bits i d i_in (omega (arith, low, few))) in
     and_right (not (e.by == t)) (conflicts rows k e.op) (sym (shows e.op low) ∙ ap (λ b. eqb b 1) clear))

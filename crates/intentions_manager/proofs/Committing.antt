@@ -6,7 +6,7 @@ use Rattle.std.proofs.lemmas.List.{nil_from_length}
 use Rattle.type_table.specs.Table.{Table}
 use Rattle.type_table.specs.Run.{run, IsLegal, AreEqui}
 use Rattle.type_table.specs.Laws.{RunsAlong, EquiExtends, EndsInside, EndsWithin}
-use Rattle.type_table.proofs.Elements.{each-filter}
+use Rattle.type_table.proofs.Elements.{each-filter, each-map}
 use Rattle.type_table.proofs.Legal.{equi-turned}
 use Rattle.object_trait.specs.Orders.{Pairs}
 use Rattle.object_trait.specs.Strike.{keep_first}
@@ -14,15 +14,17 @@ use Rattle.object_trait.specs.Meaning.{Meaning, object, ops_of, is_open_of, open
 use Rattle.object_trait.specs.Steps.{IsCommitBy, IsCommit}
 use Rattle.object_trait.specs.Laws.{KeepsFirst, KeepsNone, KeepsParts, KeepsOthers, OpensCommute, SoundAfterCommit}
 use Rattle.object_trait.specs.declared.log_entry.LogEntry.{LogEntry}
-use Rattle.intentions_manager.specs.Views.{owners, bare, seen_by, without_view}
+use Rattle.object_trait.proofs.Leaving.{others-stay, own-left, each-left}
+use Rattle.object_trait.proofs.Rows.{ordered-dropped}
+use Rattle.object_trait.proofs.Striking.{keep_first-length}
+use Rattle.intentions_manager.specs.Views.{owner, owners, bare, seen_by, without_view}
 use Rattle.intentions_manager.specs.Walk.{walked, carried, FitsTable}
-use Rattle.intentions_manager.specs.Kept.{IsView, IsKept}
+use Rattle.intentions_manager.specs.Kept.{IsView, IsKeptDeferred}
 use Rattle.intentions_manager.specs.declared.views.View.{View}
-use Rattle.intentions_manager.proofs.Cutting.{cut-kept, behind_all, length-keep_first}
-use Rattle.intentions_manager.proofs.Seeing.{seen-dropped_other, each-map, ordered-dropped}
+use Rattle.intentions_manager.proofs.Cutting.{cut-kept, behind_all}
+use Rattle.intentions_manager.proofs.Seeing.{seen-dropped_other}
 use Rattle.intentions_manager.proofs.Walking.{walk_view, walk-run, carried-map}
 use Rattle.intentions_manager.proofs.Keeping.{deferred-covered, equi-same, view-bare, seen-count}
-use Rattle.intentions_manager.proofs.Leaving.{others-stay, own-left, ops-left}
 
 -- the laws that a commit uses
 pub record CommitLaws : Type 0 where
@@ -40,7 +42,7 @@ pub record CommitLaws : Type 0 where
 -- ---- another's view
 
 -- carried on by t's operations, it is equieffective to the run of its own from t's view
-equi-carried : CommitLaws → {m : Meaning} {views : List View} (t u : ℕ) → IsKept m views → eqb t u ≡ false →
+equi-carried : CommitLaws → {m : Meaning} {views : List View} (t u : ℕ) → IsKeptDeferred m views → eqb t u ≡ false →
     let T = m.checked.file.table in let mine = ops_of (open_of t m.log) in let theirs = ops_of (open_of u m.log) in
     IsLegal T (Some (seen_by u m.base views).state) mine
     × AreEqui T (run T (Some (seen_by u m.base views).state) mine) (run T (Some (seen_by t m.base views).state) theirs)
@@ -68,7 +70,7 @@ equi-carried laws {m} {views} t u h differ =
     )
 
 -- so it is what may be shown, from t's view as base
-view-carried : CommitLaws → {m : Meaning} {views : List View} (t u : ℕ) (log part : List LogEntry) → IsKept m views → eqb t u ≡ false → open_of u log ≡ open_of u m.log → open_of t part ≡ open_of t m.log →
+view-carried : CommitLaws → {m : Meaning} {views : List View} (t u : ℕ) (log part : List LogEntry) → IsKeptDeferred m views → eqb t u ≡ false → open_of u log ≡ open_of u m.log → open_of t part ≡ open_of t m.log →
     IsView (object m) (seen_by t m.base views).state log u (walk_view m.checked.file.table t part (seen_by u m.base views))
 view-carried laws {m} {views} t u log part h differ same all =
     let T = m.checked.file.table in
@@ -110,7 +112,7 @@ seen-committed T t part new (v ∷ views) =
       | inr isnt ↦ simp isnt (seen-committed T t part new views)
     ]
 
-view-committed : CommitLaws → {m : Meaning} {views : List View} (t : ℕ) (log part : List LogEntry) → IsKept m views → ((u : ℕ) → eqb t u ≡ false → open_of u log ≡ open_of u m.log) → open_of t log ≡ [] →
+view-committed : CommitLaws → {m : Meaning} {views : List View} (t : ℕ) (log part : List LogEntry) → IsKeptDeferred m views → ((u : ℕ) → eqb t u ≡ false → open_of u log ≡ open_of u m.log) → open_of t log ≡ [] →
     open_of t part ≡ open_of t m.log → (u : ℕ) →
     IsView (object m) (seen_by t m.base views).state log u (seen_by u (seen_by t m.base views).state (map (walk_view m.checked.file.table t part) (without_view t views)))
 view-committed laws {m} {views} t log part h same none all u =
@@ -145,7 +147,7 @@ pub record IsCommitted (m : Meaning) (views : List View) (t from : ℕ) (w : Vie
   pub fit : All (FitsTable m.checked.file.table) new
 
 -- none of t's entries are left
-nothing-left : CommitLaws → {m : Meaning} {views : List View} {t from : ℕ} {w : View} {log : List LogEntry} {new : List View} → IsKept m views → IsCommitted m views t from w log new → log ≡ keep_first (is_open_of t) 0 m.log
+nothing-left : CommitLaws → {m : Meaning} {views : List View} {t from : ℕ} {w : View} {log : List LogEntry} {new : List View} → IsKeptDeferred m views → IsCommitted m views t from w log new → log ≡ keep_first (is_open_of t) 0 m.log
 nothing-left laws {m} {views} {t} {from} {w} {log} {new} h done =
     let count = seen-count t w h done.seen in
     let none : length (open_of t m.log) - w.count ≡ 0 = omega arith in
@@ -161,7 +163,7 @@ seen-base t base (v ∷ views) some none =
     ]
 
 -- where t has none, its view is base
-base-still : {m : Meaning} {views : List View} {t from : ℕ} {w : View} {log : List LogEntry} {new : List View} → IsKept m views → IsCommitted m views t from w log new → open_of t m.log ≡ [] → w.state ≡ m.base
+base-still : {m : Meaning} {views : List View} {t from : ℕ} {w : View} {log : List LogEntry} {new : List View} → IsKeptDeferred m views → IsCommitted m views t from w log new → open_of t m.log ≡ [] → w.state ≡ m.base
 base-still {m} {views} {t} {from} {w} {log} {new} h done none =
     let count : w.count ≡ 0 = seen-count t w h done.seen ∙ ap length none in
     ap (λ (v : View). v.state) done.seen ∙ seen-base t m.base views h.some (ap (λ (v : View). v.count) (sym done.seen) ∙ count)
@@ -170,7 +172,7 @@ base-still {m} {views} {t} {from} {w} {log} {new} h done none =
 abbrev pub committed : Meaning → View → List LogEntry → Meaning
 committed m w log = record m { base = w.state; log = log }
 
-pub committed-commits : CommitLaws → {m : Meaning} {views : List View} {t from : ℕ} {w : View} {log : List LogEntry} {new : List View} → IsKept m views → IsCommitted m views t from w log new → IsCommit m t (committed m w log)
+pub committed-commits : CommitLaws → {m : Meaning} {views : List View} {t from : ℕ} {w : View} {log : List LogEntry} {new : List View} → IsKeptDeferred m views → IsCommitted m views t from w log new → IsCommit m t (committed m w log)
 committed-commits laws {m} {views} {t} {from} {w} {log} {new} h done =
     let o = object m in
     let shown = subst (λ v. IsView o m.base m.log t v) (sym done.seen) (h.seen t) in
@@ -186,7 +188,7 @@ owners-carried : (T : Table) (t : ℕ) (part : List LogEntry) (views : List View
 owners-carried T t part [] = refl
 owners-carried T t part (v ∷ views) = ap (λ rest. v.by ∷ rest) (owners-carried T t part views)
 
-pub committed-kept : CommitLaws → {m : Meaning} {views : List View} {t from : ℕ} {w : View} {log : List LogEntry} {new : List View} → IsKept m views → IsCommitted m views t from w log new → IsKept (committed m w log) new
+pub committed-kept : CommitLaws → {m : Meaning} {views : List View} {t from : ℕ} {w : View} {log : List LogEntry} {new : List View} → IsKeptDeferred m views → IsCommitted m views t from w log new → IsKeptDeferred (committed m w log) new
 committed-kept laws {m} {views} {t} {from} {w} {log} {new} h done =
     let T = m.checked.file.table in
     let o = object m in
@@ -199,20 +201,20 @@ committed-kept laws {m} {views} {t} {from} {w} {log} {new} h done =
     let seen = view-committed laws t log part h (λ u differ. others-stay laws.others t u 0 m.log log left differ) (own-left laws.first t 0 m.log log left) all in
     let shown = h.seen t in
     let room = h.room in
-    let long : length log ≤ length m.log = subst (λ V. length V ≤ length m.log) (sym left) (length-keep_first (is_open_of t) 0 m.log) in
+    let long : length log ≤ length m.log = subst (λ V. length V ≤ length m.log) (sym left) (keep_first-length (is_open_of t) 0 m.log) in
     record {
       deferred = h.deferred;
       table = h.table;
       covered = h.covered;
       base_fits = subst (λ s. s < T.states) base shown.fits;
-      ops_fit = ops-left t 0 (length T.ops) m.log log left h.ops_fit;
+      ops_fit = each-left (λ (e : LogEntry). e.op < length T.ops) t 0 m.log log left h.ops_fit;
       room = omega arith;
       sound = laws.sound_after m (committed m w log) t h.covered h.sound (committed-commits laws h done);
       seen = λ u. subst (λ V. IsView o w.state log u (seen_by u w.state V)) (sym on) (subst (λ s. IsView o s log u (seen_by u s (map (walk_view T t part) (without_view t views)))) base (seen u));
       fit = done.fit;
       some =
           subst (λ V. AllByRecursion (λ (v : View). 0 < v.count) V) (sym on)
-          (each-map (λ (v : View). 0 < v.count) (walk_view T t part) (λ v some. some) (without_view t views) (each-filter (λ (v : View). 0 < v.count) (λ v. not (eqb v.by t)) views h.some));
+          (each-map (λ (v : View). 0 < v.count) (walk_view T t part) (without_view t views) (each-filter (λ (v : View). 0 < v.count) (λ v. not (eqb v.by t)) views h.some));
       ordered =
-          subst (λ V. Pairs (λ a b. a < b) V) (sym (ap owners on ∙ owners-carried T t part (without_view t views))) (ordered-dropped (λ v. not (eqb v.by t)) views h.ordered);
+          subst (λ V. Pairs (λ a b. a < b) V) (sym (ap owners on ∙ owners-carried T t part (without_view t views))) (ordered-dropped owner (λ (v : View). not (eqb v.by t)) views h.ordered);
     }

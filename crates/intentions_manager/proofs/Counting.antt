@@ -1,25 +1,15 @@
 -- As many views as open transactions.
-use Rattle.std.proofs.Common.{◌≡◌, ℕ, ◌<◌, ◌≤◌, false, eqb, ltb, List, [], ◌∷◌, length, refl, sym, ap, ◌∙◌, inl, inr, arith}
+use Rattle.std.proofs.Common.{◌≡◌, ℕ, ◌<◌, ◌≤◌, eqb, ltb, List, [], ◌∷◌, length, refl, sym, ap, ◌∙◌, inl, inr}
 use Rattle.std.specs.List.{list_any, AllByRecursion}
-use Rattle.std.proofs.lemmas.Bool.{cases_Bool, ne_eqb, lt-ltb}
+use Rattle.std.proofs.lemmas.Bool.{cases_Bool, lt-ltb}
 use Rattle.std.proofs.lemmas.List.{length-map}
 use Rattle.object_trait.specs.Laws.{OpensAreCounted}
 use Rattle.object_trait.specs.Meaning.{open_of}
-use Rattle.object_trait.specs.Orders.{Pairs}
 use Rattle.object_trait.specs.Steps.{open_transactions}
 use Rattle.object_trait.specs.declared.log_entry.LogEntry.{LogEntry}
+use Rattle.object_trait.proofs.Rows.{ordered-differ}
 use Rattle.intentions_manager.specs.Views.{owners, AreOrdered, seen_by}
 use Rattle.intentions_manager.specs.declared.views.View.{View}
-
--- a smaller number differs from each of these
-smaller-differs : (x : ℕ) (xs : List ℕ) → AllByRecursion (λ y. x < y) xs → AllByRecursion (λ y. eqb y x ≡ false) xs
-smaller-differs x [] each = tt
-smaller-differs x (y ∷ xs) each = let below = each.0 in (ne_eqb y x (λ e. omega (arith, below, e)), smaller-differs x xs each.1)
-
--- of ordered numbers each differs from each later one
-ordered-differ : (xs : List ℕ) → Pairs (λ a b. a < b) xs → Pairs (λ a b. eqb b a ≡ false) xs
-ordered-differ [] ordered = tt
-ordered-differ (x ∷ xs) ordered = (smaller-differs x xs ordered.0, ordered-differ xs ordered.1)
 
 -- who sees entries has a view, and nobody else
 owner-holds : (u base : ℕ) (views : List View) → AllByRecursion (λ (v : View). 0 < v.count) views → list_any (λ t. eqb t u) (owners views) ≡ ltb 0 (seen_by u base views).count

@@ -1,13 +1,14 @@
 -- A transaction's entries in a log, from the back: those that stay where the last of them are taken out.
-use Rattle.std.proofs.Common.{◌≡◌, ℕ, zero, suc, ◌+◌, ◌-◌, ◌<◌, ◌≤◌, Bool, true, false, not, List, [], ◌∷◌, ◌++◌, length, get_or, take, drop, set, All, refl, sym, ap, subst, ◌∙◌, inl, inr, arith}
+use Rattle.std.proofs.Common.{◌≡◌, ℕ, ◌+◌, ◌-◌, ◌<◌, ◌≤◌, Bool, true, false, not, List, [], ◌∷◌, ◌++◌, length, get_or, take, drop, set, refl, sym, ap, ◌∙◌, arith}
 use mir.Val.{bool_byte}
-use Rattle.std.specs.List.{filter, AllByRecursion}
-use Rattle.std.proofs.lemmas.Bool.{cases_Bool}
-use Rattle.std.proofs.lemmas.List.{drop_more, drop-drop, take_more, take_more_set, take-set, drop-set-lt, append-nil, append_assoc, take-append-drop, length-append, length-drop, length-set, get_or-drop, nil_from_length}
+use Rattle.std.specs.List.{filter}
+use Rattle.std.proofs.lemmas.List.{drop-drop, take_more, take_more_set, take-set, drop-set-lt, append-nil, append_assoc, take-append-drop, length-append, length-drop, length-set, get_or-drop, nil_from_length}
 use Rattle.std.proofs.lemmas.List.Elements.{filter-append}
+use Rattle.type_table.proofs.Elements.{same_there}
 use Rattle.object_trait.specs.Strike.{keep_first}
 use Rattle.object_trait.specs.Laws.{KeepsNone, KeepsParts}
 use Rattle.object_trait.specs.declared.log_entry.LogEntry.{LogEntry}
+use Rattle.object_trait.proofs.Striking.{keep_first-all}
 
 -- ---- a loop that takes them out
 
@@ -19,21 +20,7 @@ pub record IsCut (mine : LogEntry → Bool) (from : ℕ) (old new : List LogEntr
   pub begun : from ≤ i
   pub long : length new ≡ length old
 
--- the element at i is still the old one
-same_there : (old new : List LogEntry) (i : ℕ) (e : LogEntry) → drop i new ≡ drop i old → e ≡ get_or new i e → e ≡ get_or old i e
-same_there old new i e rest read =
-    let at : i + 0 ≡ i = omega arith in
-    read ∙ sym (ap (λ n. get_or new n e) at) ∙ sym (get_or-drop i new 0 e) ∙ ap (λ xs. get_or xs 0 e) rest ∙ get_or-drop i old 0 e ∙ ap (λ n. get_or old n e) at
-
--- so it is the first of what is left
-pub next_there : (old new : List LogEntry) (i : ℕ) (e : LogEntry) → drop i new ≡ drop i old → i < length old → e ≡ get_or new i e → drop i old ≡ e ∷ drop (i + 1) old
-next_there old new i e rest within read = drop_more old i e within ∙ ap (λ x. x ∷ drop (i + 1) old) (sym (same_there old new i e rest read))
-
--- and each element's fact is one of it
-pub each_there : (P : LogEntry → Type 0) (old new : List LogEntry) (i : ℕ) (e : LogEntry) → All P old → drop i new ≡ drop i old → i < length old → e ≡ get_or new i e → P e
-each_there P old new i e all rest within read = subst P (sym (same_there old new i e rest read)) (all i e within)
-
--- one more element of the list behind the place
+-- one more element of the list after the place
 taken_more : (from i : ℕ) (old : List LogEntry) (e : LogEntry) → from ≤ i → i < length old → e ≡ get_or old i e → take (i + 1 - from) (drop from old) ≡ take (i - from) (drop from old) ++ e ∷ []
 taken_more from i old e begun within read =
     let long : length (drop from old) ≡ length old - from = length-drop from old in
@@ -82,15 +69,6 @@ cut_more mine from old new kept i stays e cut within read told =
 
 -- ---- what is left
 
--- the first of mine, as many as there are, are all of them
-kept_all : (mine : LogEntry → Bool) (V : List LogEntry) → keep_first mine (length (filter mine V)) V ≡ V
-kept_all mine [] = refl
-kept_all mine (e ∷ V) =
-    elim (cases_Bool (mine e)) [
-      | inl is ↦ rw is (ap (λ rest. e ∷ rest) (kept_all mine V))
-      | inr isnt ↦ rw isnt (ap (λ rest. e ∷ rest) (kept_all mine V))
-    ]
-
 -- mine are those of the front and those of the rest
 mine_parted : (mine : LogEntry → Bool) (i : ℕ) (log : List LogEntry) → filter mine log ≡ filter mine (take i log) ++ filter mine (drop i log)
 mine_parted mine i log = ap (filter mine) (sym (take-append-drop i log)) ∙ filter-append mine (take i log) (drop i log)
@@ -107,44 +85,13 @@ cut-kept none parts mine log i m counted =
     ap (keep_first mine n) (sym (take-append-drop i log)) ∙ parts mine n (take i log) (drop i log) in
     rw left
     (sym
-    (halves ∙ ap (λ V. V ++ keep_first mine (n - n) (drop i log)) (kept_all mine (take i log)) ∙ ap (λ k. take i log ++ keep_first mine k (drop i log)) nothing
+    (halves ∙ ap (λ V. V ++ keep_first mine (n - n) (drop i log)) (keep_first-all mine (take i log)) ∙ ap (λ k. take i log ++ keep_first mine k (drop i log)) nothing
     ∙ ap (λ V. take i log ++ V) (none mine (drop i log))))
 
--- where as many of mine are behind a place as there are, these are all of mine
+-- where as many of mine are after a place as there are, these are all of mine
 pub behind_all : (mine : LogEntry → Bool) (log : List LogEntry) (i : ℕ) → length (filter mine (drop i log)) ≡ length (filter mine log) → filter mine (drop i log) ≡ filter mine log
 behind_all mine log i counted =
     let all : length (filter mine log) ≡ length (filter mine (take i log)) + length (filter mine (drop i log)) =
     ap length (mine_parted mine i log) ∙ length-append (filter mine (take i log)) (filter mine (drop i log)) in
     let before : filter mine (take i log) ≡ [] = nil_from_length (filter mine (take i log)) (omega arith) in
     sym (mine_parted mine i log ∙ ap (λ V. V ++ filter mine (drop i log)) before)
-
--- a fact of each element is one of each that is left
-pub each-keep_first : (P : LogEntry → Type 0) (mine : LogEntry → Bool) (n : ℕ) (V : List LogEntry) → AllByRecursion P V → AllByRecursion P (keep_first mine n V)
-each-keep_first P mine n [] each = tt
-each-keep_first P mine zero (e ∷ V) each =
-    elim (cases_Bool (mine e)) [
-      | inl is ↦ rw is (each-keep_first P mine zero V each.1)
-      | inr isnt ↦ rw isnt (each.0, each-keep_first P mine zero V each.1)
-    ]
-each-keep_first P mine (suc n) (e ∷ V) each =
-    elim (cases_Bool (mine e)) [
-      | inl is ↦ rw is (each.0, each-keep_first P mine n V each.1)
-      | inr isnt ↦ rw isnt (each.0, each-keep_first P mine (suc n) V each.1)
-    ]
-
--- no more are left than there were
-pub length-keep_first : (mine : LogEntry → Bool) (n : ℕ) (V : List LogEntry) → length (keep_first mine n V) ≤ length V
-length-keep_first mine n [] = omega arith
-length-keep_first mine zero (e ∷ V) =
-    let rest = length-keep_first mine zero V in
-    elim (cases_Bool (mine e)) [
-      | inl is ↦ rw is (omega arith)
-      | inr isnt ↦ rw isnt (omega arith)
-    ]
-length-keep_first mine (suc n) (e ∷ V) =
-    let rest = length-keep_first mine (suc n) V in
-    let less = length-keep_first mine n V in
-    elim (cases_Bool (mine e)) [
-      | inl is ↦ rw is (omega arith)
-      | inr isnt ↦ rw isnt (omega arith)
-    ]

@@ -1,28 +1,30 @@
 -- What a manager keeps, and that a further operation keeps it.
-use Rattle.std.proofs.Common.{◌≡◌, ◌↔◌, ℕ, ◌+◌, ◌<◌, true, false, not, eqb, ◌&&◌, List, [], ◌∷◌, ◌++◌, length, Option, Some, refl, sym, ap, subst, ◌∙◌, inl, inr, arith}
-use Rattle.std.specs.List.{filter}
+use Rattle.std.proofs.Common.{◌≡◌, ◌↔◌, ℕ, ◌+◌, ◌<◌, true, false, eqb, List, [], ◌∷◌, ◌++◌, length, Option, Some, refl, sym, ap, subst, ◌∙◌, inl, inr, arith}
 use Rattle.std.specs.Option.{is_some}
-use Rattle.std.proofs.lemmas.Bool.{cases_Bool, eqb-true, eq-eqb}
-use Rattle.std.proofs.lemmas.List.{append-nil, map-append, length_push}
-use Rattle.std.proofs.lemmas.List.Elements.{filter-append, All-push, All-from_recursion, recursion_from_All}
+use Rattle.std.proofs.lemmas.Bool.{cases_Bool, eqb-true}
+use Rattle.std.proofs.lemmas.List.{map-append, length_push}
+use Rattle.std.proofs.lemmas.List.Elements.{All-push, All-from_recursion, recursion_from_All}
 use Rattle.type_table.specs.Table.{Table, next}
 use Rattle.type_table.specs.Run.{run, IsLegal, AreEqui}
 use Rattle.type_table.specs.Laws.{RunsAlong, EquiExtends, StepsWithin}
 use Rattle.type_table.specs.declared.kind.Kind.TheVariants.{Intentions}
 use Rattle.type_table.specs.Commute.{Covers}
+use Rattle.type_table.proofs.Elements.{differ_turned}
 use Rattle.type_table.specs.declared.table_kind.TableKind.TheVariants as kind
 use Rattle.object_trait.specs.Object.{Object, IsCovered, CoversBy}
-use Rattle.object_trait.specs.Meaning.{Meaning, object, ops_of, is_open_of, open_of, run_log, view_by, view_of}
+use Rattle.object_trait.specs.Meaning.{Meaning, object, ops_of, open_of, AreOpen, run_log, view_by, view_of}
 use Rattle.object_trait.specs.Sound.{IsSound, IsSoundBy, IsSoundIntentions}
 use Rattle.object_trait.specs.Steps.{IsLegalFor, MayApply, applied}
 use Rattle.object_trait.specs.Laws.{SoundAfterApply}
 use Rattle.object_trait.specs.declared.log_entry.LogEntry.{LogEntry}
-use Rattle.intentions_manager.specs.Views.{bare, seen_by, with_view}
+use Rattle.object_trait.proofs.Rows.{each-put, ordered-put}
+use Rattle.object_trait.proofs.Runs.{open-push, open-push_other}
+use Rattle.intentions_manager.specs.Views.{owner, bare, seen_by, with_view}
 use Rattle.intentions_manager.specs.Walk.{stepped, FitsTable}
-use Rattle.intentions_manager.specs.Kept.{AreOpen, IsView, IsKept}
+use Rattle.intentions_manager.specs.Kept.{IsView, IsKeptDeferred}
 use Rattle.intentions_manager.specs.declared.views.View.{View}
 use Rattle.intentions_manager.specs.declared.manager.IntentionsManager.TheInside.{Inside}
-use Rattle.intentions_manager.proofs.Seeing.{seen-put, seen-put_other, each-put, ordered-put}
+use Rattle.intentions_manager.proofs.Seeing.{seen-put, seen-put_other}
 use Rattle.intentions_manager.proofs.Walking.{some_state}
 
 -- ---- deferred update
@@ -41,7 +43,7 @@ pub deferred-view : (m : Meaning) (t : ℕ) → m.checked.kind ≡ Intentions �
 deferred-view m t deferred = ap (λ way. view_by way (object m) m.base m.log t) deferred
 
 -- all entries are open
-pub all-open : {m : Meaning} {views : List View} → IsKept m views → AreOpen m.log
+pub all-open : {m : Meaning} {views : List View} → IsKeptDeferred m views → AreOpen m.log
 all-open {m} {views} h = All-from_recursion (λ (e : LogEntry). e.done ≡ false) m.log (deferred-sound m h.deferred h.sound).all_open
 
 -- equieffective states, under other names
@@ -60,7 +62,7 @@ view-same o base old new u v same h = record {
 }
 
 -- its count is that of one's entries
-pub seen-count : {m : Meaning} {views : List View} (t : ℕ) (v : View) → IsKept m views → v ≡ seen_by t m.base views → v.count ≡ length (open_of t m.log)
+pub seen-count : {m : Meaning} {views : List View} (t : ℕ) (v : View) → IsKeptDeferred m views → v ≡ seen_by t m.base views → v.count ≡ length (open_of t m.log)
 seen-count {m} {views} t v h seen = ap (λ (x : View). x.count) seen ∙ (h.seen t).counted
 
 -- without entries one sees base
@@ -73,7 +75,7 @@ view-bare o base log u none fits inside = record {
 }
 
 -- what is legal in the state that one is shown is legal in the view, and no more
-pub legal-told : {m : Meaning} {views : List View} (t k : ℕ) → IsKept m views → (is_some (next m.checked.file.table (seen_by t m.base views).state k) ≡ true) ↔ IsLegalFor m t k
+pub legal-told : {m : Meaning} {views : List View} (t k : ℕ) → IsKeptDeferred m views → (is_some (next m.checked.file.table (seen_by t m.base views).state k) ≡ true) ↔ IsLegalFor m t k
 legal-told {m} {views} t k h =
     let equi = (h.seen t).equi in
     let same = deferred-view m t h.deferred in
@@ -82,18 +84,9 @@ legal-told {m} {views} t k h =
 
 -- ---- a further operation
 
--- the entry of t that is put behind a log
+-- the entry of t that is put after a log
 abbrev entry : ℕ → ℕ → LogEntry
 entry t k = record { by = t; op = k; done = false }
-
--- it is t's
-own-push : (t k : ℕ) (log : List LogEntry) → open_of t (log ++ entry t k ∷ []) ≡ open_of t log ++ entry t k ∷ []
-own-push t k log = filter-append (is_open_of t) log (entry t k ∷ []) ∙ ap (λ b. open_of t log ++ filter (λ (e : LogEntry). b && not e.done) (entry t k ∷ [])) (eq-eqb t t refl)
-
--- and no other's
-other-push : (t u k : ℕ) (log : List LogEntry) → eqb t u ≡ false → open_of u (log ++ entry t k ∷ []) ≡ open_of u log
-other-push t u k log differ =
-    filter-append (is_open_of u) log (entry t k ∷ []) ∙ ap (λ b. open_of u log ++ filter (λ (e : LogEntry). b && not e.done) (entry t k ∷ [])) differ ∙ append-nil (open_of u log)
 
 -- what t sees after operation k
 abbrev pub next_view : Meaning → List View → ℕ → ℕ → View
@@ -101,7 +94,7 @@ next_view m views t k =
     let v = seen_by t m.base views in
     record { by = t; state = stepped m.checked.file.table v.state k; count = v.count + 1 }
 
-view-applied : RunsAlong → EquiExtends → StepsWithin → {m : Meaning} {views : List View} (t k : ℕ) → IsKept m views → MayApply m t k →
+view-applied : RunsAlong → EquiExtends → StepsWithin → {m : Meaning} {views : List View} (t k : ℕ) → IsKeptDeferred m views → MayApply m t k →
     IsView (object m) m.base (m.log ++ entry t k ∷ []) t (next_view m views t k)
 view-applied along extends within {m} {views} t k h may =
     let T = m.checked.file.table in
@@ -113,7 +106,7 @@ view-applied along extends within {m} {views} t k h may =
     let here : IsLegal T (Some v.state) (k ∷ []) = shown.equi.1 (k ∷ []) legal in
     let there : next T v.state k ≡ Some (stepped T v.state k) = some_state T (next T v.state k) [] v.state here in
     let both = (extends T).after (Some v.state) before (k ∷ []) shown.equi here in
-    let opens = own-push t k m.log in
+    let opens = open-push m.log (entry t k) refl in
     let behind : run T before (k ∷ []) ≡ run_log o m.base (open_of t (m.log ++ entry t k ∷ [])) =
     sym (ap (run_log o m.base) opens ∙ ap (run T (Some m.base)) (map-append (λ (e : LogEntry). e.op) (open_of t m.log) (entry t k ∷ [])) ∙ along T (Some m.base) (ops_of (open_of t m.log)) (k ∷ [])) in
     record {
@@ -123,8 +116,8 @@ view-applied along extends within {m} {views} t k h may =
       counted = ap (λ n. n + 1) shown.counted ∙ sym (ap length opens ∙ length_push (open_of t m.log) (entry t k));
     }
 
-pub applied-kept : RunsAlong → EquiExtends → StepsWithin → SoundAfterApply → {m : Meaning} {views : List View} (new : List View) (t k : ℕ) → IsKept m views → MayApply m t k →
-    new ≡ with_view (next_view m views t k) views → IsKept (applied m t k) new
+pub applied-kept : RunsAlong → EquiExtends → StepsWithin → SoundAfterApply → {m : Meaning} {views : List View} (new : List View) (t k : ℕ) → IsKeptDeferred m views → MayApply m t k →
+    new ≡ with_view (next_view m views t k) views → IsKeptDeferred (applied m t k) new
 applied-kept along extends within sound_after {m} {views} new t k h may made =
     let T = m.checked.file.table in
     let o = object m in
@@ -132,7 +125,7 @@ applied-kept along extends within sound_after {m} {views} new t k h may made =
     let log = m.log ++ entry t k ∷ [] in
     let shown = view-applied along extends within t k h may in
     let room = may.room in
-    subst (λ V. IsKept (applied m t k) V) (sym made)
+    subst (λ V. IsKeptDeferred (applied m t k) V) (sym made)
     (record {
       deferred = h.deferred;
       table = h.table;
@@ -147,9 +140,9 @@ applied-kept along extends within sound_after {m} {views} new t k h may made =
                 let number : t ≡ u = eqb-true t u is in
                 subst (λ z. IsView o m.base log z (seen_by z m.base (with_view w views))) number (subst (λ v. IsView o m.base log t v) (sym (seen-put w m.base views)) shown)
             | inr isnt ↦
-                subst (λ v. IsView o m.base log u v) (sym (seen-put_other w u m.base views isnt)) (view-same o m.base m.log log u (seen_by u m.base views) (other-push t u k m.log isnt) (h.seen u))
+                subst (λ v. IsView o m.base log u v) (sym (seen-put_other w u m.base views isnt)) (view-same o m.base m.log log u (seen_by u m.base views) (open-push_other u m.log (entry t k) (differ_turned u t isnt)) (h.seen u))
           ];
-      fit = All-from_recursion (FitsTable T) (with_view w views) (each-put (FitsTable T) w views shown.fits (recursion_from_All (FitsTable T) views h.fit));
-      some = each-put (λ (v : View). 0 < v.count) w views (omega arith) h.some;
-      ordered = ordered-put w views h.ordered;
+      fit = All-from_recursion (FitsTable T) (with_view w views) (each-put owner (FitsTable T) w views shown.fits (recursion_from_All (FitsTable T) views h.fit));
+      some = each-put owner (λ (v : View). 0 < v.count) w views (omega arith) h.some;
+      ordered = ordered-put owner w views h.ordered;
     })

@@ -11,15 +11,17 @@ use Rattle.object_trait.specs.Meaning.{Meaning, object, ops_of, is_open_of, open
 use Rattle.object_trait.specs.Steps.{IsStrikeBy, Keeps}
 use Rattle.object_trait.specs.Laws.{KeepsFirst, KeepsOthers, SoundAfterStrike}
 use Rattle.object_trait.specs.declared.log_entry.LogEntry.{LogEntry}
-use Rattle.intentions_manager.specs.Views.{AreOrdered, seen_by, with_view, without_view}
+use Rattle.object_trait.proofs.Leaving.{others-stay, own-left, own-count, each-left}
+use Rattle.object_trait.proofs.Rows.{each-put, ordered-put, ordered-dropped}
+use Rattle.object_trait.proofs.Striking.{keep_first-length}
+use Rattle.intentions_manager.specs.Views.{owner, AreOrdered, seen_by, with_view, without_view}
 use Rattle.intentions_manager.specs.Walk.{walked, FitsTable}
-use Rattle.intentions_manager.specs.Kept.{IsView, IsKept}
+use Rattle.intentions_manager.specs.Kept.{IsView, IsKeptDeferred}
 use Rattle.intentions_manager.specs.declared.views.View.{View}
-use Rattle.intentions_manager.proofs.Cutting.{behind_all, length-keep_first}
-use Rattle.intentions_manager.proofs.Seeing.{seen-put, seen-put_other, seen-dropped, seen-dropped_other, each-put, ordered-put, ordered-dropped}
+use Rattle.intentions_manager.proofs.Cutting.{behind_all}
+use Rattle.intentions_manager.proofs.Seeing.{seen-put, seen-put_other, seen-dropped, seen-dropped_other}
 use Rattle.intentions_manager.proofs.Walking.{walk-run}
 use Rattle.intentions_manager.proofs.Keeping.{deferred-covered, deferred-sound, view-same, view-bare}
-use Rattle.intentions_manager.proofs.Leaving.{others-stay, own-left, own-count, ops-left}
 
 -- the laws that a strike uses
 pub record StrikeLaws : Type 0 where
@@ -32,26 +34,26 @@ abbrev pub with_log : Meaning → List LogEntry → Meaning
 with_log m log = record m { log = log }
 
 -- what is left is what a strike leaves
-pub struck-keeps : {m : Meaning} {views : List View} (t n : ℕ) (log : List LogEntry) → IsKept m views → log ≡ keep_first (is_open_of t) n m.log → Keeps m t n (with_log m log)
+pub struck-keeps : {m : Meaning} {views : List View} (t n : ℕ) (log : List LogEntry) → IsKeptDeferred m views → log ≡ keep_first (is_open_of t) n m.log → Keeps m t n (with_log m log)
 struck-keeps {m} {views} t n log h left = record {
   checked = refl;
   strike = subst (λ kind. IsStrikeBy kind (object m) m.base m.log t n m.base log) (sym h.deferred) (record { same_base = refl; rest = left });
 }
 
 -- where t sees what it may be shown, and all others see what they saw
-struck-kept : StrikeLaws → {m : Meaning} {views : List View} (new : List View) (t n : ℕ) (log : List LogEntry) → IsKept m views → log ≡ keep_first (is_open_of t) n m.log →
+struck-kept : StrikeLaws → {m : Meaning} {views : List View} (new : List View) (t n : ℕ) (log : List LogEntry) → IsKeptDeferred m views → log ≡ keep_first (is_open_of t) n m.log →
     ((u : ℕ) → eqb t u ≡ false → seen_by u m.base new ≡ seen_by u m.base views) → IsView (object m) m.base log t (seen_by t m.base new) →
-    All (FitsTable m.checked.file.table) new → AllByRecursion (λ (v : View). 0 < v.count) new → AreOrdered new → IsKept (with_log m log) new
+    All (FitsTable m.checked.file.table) new → AllByRecursion (λ (v : View). 0 < v.count) new → AreOrdered new → IsKeptDeferred (with_log m log) new
 struck-kept laws {m} {views} new t n log h left same own fit some ordered =
     let o = object m in
     let room = h.room in
-    let long : length log ≤ length m.log = subst (λ V. length V ≤ length m.log) (sym left) (length-keep_first (is_open_of t) n m.log) in
+    let long : length log ≤ length m.log = subst (λ V. length V ≤ length m.log) (sym left) (keep_first-length (is_open_of t) n m.log) in
     record {
       deferred = h.deferred;
       table = h.table;
       covered = h.covered;
       base_fits = h.base_fits;
-      ops_fit = ops-left t n (length m.checked.file.table.ops) m.log log left h.ops_fit;
+      ops_fit = each-left (λ (e : LogEntry). e.op < length m.checked.file.table.ops) t n m.log log left h.ops_fit;
       room = omega arith;
       sound = laws.sound_after m (with_log m log) t n h.covered h.sound (struck-keeps t n log h left);
       seen =
@@ -66,17 +68,17 @@ struck-kept laws {m} {views} new t n log h left same own fit some ordered =
 
 -- ---- nothing of t is left
 
-pub dropped-kept : StrikeLaws → {m : Meaning} {views : List View} (new : List View) (t n : ℕ) (log : List LogEntry) → IsKept m views → log ≡ keep_first (is_open_of t) n m.log → n ≡ 0 → new ≡ without_view t views → IsKept (with_log m log) new
+pub dropped-kept : StrikeLaws → {m : Meaning} {views : List View} (new : List View) (t n : ℕ) (log : List LogEntry) → IsKeptDeferred m views → log ≡ keep_first (is_open_of t) n m.log → n ≡ 0 → new ≡ without_view t views → IsKeptDeferred (with_log m log) new
 dropped-kept laws {m} {views} new t n log h left nothing dropped =
     let o = object m in
     let sound = deferred-sound m h.deferred h.sound in
     let none : open_of t log ≡ [] = own-left laws.first t n m.log log left ∙ ap (λ k. take k (open_of t m.log)) nothing in
     let own : IsView o m.base log t (seen_by t m.base (without_view t views)) =
     subst (λ v. IsView o m.base log t v) (sym (seen-dropped t m.base views)) (view-bare o m.base log t none h.base_fits sound.inside) in
-    subst (λ V. IsKept (with_log m log) V) (sym dropped)
+    subst (λ V. IsKeptDeferred (with_log m log) V) (sym dropped)
     (struck-kept laws (without_view t views) t n log h left (λ u differ. seen-dropped_other t u m.base views differ) own
     (All-filter (λ (v : View). not (eqb v.by t)) (FitsTable m.checked.file.table) views h.fit) (each-filter (λ (v : View). 0 < v.count) (λ v. not (eqb v.by t)) views h.some)
-    (ordered-dropped (λ v. not (eqb v.by t)) views h.ordered))
+    (ordered-dropped owner (λ (v : View). not (eqb v.by t)) views h.ordered))
 
 -- ---- something is left
 
@@ -87,7 +89,7 @@ pub record RewindLaws : Type 0 where
   pub strike : StrikeLaws
 
 -- where its entries end that are left
-view-rewound : RewindLaws → {m : Meaning} {views : List View} (t n from : ℕ) (log : List LogEntry) → IsKept m views → log ≡ keep_first (is_open_of t) n m.log → n ≤ length (open_of t m.log) →
+view-rewound : RewindLaws → {m : Meaning} {views : List View} (t n from : ℕ) (log : List LogEntry) → IsKeptDeferred m views → log ≡ keep_first (is_open_of t) n m.log → n ≤ length (open_of t m.log) →
     length (open_of t (drop from log)) ≡ n → IsView (object m) m.base log t (record { by = t; state = walked m.checked.file.table t m.base (drop from log); count = n })
 view-rewound laws {m} {views} t n from log h left many counted =
     let T = m.checked.file.table in
@@ -107,15 +109,15 @@ view-rewound laws {m} {views} t n from log h left many counted =
       counted = sym count;
     }
 
-pub rewound-kept : RewindLaws → {m : Meaning} {views : List View} (new : List View) (t n from state : ℕ) (log : List LogEntry) → IsKept m views → log ≡ keep_first (is_open_of t) n m.log → n ≤ length (open_of t m.log) → 0 < n →
-    length (open_of t (drop from log)) ≡ n → state ≡ walked m.checked.file.table t m.base (drop from log) → new ≡ with_view (record { by = t; state = state; count = n }) views → IsKept (with_log m log) new
+pub rewound-kept : RewindLaws → {m : Meaning} {views : List View} (new : List View) (t n from state : ℕ) (log : List LogEntry) → IsKeptDeferred m views → log ≡ keep_first (is_open_of t) n m.log → n ≤ length (open_of t m.log) → 0 < n →
+    length (open_of t (drop from log)) ≡ n → state ≡ walked m.checked.file.table t m.base (drop from log) → new ≡ with_view (record { by = t; state = state; count = n }) views → IsKeptDeferred (with_log m log) new
 rewound-kept laws {m} {views} new t n from state log h left many some counted ended put =
     let T = m.checked.file.table in
     let o = object m in
     let w : View = record { by = t; state = state; count = n } in
     let shown : IsView o m.base log t w = subst (λ s. IsView o m.base log t (record { by = t; state = s; count = n })) (sym ended) (view-rewound laws t n from log h left many counted) in
     let own : IsView o m.base log t (seen_by t m.base (with_view w views)) = subst (λ v. IsView o m.base log t v) (sym (seen-put w m.base views)) shown in
-    subst (λ V. IsKept (with_log m log) V) (sym put)
+    subst (λ V. IsKeptDeferred (with_log m log) V) (sym put)
     (struck-kept laws.strike (with_view w views) t n log h left (λ u differ. seen-put_other w u m.base views differ) own
-    (All-from_recursion (FitsTable T) (with_view w views) (each-put (FitsTable T) w views shown.fits (recursion_from_All (FitsTable T) views h.fit)))
-    (each-put (λ (v : View). 0 < v.count) w views some h.some) (ordered-put w views h.ordered))
+    (All-from_recursion (FitsTable T) (with_view w views) (each-put owner (FitsTable T) w views shown.fits (recursion_from_All (FitsTable T) views h.fit)))
+    (each-put owner (λ (v : View). 0 < v.count) w views some h.some) (ordered-put owner w views h.ordered))

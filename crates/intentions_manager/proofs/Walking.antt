@@ -1,11 +1,12 @@
 -- Walks along a transaction's open entries.
 use Rattle.std.proofs.Common.{◌≡◌, ℕ, ◌<◌, false, List, [], ◌∷◌, map, Option, Some, None, refl, sym, ap, subst, ◌∙◌, inl, inr}
 use Rattle.std.specs.Option.{unwrap_or}
-use Rattle.std.proofs.lemmas.Bool.{cases_Bool, false≢true}
+use Rattle.std.proofs.lemmas.Bool.{cases_Bool}
 use Rattle.std.proofs.lemmas.List.{map-id}
 use Rattle.type_table.specs.Table.{Table, IsTable, next}
 use Rattle.type_table.specs.Laws.{StepsWithin}
 use Rattle.type_table.specs.Run.{run, IsLegal}
+use Rattle.type_table.proofs.Legal.{nothing_legal}
 use Rattle.object_trait.specs.Meaning.{ops_of, is_open_of, open_of}
 use Rattle.object_trait.specs.declared.log_entry.LogEntry.{LogEntry}
 use Rattle.intentions_manager.specs.Walk.{stepped, walked, step_view, carried}
@@ -13,14 +14,9 @@ use Rattle.intentions_manager.specs.declared.views.View.{View}
 
 -- ---- legal walks
 
--- nothing is legal where there is no state
-nowhere : (T : Table) (w : List ℕ) → IsLegal T None w → ⊥
-nowhere T [] h = false≢true h
-nowhere T (k ∷ w) h = nowhere T w h
-
 -- where a list is legal there is a state
 pub some_state : (T : Table) (o : Option ℕ) (w : List ℕ) (s : ℕ) → IsLegal T o w → o ≡ Some (unwrap_or o s)
-some_state T None w s h = absurd (nowhere T w h)
+some_state T None w s h = absurd (nothing_legal T w h)
 some_state T (Some x) w s h = refl
 
 -- a walk ends where the run does

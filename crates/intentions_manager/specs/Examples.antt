@@ -4,7 +4,7 @@ use Rattle.object_trait.specs.Examples.{held}
 use Rattle.object_trait.specs.declared.log_entry.LogEntry.{LogEntry}
 use Rattle.intentions_manager.specs.declared.views.View.{View}
 
--- what t sees after so many entries
+-- what t sees after this many entries
 abbrev pub view : ℕ → ℕ → ℕ → View
 view t state count = record { by = t; state = state; count = count }
 

@@ -1,5 +1,5 @@
 -- What a manager of deferred update keeps.
-use Rattle.std.specs.Prelude.{◌≡◌, ◌≤◌, ◌<◌, ℕ, List, length, true, false, Some, All}
+use Rattle.std.specs.Prelude.{◌≡◌, ◌≤◌, ◌<◌, ℕ, List, length, true, Some, All}
 use Rattle.std.specs.Int.{bit_at}
 use Rattle.std.specs.List.{AllByRecursion}
 use Rattle.type_table.specs.Table.{IsTable}
@@ -17,10 +17,6 @@ use Rattle.intentions_manager.specs.declared.views.View.{View}
 abbrev pub HasBits : ℕ → List LogEntry → Type 0
 HasBits word log = All (λ (e : LogEntry). e.op < 64 → bit_at word e.op ≡ 1) log
 
--- none is done
-abbrev pub AreOpen : List LogEntry → Type 0
-AreOpen log = All (λ (e : LogEntry). e.done ≡ false) log
-
 -- what t may be shown: a state that is equieffective to the run of its open entries from base, and how many these are
 pub record IsView (o : Object) (base : ℕ) (log : List LogEntry) (t : ℕ) (v : View) : Type 0 where
   pub fits : v.state < o.table.states
@@ -30,7 +26,7 @@ pub record IsView (o : Object) (base : ℕ) (log : List LogEntry) (t : ℕ) (v :
 
 -- the kind is deferred update, the meaning is sound, each transaction sees what it may be shown, and each that is open has one view, in
 -- their order
-pub record IsKept (m : Meaning) (views : List View) : Type 0 where
+pub record IsKeptDeferred (m : Meaning) (views : List View) : Type 0 where
   pub deferred : m.checked.kind ≡ Intentions
   pub table : IsTable m.checked.file.table
   pub covered : IsCovered (object m)

@@ -5,8 +5,8 @@ ghost use Rattle.std.specs.List.{find};
 ghost use Rattle.std.specs.Option.{option_map};
 ghost use Rattle.type_table.specs.ConflictTable.{conflicts};
 ghost use Rattle.object_trait.specs.Strike.{keep_first};
-ghost use Rattle.object_trait.specs.Meaning.{is_open_of, open_of};
-ghost use Rattle.intentions_manager.specs.Kept.{AreOpen, HasBits};
+ghost use Rattle.object_trait.specs.Meaning.{is_open_of, open_of, AreOpen};
+ghost use Rattle.intentions_manager.specs.Kept.{HasBits};
 ghost use Rattle.intentions_manager.specs.Walk.{carried, FitsTable};
 
 use crate::views::{View, step_views};

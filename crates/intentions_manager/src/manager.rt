@@ -36,13 +36,13 @@ pub struct IntentionsManager {
 
 impl Model for IntentionsManager {
     ghost use Rattle.object_trait.specs.Meaning.{Meaning};
-    ghost use Rattle.intentions_manager.specs.Kept.{HasBits, IsKept};
+    ghost use Rattle.intentions_manager.specs.Kept.{HasBits, IsKeptDeferred};
 
     ghost Value = { Meaning };
 
     ghost view = { λ a. record { checked = a.checked.value; base = a.base; log = a.log.items } };
 
-    ghost invariant = { λ a. IsKept (record { checked = a.checked.value; base = a.base; log = a.log.items }) a.views.items × HasBits a.word a.log.items };
+    ghost invariant = { λ a. IsKeptDeferred (record { checked = a.checked.value; base = a.base; log = a.log.items }) a.views.items × HasBits a.word a.log.items };
 }
 
 impl IntentionsManager {

@@ -57,7 +57,7 @@ pub fn seen_at(views: &Vec<View>, at: usize, t: u32, base: u16) -> View
     }
 }
 
-/// The same, where the place isn't wanted.
+/// The same, where the place isn't asked for.
 pub fn seen_by(views: &Vec<View>, t: u32, base: u16) -> View
     requires { AreOrdered views.now.items }
     ensures { result ≡ seen_by t base views.now.items }

@@ -1,4 +1,4 @@
--- Jobs that are put behind those of their workers.
+-- Jobs that are put after those of their workers.
 use Rattle.std.proofs.Common.{◌≡◌, ℕ, ◌+◌, ◌<◌, List, [], ◌∷◌, ◌++◌, length, drop, get_or, map, Some, refl, sym, ap, ◌∙◌, inl, inr, cond, append_assoc, append-nil}
 use Rattle.std.specs.Prelude.{Vec, slice_set}
 use Rattle.std.specs.List.{AllByRecursion, slice_get}
@@ -75,7 +75,7 @@ more_so_far workers lines behind place line old new below at rest_is so_far step
       ap (λ l. l ++ rest) was.2 ∙ append_assoc (calls_in was.0) more rest ∙ ap (λ l. calls_in was.0 ++ l) (sym opened) ∙ so_far.each w was.0 was.1;
 }
 
--- behind the last line they are all
+-- after the last line they are all
 pub all_so_far : (workers : ℕ) (lines : List JobLine) (place : ℕ) (lists : List (Vec Job Global)) → drop place lines ≡ [] → AreSoFar workers lines place lists → AreJobsOf workers lines lists
 all_so_far workers lines place lists none so_far = record {
   count = so_far.count;

@@ -37,7 +37,7 @@ abbrev pub wants_job : JobLine → Bool
 wants_job (Job w) = false
 wants_job (Do x call) = true
 
--- jobs of so many workers: the text begins with a limit, and its first entry opens a job
+-- jobs of this many workers: the text begins with a limit, and its first entry opens a job
 abbrev pub jobs : ℕ → Body JobLine
 jobs workers = record {
   has_max = true;

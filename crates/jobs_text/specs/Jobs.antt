@@ -16,7 +16,7 @@ use Rattle.jobs_text.specs.declared.jobs_file.JobsFile.{JobsFile}
 abbrev pub Call : Type 0
 Call = ℕ × List ℕ
 
--- the calls of the `do` lines in front of the next `job` line
+-- the calls of the `do` lines before the next `job` line
 abbrev pub calls_of : List JobLine → List Call
 calls_of [] = []
 calls_of (line.Job w ∷ lines) = []
@@ -26,7 +26,7 @@ calls_of (line.Do x call ∷ lines) = (x, call) ∷ calls_of lines
 abbrev pub job_of : ℕ → ℕ → List Call → List (List Call)
 job_of of w calls = if of == w then calls ∷ [] else []
 
--- the job of a worker that a line in front of others opens
+-- the job of a worker that a line before others opens
 abbrev pub job_at : ℕ → JobLine → List JobLine → List (List Call)
 job_at w (line.Job of) behind = job_of of w (calls_of behind)
 job_at w (line.Do x call) behind = []

@@ -34,7 +34,7 @@ fn no_jobs(alloc: Global, workers: u8) -> Result<Vec<Vec<Job>>, AllocError>
     Ok(lists)
 }
 
-/// Puts the job that a line opens, if it opens one, behind those of its worker.
+/// Puts the job that a line opens, if it opens one, after those of its worker.
 fn add_job(
     alloc: Global,
     lists: &mut Vec<Vec<Job>>,
@@ -51,7 +51,7 @@ fn add_job(
     Ok(())
 }
 
-/// Puts a job behind those of its worker.
+/// Puts a job after those of its worker.
 fn push_job(lists: &mut Vec<Vec<Job>>, worker: usize, job: Job) -> Result<(), AllocError>
     requires { worker < length lists.old.items }
     ensures { OnOk result (Adds lists.old.items lists.new.items (λ w. job_of worker w job.calls.items)) }
@@ -60,7 +60,7 @@ fn push_job(lists: &mut Vec<Vec<Job>>, worker: usize, job: Job) -> Result<(), Al
     Ok(())
 }
 
-/// The calls of the `do` lines in front of the next `job` line. There is room for just as many.
+/// The calls of the `do` lines before the next `job` line. There is room for just as many.
 fn calls_of(alloc: Global, lines: &[JobLine]) -> Result<Vec<(u32, Name)>, AllocError>
     ensures { IfOk result (λ calls. calls.items ≡ calls_of lines.now) }
 {
@@ -74,7 +74,7 @@ fn calls_of(alloc: Global, lines: &[JobLine]) -> Result<Vec<(u32, Name)>, AllocE
     Ok(calls)
 }
 
-/// How many `do` lines are in front of the next `job` line.
+/// How many `do` lines are before the next `job` line.
 fn call_count(lines: &[JobLine]) -> usize
     ensures { result ≡ length (calls_of lines.now) }
 {

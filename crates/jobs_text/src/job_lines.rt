@@ -8,7 +8,7 @@ use line_text::{FaultKind, exactly, is_key, name_at, number_at};
 use std::alloc::{AllocError, Global};
 use store_text::Entries;
 
-/// The jobs of so many workers.
+/// The jobs of this many workers.
 #[derive(Clone, Copy, Debug)]
 pub struct Jobs {
     pub workers: u8,

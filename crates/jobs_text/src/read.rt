@@ -10,7 +10,7 @@ use line_text::{FaultKind, TextFault};
 use std::alloc::Global;
 use store_text::{Parts, StoreGrammar, read_parts};
 
-/// The jobs of a text for so many workers, or the text's first fault.
+/// The jobs of a text for this many workers, or the text's first fault.
 ///
 /// `NoMemory` comes in place of either where memory was refused; its line is the one that was
 /// being read, or the first where the lines were read and the jobs were being built.

@@ -1,10 +1,10 @@
 -- The table of events is destroyed and made again.
-use Rattle.std.proofs.Common.{◌≡◌, ◌≢◌, ℕ, ◌<◌, List, [], ◌∷◌, not, Bool, false, true, inl, inr, codes, IsTrue, ◌==◌, lit<, refl, sym, ap, subst, ◌∙◌, arith}
+use Rattle.std.proofs.Common.{◌≡◌, ◌≢◌, ℕ, ◌<◌, List, [], ◌∷◌, not, false, true, inl, inr, codes, IsTrue, ◌==◌, lit<, refl, sym, ap, subst, ◌∙◌, arith}
 use Rattle.std.specs.Prelude.{pos}
 use Rattle.std.specs.List.{AllByRecursion}
 use Rattle.std.specs.Ordering.{match_ordering}
 use Rattle.std.specs.declared.cmp.Ordering.TheVariants.{Less, Equal, Greater}
-use Rattle.std.proofs.lemmas.Bool.{cases_eq, ne_eqb}
+use Rattle.std.proofs.lemmas.Bool.{cases_eq, ne_eqb, not-true}
 use Rattle.type_table.proofs.Elements.{each-filter, each-passes, each-weaker}
 use Rattle.sqlite_value.specs.declared.value.Value.TheVariants.{Text}
 use Rattle.sqlite_value.specs.Order.{Row, column, value_cmp}
@@ -29,11 +29,7 @@ each-put P new (r ∷ rs) all here =
 -- no object is left with the name
 unnamed : (rs : List Row) → IsNamedOnce rs → AllByRecursion (λ r. column r name_column ≢ Text (codes "event")) (without_rowid (pos 1) rs)
 unnamed rs named = each-passes (λ r. column r name_column ≢ Text (codes "event")) (λ r. not (has_rowid (pos 1) r)) rs
-    (each-weaker (λ r his other. his (is-false (has_rowid (pos 1) r) other)) rs named)
-  where
-    is-false : (b : Bool) → not b ≡ true → b ≡ false
-    is-false false h = refl
-    is-false true h = absurd (cc)
+    (each-weaker (λ r his other. his (not-true (has_rowid (pos 1) r) other)) rs named)
 
 module _ (old middle : View) (o : Object) (may : MayEmpty old) (gone : Destroys old middle 0) (table : o.shape ≡ Table) (name : o.name.now ≡ codes "event") where
   nobody : AllByRecursion (λ r. column r name_column ≢ Text (codes "event")) (middle.trees catalog_tree)

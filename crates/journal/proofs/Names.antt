@@ -1,4 +1,4 @@
--- The names of the objects of a file, told by the first five columns of each.
+-- The names of the objects of a file, by the first five columns of each.
 use Rattle.std.proofs.Common.{◌≡◌, ◌≢◌, ℕ, codes, List, [], ◌∷◌, map, take, false, refl, subst, sym, ◌∙◌}
 use Rattle.std.specs.Prelude.{pos}
 use Rattle.std.specs.List.{AllByRecursion}
@@ -17,7 +17,7 @@ third_column (a ∷ []) = refl
 third_column (a ∷ b ∷ []) = refl
 third_column (a ∷ b ∷ c ∷ r) = refl
 
--- what holds of what is told of each object holds of each
+-- what holds of the first five columns of each object holds of each
 each-told : (P Q : Row → Type 0) → ((r : Row) → P (take 5 r) → Q r) → (rs : List Row) → AllByRecursion P (map (take 5) rs) → AllByRecursion Q rs
 each-told P Q turn [] all = tt
 each-told P Q turn (r ∷ rs) all = (turn r all.0, each-told P Q turn rs all.1)

@@ -19,7 +19,7 @@ use Rattle.journal.specs.Tables.{IsUnused, OnlyReads}
 use Rattle.journal.specs.Journal.{HasTables, IsKeptFile, IsNamedOnce}
 use Rattle.journal.proofs.RowLemmas.{rows-told}
 
--- rows of values tell these values, and are the rows of what they tell
+-- rows of values say these values, and are the rows of what they say
 pub told-of : {E : Type 0} (row_at : ℕ → E → Row) (told : Row → E) → ((n : ℕ) (e : E) → told (row_at n e) ≡ e) → (all : List Row) (es : List E) → all ≡ rows row_at 0 es → map told all ≡ es
 told-of row_at told back all es is = ap (map told) is ∙ rows-told row_at told back 0 es
 

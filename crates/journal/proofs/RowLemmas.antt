@@ -45,7 +45,7 @@ module _ {E : Type 0} (row_at : ℕ → E → Row) where
   pub whole-rows : (count m : ℕ) (es : List E) (all : List Row) → length es < count → rows row_at m es ≡ take count all → all ≡ rows row_at m es
   whole-rows count m es all few is = sym (is ∙ take_all count all (omega (arith, length-rows m es, ap length is, length-take count all, few)))
 
-  -- the rows tell their values
+  -- the rows say their values
   pub rows-told : (told : Row → E) → ((n : ℕ) (e : E) → told (row_at n e) ≡ e) → (m : ℕ) (es : List E) → map told (rows row_at m es) ≡ es
   rows-told told back m [] = refl
   rows-told told back m (e ∷ es) = ap (λ x. x ∷ map told (rows row_at (suc m) es)) (back m e) ∙ ap (λ more. e ∷ more) (rows-told told back (suc m) es)
@@ -82,14 +82,14 @@ told-first row_at told back n count es all is =
 -- ---- a row is written
 
 module _ {E : Type 0} (row_at : ℕ → E → Row) (key : (n : ℕ) (e : E) → rowid (row_at n e) ≡ Int (pos n)) where
-  -- behind the others
+  -- after the others
   pub put-more : (m n : ℕ) (es : List E) (e : E) → m + length es ≡ n → put_row (row_at n e) (rows row_at m es) ≡ rows row_at m (es ++ e ∷ [])
   put-more m n [] e h = let same : n ≡ m = omega arith in rw same refl
   put-more m n (x ∷ es) e h =
       let less : value_cmp (rowid (row_at m x)) (rowid (row_at n e)) ≡ Less = rw (key m x, key n e) (lower m n (omega arith)) in
       rw less (ap (λ more. row_at m x ∷ more) (put-more (suc m) n es e (omega arith)))
 
-  -- the values that are told then
+  -- the values that the rows say then
   pub told-more : (told : Row → E) → ((n : ℕ) (e : E) → told (row_at n e) ≡ e) → (n : ℕ) (all : List Row) (e : E) → all ≡ rows row_at 0 (map told all) → n ≡ length (map told all)
       → map told (put_row (row_at n e) all) ≡ map told all ++ e ∷ []
   told-more told back n all e is many =

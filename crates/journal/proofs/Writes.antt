@@ -20,7 +20,7 @@ module _ (old new : View) (n : ℕ) (header : Header) (e : EventKind) (sets : Se
   told : map event_told (put_row (event_row n e) (old.trees 0)) ≡ map event_told (old.trees 0) ++ e ∷ []
   told = told-more event_row (λ m k. refl) event_told event_read_back n (old.trees 0) e before.events (kept.count_is sets.sound)
 
-  -- it is behind the others
+  -- it is after the others
   pub appended : contents_of new.trees ≡ with_event (contents_of old.trees) e
   appended = ap (λ (v : View). contents_of v.trees) sets.is ∙ ap (λ es. record (contents_of old.trees) { events = es }) told
 

@@ -1,4 +1,4 @@
--- The row of an event begins with its position, and tells the event.
+-- The row of an event begins with its position, and says the event.
 use Rattle.std.specs.Prelude.{◌≡◌, ℕ, ◌∷◌, pos, refl}
 use Rattle.sqlite_value.specs.declared.value.Value.TheVariants.{Null, Int}
 use Rattle.sqlite_value.specs.Order.{Row}

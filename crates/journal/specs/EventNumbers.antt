@@ -1,4 +1,4 @@
--- The columns of an event's row behind its position.
+-- The columns of an event's row after its position.
 use Rattle.std.specs.Prelude.{◌≡◌, [], ◌∷◌}
 use Rattle.sqlite_value.specs.declared.value.Value.TheVariants.{Text}
 use Rattle.sqlite_value.specs.Order.{Row, column}
@@ -9,7 +9,7 @@ use Rattle.journal.specs.EventRow.{event_word, kind_column, transaction_column, 
 abbrev pub columns_of : EventColumns → Row
 columns_of c = Text (event_word c.kind) ∷ cell_value c.t ∷ cell_value c.x ∷ cell_value c.k ∷ cell_value c.n ∷ []
 
--- a row of which each column behind the position says so
+-- a row of which each column after the position says so
 pub record ToldColumns (row : Row) (c : EventColumns) : Type 0 where
   pub kind : column row kind_column ≡ Text (event_word c.kind)
   pub t : column row transaction_column ≡ cell_value c.t

@@ -60,7 +60,7 @@ event_of (Some word.Abort) t x k n = kind.Abort t
 event_of (Some word.Rollback) t x k n = kind.Rollback t n
 event_of None t x k n = kind.Begin t
 
--- the columns behind that of the position
+-- the columns after that of the position
 abbrev pub kind_column : ℕ
 kind_column = 2
 
@@ -76,6 +76,6 @@ operation_column = 5
 abbrev pub number_column : ℕ
 number_column = 6
 
--- the event that a row tells
+-- the event that a row says
 abbrev pub event_told : Row → EventKind
 event_told row = event_of (word_of (bytes (column row kind_column))) (number_in (column row transaction_column)) (number_in (column row object_column)) (number_in (column row operation_column)) (number_in (column row number_column))

@@ -8,7 +8,7 @@ use Rattle.journal.specs.declared.header.Header.{Header}
 abbrev pub header_row : ℕ → Header → Row
 header_row n h = Int (pos n) ∷ Null ∷ Int (pos h.format) ∷ Blob h.id ∷ Int (pos h.life) ∷ []
 
--- the columns behind that of the position
+-- the columns after that of the position
 abbrev pub format_column : ℕ
 format_column = 2
 
@@ -21,7 +21,7 @@ life_column = 4
 abbrev pub header_told : Row → Header
 header_told row = record { format = number_in (column row format_column); id = bytes (column row id_column); life = number_in (column row life_column) }
 
--- a row of which each column behind the position says so
+-- a row of which each column after the position says so
 pub record ToldHeader (row : Row) (h : Header) : Type 0 where
   pub format : column row format_column ≡ Int (pos h.format)
   pub id : column row id_column ≡ Blob h.id

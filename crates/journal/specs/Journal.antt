@@ -17,7 +17,7 @@ use Rattle.journal.specs.Tables.{IsUnused}
 pub record HasTables (v : View) : Type 0 where
   pub each : (t : ℕ) → t < 5 → v.shape t ≡ Table
 
--- where the name stands in a row of the list of a file's objects
+-- where the name is in a row of the list of a file's objects
 abbrev pub name_column : ℕ
 name_column = 2
 
@@ -25,7 +25,7 @@ name_column = 2
 abbrev pub IsNamedOnce : List Row → Type 0
 IsNamedOnce = AllByRecursion (λ r. has_rowid (pos 1) r ≡ false → column r name_column ≢ Text (codes "event"))
 
--- what the store shows: while it is not broken, a file of a store with this header and so many events
+-- what the store shows: while it is not broken, a file of a store with this header and this many events
 pub record IsKeptFile (v : View) (count : ℕ) (header : Header) : Type 0 where
   pub tables : HasTables v
   pub file : v.is_broken ≡ false → IsFile v.trees

@@ -12,7 +12,7 @@ use Rattle.store_text.specs.declared.line.ObjectLine.{ObjectLine}
 abbrev pub object_row : ℕ → ObjectLine → Row
 object_row n o = Int (pos n) ∷ Null ∷ Text (kind_word o.kind) ∷ Int (pos o.file) ∷ []
 
--- the columns behind that of the position
+-- the columns after that of the position
 abbrev pub kind_column : ℕ
 kind_column = 2
 
@@ -22,7 +22,7 @@ file_column = 3
 abbrev pub object_told : Row → ObjectLine
 object_told row = record { kind = unwrap_or (kind_of (bytes (column row kind_column))) Undo; file = number_in (column row file_column) }
 
--- a row of which each column behind the position says so
+-- a row of which each column after the position says so
 pub record ToldObject (row : Row) (o : ObjectLine) : Type 0 where
   pub kind : column row kind_column ≡ Text (kind_word o.kind)
   pub file : column row file_column ≡ Int (pos o.file)

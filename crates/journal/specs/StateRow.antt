@@ -8,7 +8,7 @@ use Rattle.journal.specs.declared.state_row.FirstState.{FirstState}
 abbrev pub state_row : ℕ → FirstState → Row
 state_row n first = Int (pos n) ∷ Null ∷ Int (pos first.state) ∷ []
 
--- the column behind that of the position
+-- the column after that of the position
 abbrev pub state_column : ℕ
 state_column = 2
 

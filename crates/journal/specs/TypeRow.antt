@@ -6,7 +6,7 @@ use Rattle.sqlite_value.specs.Order.{Row, column, bytes}
 abbrev pub type_row : ℕ → List ℕ → Row
 type_row n text = Int (pos n) ∷ Null ∷ Text text ∷ []
 
--- the column behind that of the position
+-- the column after that of the position
 abbrev pub text_column : ℕ
 text_column = 2
 

@@ -78,7 +78,7 @@ impl<S: Store> Journal<S> {
         self.all_of(alloc, STATES)
     }
 
-    /// The events from this position on, oldest first, and at most so many: no other row is read.
+    /// The events from this position on, oldest first, and at most this many: no other row is read.
     ///
     /// # Errors
     ///

@@ -34,7 +34,7 @@ pub const OBJECTS: u32 = 3;
 /// The table of the states at which they began.
 pub const STATES: u32 = 4;
 
-/// Where the name stands in a row of the list of a file's objects.
+/// Where the name is in a row of the list of a file's objects.
 pub const NAME: usize = 2;
 
 /// What a file of a store says: of itself, the texts of types, the objects with their types, the states at

@@ -217,7 +217,7 @@ impl<S: Alter> Journal<S> {
     ///
     /// # Errors
     ///
-    /// `Foreign` where there is something in the way, or an event; the file failed, or memory was refused.
+    /// `Foreign` where there is another table, or an event; the file failed, or memory was refused.
     /// The trees come back.
     pub fn create(
         alloc: Global,

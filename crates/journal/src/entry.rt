@@ -12,7 +12,7 @@ pub trait Entry: Sized {
     /// The row of the value at this position.
     ghost row_at: { ℕ → Self → Columns };
 
-    /// The value that a row tells.
+    /// The value that a row says.
     ghost told_by: { Columns → Self };
 
     /// Writes the row of the value at this position over `row`.

@@ -14,7 +14,7 @@ use sqlite_value::row::Row;
 use sqlite_value::value::ValueRef;
 use std::alloc::{AllocError, Global};
 
-// the columns behind that of the position
+// the columns after that of the position
 const KIND: usize = 2;
 
 const TRANSACTION: usize = 3;
@@ -116,7 +116,7 @@ fn call_of(kind: EventWord, t: u32, x: u32, k: u8, n: Cell) -> Option<EventKind>
     }
 }
 
-/// Writes columns behind those of a row.
+/// Writes columns after those of a row.
 fn push(row: &mut Row, columns: EventColumns) -> Result<(), AllocError>
     ensures { OnOk result (row.new ≡ row.old ++ columns_of columns) }
 {

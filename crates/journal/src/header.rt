@@ -9,7 +9,7 @@ use sqlite_value::row::Row;
 use sqlite_value::value::ValueRef;
 use std::alloc::{AllocError, Global};
 
-// the columns behind that of the position
+// the columns after that of the position
 const FORMAT: usize = 2;
 
 const ID: usize = 3;

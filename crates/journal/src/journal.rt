@@ -25,7 +25,7 @@ pub struct Journal<S: Store> {
 }
 
 impl<S: Store> Journal<S> {
-    /// Writes an event behind the others. A crash may still take it away.
+    /// Writes an event after the others. A crash may still take it away.
     ///
     /// # Errors
     ///
@@ -51,7 +51,7 @@ impl<S: Store> Journal<S> {
     ///
     /// # Errors
     ///
-    /// The file failed, or memory was refused: the journal isn't to be used any more. An open tells what of
+    /// The file failed, or memory was refused: the journal isn't to be used any more. An open says what of
     /// it is there.
     pub fn commit(&mut self) -> Result<(), JournalError>
         requires { IsJournal S.Store self.old }

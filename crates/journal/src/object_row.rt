@@ -13,7 +13,7 @@ use std::marker::Model;
 use store_text::ObjectLine;
 use type_table::Kind;
 
-// the columns behind that of the position: of an object
+// the columns after that of the position: of an object
 const KIND: usize = 2;
 
 const FILE: usize = 3;

@@ -9,7 +9,7 @@ use sqlite_value::row::Row;
 use sqlite_value::value::ValueRef;
 use std::alloc::{AllocError, Global};
 
-// the column behind that of the position
+// the column after that of the position
 const STATE: usize = 2;
 
 /// The state of an object where the history of the file begins.

@@ -65,7 +65,7 @@ pub fn read_all<S: Store, E: Entry + Drop>(
     read_on(alloc, store, 0, usize::MAX, row)
 }
 
-/// The values of a table from this position on, in order, and at most so many.
+/// The values of a table from this position on, in order, and at most this many.
 ///
 /// # Errors
 ///
@@ -93,7 +93,7 @@ pub fn read_from<S: Store, E: Entry + Drop>(
     read_on(alloc, store, from, count, row)
 }
 
-/// The values of the rows that a cursor has left, the first of them at this position, and at most so many.
+/// The values of the rows that a cursor has left, the first of them at this position, and at most this many.
 ///
 /// # Errors
 ///

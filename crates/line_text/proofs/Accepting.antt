@@ -8,7 +8,7 @@ use Rattle.std.proofs.lemmas.List.{append-nil, length-append, take_at, take-appe
 use Rattle.std.proofs.lemmas.Option.{slice_get_within}
 use Rattle.type_table.proofs.Elements.{slice_get-front}
 use Rattle.line_text.specs.Text.{TextLine, lines_of, content_of}
-use Rattle.line_text.specs.Rules.{Rules, item_in, items_of, has_stood, end_rank}
+use Rattle.line_text.specs.Rules.{Rules, item_in, items_of, was_read, end_rank}
 use Rattle.line_text.specs.LineTests.{item_fault, parsed_fault, words_fault, form_fault, line_fault}
 use Rattle.line_text.specs.Outcome.{outcome_of, refusal_at, ArePassed}
 use Rattle.line_text.specs.Accepted.{IsAccepted}
@@ -17,10 +17,10 @@ use Rattle.line_text.specs.declared.fault.FaultKind.TheVariants.{AfterEnd}
 use Rattle.line_text.proofs.Places.{slice_get_at, refusal_at_here, IsOutcome-always}
 use Rattle.line_text.proofs.Reading.{items_of_more}
 
--- each item has passed its tests behind those before it, and none stands behind an `end`
+-- each item has passed its tests after those before it, and none comes after an `end`
 pub record Follow {Item : Type 0} (g : Rules Item) (items : List Item) : Type 0 where
   pub each : (n : ℕ) (x : Item) → slice_get items n ≡ Some x → item_fault g (take n items) x ≡ None
-  pub before_end : (n : ℕ) → n < length items → has_stood g (take n items) (end_rank g) ≡ false
+  pub before_end : (n : ℕ) → n < length items → was_read g (take n items) (end_rank g) ≡ false
 
 -- the last place of a list with one more
 last_place : {X : Type 0} (xs : List X) (x y : X) (n : ℕ) → length xs ≤ n → slice_get (xs ++ x ∷ []) n ≡ Some y → (n ≡ length xs) × (x ≡ y)
@@ -30,7 +30,7 @@ last_place xs x y n past e =
     (n_is, cc)
 
 -- an item that passes follows the others
-Follow-push : {Item : Type 0} (g : Rules Item) (items : List Item) (x : Item) → Follow g items → has_stood g items (end_rank g) ≡ false → item_fault g items x ≡ None → Follow g (items ++ x ∷ [])
+Follow-push : {Item : Type 0} (g : Rules Item) (items : List Item) (x : Item) → Follow g items → was_read g items (end_rank g) ≡ false → item_fault g items x ≡ None → Follow g (items ++ x ∷ [])
 Follow-push g items x h unended none = record {
   each = λ n y at.
       elim (cases_lt n (length items)) [
@@ -47,16 +47,16 @@ Follow-push g items x h unended none = record {
 }
 
 -- a parsed line that passed
-Follow-parsed : {Item : Type 0} (g : Rules Item) (items : List Item) (parsed : Result Item FaultKind) → Follow g items → has_stood g items (end_rank g) ≡ false → parsed_fault g items parsed ≡ None → Follow g (items ++ option_to_list (result_ok parsed))
+Follow-parsed : {Item : Type 0} (g : Rules Item) (items : List Item) (parsed : Result Item FaultKind) → Follow g items → was_read g items (end_rank g) ≡ false → parsed_fault g items parsed ≡ None → Follow g (items ++ option_to_list (result_ok parsed))
 Follow-parsed g items (Ok x) h unended none = Follow-push g items x h unended none
 Follow-parsed g items (Err kind) h unended none = absurd cc
 
 -- so does the item of words that pass
 Follow-words : {Item : Type 0} (g : Rules Item) (items : List Item) (words : List (List ℕ)) → Follow g items → words_fault g items words ≡ None → Follow g (items ++ option_to_list (item_in g words))
 unfolding words_fault
-Follow-words g items words h none = go (eqb (length words) 0) refl (has_stood g items (end_rank g)) refl none
+Follow-words g items words h none = go (eqb (length words) 0) refl (was_read g items (end_rank g)) refl none
   where
-    go : (empty : Bool) → eqb (length words) 0 ≡ empty → (ended : Bool) → has_stood g items (end_rank g) ≡ ended
+    go : (empty : Bool) → eqb (length words) 0 ≡ empty → (ended : Bool) → was_read g items (end_rank g) ≡ ended
         → cond empty None (cond ended (Some AfterEnd) (parsed_fault g items (g.item_of words))) ≡ None
         → Follow g (items ++ option_to_list (item_in g words))
     go true e ended f none = rw (e, append-nil items) h

@@ -1,4 +1,4 @@
--- Lines of words behind a `#` are comments, and so are texts of such lines: for proofs of the crates above.
+-- Lines of words after a `#` are comments, and so are texts of such lines: for proofs of the crates above.
 use Rattle.std.proofs.Common.{◌≡◌, ℕ, ◌+◌, ◌*◌, ◌<◌, ◌≤◌, ◌^◌, true, false, List, [], ◌∷◌, ◌++◌, length, filter, refl, sym, ap, ◌∙◌, append-nil, length-append, arith}
 use Rattle.std.specs.Prelude.{codes, nat_le}
 use Rattle.std.specs.Fmt.{decimal}
@@ -69,7 +69,7 @@ begins : (ws : List (List ℕ)) → is_comment (spaced (codes "#" ∷ ws)) ≡ t
 begins [] = refl
 begins (w ∷ ws) = refl
 
--- a line of few words behind a `#`
+-- a line of few words after a `#`
 pub words_comment : (ws : List (List ℕ)) → AllByRecursion IsText ws → length ws ≤ 6 → IsComment (spaced (codes "#" ∷ ws))
 words_comment ws are few =
     record { comment = begins ws; bytes = words_text (codes "#") ws hash are; short = omega (arith, words_length (codes "#") ws hash are, few) }
@@ -109,7 +109,7 @@ comments_skip (l ∷ ls) are = (comment_skips l are.0, comments_skip ls are.1)
 pub skips_append : (xs ys : List (List ℕ)) → AllByRecursion MaySkip xs → AllByRecursion MaySkip ys → AllByRecursion MaySkip (xs ++ ys)
 skips_append xs ys p q = each-append MaySkip xs ys p q
 
--- comments tell nothing
+-- comments say nothing
 pub nothing_told : (ls : List (List ℕ)) → AllByRecursion IsComment ls → filter tells ls ≡ []
 nothing_told [] are = refl
 nothing_told (l ∷ ls) are = rw are.0.comment (nothing_told ls are.1)

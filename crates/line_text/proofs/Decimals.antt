@@ -18,7 +18,7 @@ digits_tested = record {
   more = λ c cs r e. and_from (is_digit c) (list_all is_digit cs) (and_from (leb 48 c) (leb c 57) (le-leb 48 c (search rules)) (le-leb c 57 (search rules))) e;
 }
 
--- the value of digits behind a number
+-- the value of digits after a number
 abbrev value_after : ℕ → List ℕ → ℕ
 value_after n w = fold (λ m b. 10 * m + (b - 48)) n w
 
@@ -47,7 +47,7 @@ decimal_is_number n fits short =
     (and_from (leb 1 (length (decimal n)) && leb (length (decimal n)) 7) (list_all is_digit (decimal n)) (and_from (leb 1 (length (decimal n))) (leb (length (decimal n)) 7) some few) (digits_decimal digits n fits))
     (first_digit n fits)
 
--- digits may stand in a word
+-- digits may be in a word
 digits_in_word : (w : List ℕ) → list_all is_digit w ≡ true → AllByRecursion (λ b. (33 ≤ b) × (b ≤ 126)) w
 digits_in_word [] e = tt
 digits_in_word (b ∷ w) e =
@@ -66,7 +66,7 @@ NumberIsReadAgain-always n below =
       short = short;
     }
 
--- a name's bytes may stand in a word
+-- a name's bytes may be in a word
 names_in_word : (w : List ℕ) → list_all is_name_byte w ≡ true → AllByRecursion (λ b. (33 ≤ b) × (b ≤ 126)) w
 names_in_word [] e = tt
 names_in_word (b ∷ w) e =

@@ -1,10 +1,10 @@
--- Sections that are missing, of fewer ranks and behind more items, and what else is known of items.
+-- Sections that are missing below a lower rank, and after more items; and what else is known of items.
 use Rattle.std.proofs.Common.{◌≡◌, ℕ, zero, suc, ◌+◌, ◌-◌, ◌<◌, ◌≤◌, Bool, true, false, not, ◌&&◌, List, [], ◌∷◌, ◌++◌, length, set, get_or, Option, Some, refl, ap, inl, inr, arith}
 use Rattle.std.specs.List.{slice_get}
 use Rattle.std.proofs.lemmas.Bool.{cases_eq, or_parts, ltb-true, lt-ltb}
-use Rattle.line_text.specs.Rules.{Rules, count_at, has_stood}
+use Rattle.line_text.specs.Rules.{Rules, count_at, was_read}
 use Rattle.line_text.specs.Steps.{IsKnown, place_of}
-use Rattle.line_text.specs.declared.stood.Place.{Place}
+use Rattle.line_text.specs.declared.read_so_far.Place.{Place}
 use Rattle.line_text.specs.LineTests.{lacks, is_needed}
 use Rattle.line_text.proofs.Counts.{count_at_push, IsCounted-push}
 use Rattle.line_text.proofs.Items.{last_item_push}
@@ -15,23 +15,23 @@ lacks-lower g items low zero within none = let e : low ≡ 0 = omega arith in rw
 lacks-lower g items low (suc high) within none =
     elim (cases_eq low (suc high)) [
       | inl e ↦ rw e none
-      | inr e ↦ lacks-lower g items low high (omega arith) (or_parts (lacks g items high) (is_needed (slice_get g.sections high) && not (has_stood g items high)) none).0
+      | inr e ↦ lacks-lower g items low high (omega arith) (or_parts (lacks g items high) (is_needed (slice_get g.sections high) && not (was_read g items high)) none).0
     ]
 
--- a section that has an item has one behind one more
-has_stood_push : {Item : Type 0} (g : Rules Item) (items : List Item) (x : Item) (rank : ℕ) → has_stood g items rank ≡ true → has_stood g (items ++ x ∷ []) rank ≡ true
-has_stood_push g items x rank e = lt-ltb 0 (count_at g (items ++ x ∷ []) rank) (omega (arith, count_at_push g items x rank, ltb-true 0 (count_at g items rank) e))
+-- a section that has an item has one also after one more item
+was_read_push : {Item : Type 0} (g : Rules Item) (items : List Item) (x : Item) (rank : ℕ) → was_read g items rank ≡ true → was_read g (items ++ x ∷ []) rank ≡ true
+was_read_push g items x rank e = lt-ltb 0 (count_at g (items ++ x ∷ []) rank) (omega (arith, count_at_push g items x rank, ltb-true 0 (count_at g items rank) e))
 
--- nor is one missing behind one more item
+-- nor is one missing after one more item
 pub lacks_push : {Item : Type 0} (g : Rules Item) (items : List Item) (x : Item) (rank : ℕ) → lacks g items rank ≡ false → lacks g (items ++ x ∷ []) rank ≡ false
 lacks_push g items x zero none = refl
 lacks_push g items x (suc rank) none =
-    let parts = or_parts (lacks g items rank) (is_needed (slice_get g.sections rank) && not (has_stood g items rank)) none in
-    rw (lacks_push g items x rank parts.0) (go (is_needed (slice_get g.sections rank)) (has_stood g items rank) refl parts.1)
+    let parts = or_parts (lacks g items rank) (is_needed (slice_get g.sections rank) && not (was_read g items rank)) none in
+    rw (lacks_push g items x rank parts.0) (go (is_needed (slice_get g.sections rank)) (was_read g items rank) refl parts.1)
   where
-    go : (needed has : Bool) → has_stood g items rank ≡ has → (needed && not has) ≡ false → (needed && not (has_stood g (items ++ x ∷ []) rank)) ≡ false
+    go : (needed has : Bool) → was_read g items rank ≡ has → (needed && not has) ≡ false → (needed && not (was_read g (items ++ x ∷ []) rank)) ≡ false
     go false has e f = refl
-    go true true e f = rw (has_stood_push g items x rank e) refl
+    go true true e f = rw (was_read_push g items x rank e) refl
     go true false e f = absurd cc
 
 -- what is known of items with one more

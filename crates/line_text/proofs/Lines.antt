@@ -1,4 +1,4 @@
--- The first line of a text, and the lines behind it.
+-- The first line of a text, and the lines after it.
 use Rattle.std.proofs.Common.{◌≡◌, ℕ, ◌+◌, ◌<◌, ◌≤◌, Bool, true, false, cond, eqb, ltb, List, [], ◌∷◌, length, take, drop, position, Option, Some, None, refl, sym, ap, ◌∙◌, arith}
 use Rattle.std.specs.List.{slice_split, position_or_len}
 use Rattle.std.proofs.lemmas.Bool.{ltb-true, ltb-false}
@@ -6,7 +6,7 @@ use Rattle.std.proofs.lemmas.Option.{cond_some}
 use Rattle.std.proofs.lemmas.List.Splits.{slice_split_first, length-slice_split}
 use Rattle.line_text.specs.Text.{TextLine, lines_of, lines_of_pieces}
 
--- a piece in front of others is a line that is ended
+-- a piece before others is a line that is ended
 pub lines_of_pieces-ended : (x : List ℕ) (pieces : List (List ℕ)) → 0 < length pieces → lines_of_pieces (x ∷ pieces) ≡ record { bytes = x; is_ended = true } ∷ lines_of_pieces pieces
 lines_of_pieces-ended x [] some = absurd (omega arith)
 lines_of_pieces-ended x (y ∷ more) some = refl
@@ -36,7 +36,7 @@ lines_of-ended text end found =
     rw is.1 at whole
 
 -- a test that gives nothing fails
-none_is : (b : Bool) (n : ℕ) → cond b (Some n) None ≡ None → b ≡ false
+pub none_is : (b : Bool) (n : ℕ) → cond b (Some n) None ≡ None → b ≡ false
 none_is true n e = absurd cc
 none_is false n e = refl
 

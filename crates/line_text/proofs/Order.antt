@@ -1,4 +1,4 @@
--- How the items of an accepted text stand.
+-- How the items of an accepted text are ordered.
 use Rattle.std.proofs.Common.{◌≡◌, ◌≢◌, ℕ, zero, suc, ◌+◌, ◌-◌, ◌<◌, ◌≤◌, Bool, true, false, not, ◌&&◌, ◌||◌, cond, eqb, leb, ltb, List, [], ◌∷◌, length, take, Option, Some, None, refl, sym, ap, ◌∙◌, inl, inr, arith}
 use Rattle.std.specs.Prelude.{IsSome}
 use Rattle.std.specs.List.{slice_get, list_any}
@@ -8,9 +8,9 @@ use Rattle.std.proofs.lemmas.List.{length-take, length-take-le, take_all}
 use Rattle.std.proofs.lemmas.List.Sums.{sum_by-append}
 use Rattle.std.proofs.lemmas.Option.{slice_get_within, same_Some}
 use Rattle.type_table.proofs.Elements.{take-suc_found, element_at}
-use Rattle.line_text.specs.Rules.{Rules, count_at, has_stood, end_rank, last_item}
+use Rattle.line_text.specs.Rules.{Rules, count_at, was_read, end_rank, last_item}
 use Rattle.line_text.specs.LineTests.{item_fault, is_late, lacks, is_full, is_single, is_needed, ascends, pair_below}
-use Rattle.line_text.specs.Accepted.{IsAccepted, HasPassed, HavePassed, AreAt, HaveNoTwins, HaveRisingRanks, HasKeys, HaveRisingKeys, HaveSinglesOnce, Stands, HaveNeeded, KeepLimits, HaveOneEnd, HaveSinglesInFront, AreInOrder}
+use Rattle.line_text.specs.Accepted.{IsAccepted, HasPassed, HavePassed, AreAt, HaveNoTwins, HaveRisingRanks, HasKeys, HaveRisingKeys, HaveSinglesOnce, HaveItemOf, HaveNeeded, KeepLimits, HaveOneEnd, HaveSinglesInFront, AreInOrder}
 use Rattle.line_text.specs.declared.fault.FaultKind.{FaultKind}
 use Rattle.line_text.specs.declared.fault.FaultKind.TheVariants.{OutOfOrder, Missing, OutOfRange, TwiceOp}
 use Rattle.line_text.specs.declared.section.Section.{Section}
@@ -83,20 +83,20 @@ count_at-cons : {Item : Type 0} (g : Rules Item) (x : Item) (items : List Item) 
 count_at-cons g x items rank = omega (arith, sum_by-append (λ y. cond (eqb (g.rank_of y) rank) 1 0) (x ∷ []) items)
 
 -- a rank with a count has an item
-Stands-from_count : {Item : Type 0} (g : Rules Item) (items : List Item) (rank : ℕ) → 0 < count_at g items rank → Stands g items rank
-Stands-from_count g [] rank some = absurd (omega arith)
-Stands-from_count g (x ∷ items) rank some = go (eqb (g.rank_of x) rank) refl (λ rest. Stands-from_count g items rank rest)
+HaveItemOf-from_count : {Item : Type 0} (g : Rules Item) (items : List Item) (rank : ℕ) → 0 < count_at g items rank → HaveItemOf g items rank
+HaveItemOf-from_count g [] rank some = absurd (omega arith)
+HaveItemOf-from_count g (x ∷ items) rank some = go (eqb (g.rank_of x) rank) refl (λ rest. HaveItemOf-from_count g items rank rest)
   where
-    go : (b : Bool) → eqb (g.rank_of x) rank ≡ b → (0 < count_at g items rank → Stands g items rank) → Stands g (x ∷ items) rank
+    go : (b : Bool) → eqb (g.rank_of x) rank ≡ b → (0 < count_at g items rank → HaveItemOf g items rank) → HaveItemOf g (x ∷ items) rank
     go true e rest = record { place = 0; item = x; at = refl; ranked = eqb-true (g.rank_of x) rank e }
     go false e rest =
         let counted : count_at g (x ∷ items) rank ≡ count_at g items rank = count_at-cons g x items rank ∙ rw e (omega arith) in
         let s = rest (omega arith) in
         record { place = suc s.place; item = s.item; at = s.at; ranked = s.ranked }
 
--- a rank that has stood has an item
-Stands-from_stood : {Item : Type 0} (g : Rules Item) (items : List Item) (rank : ℕ) → has_stood g items rank ≡ true → Stands g items rank
-Stands-from_stood g items rank e = Stands-from_count g items rank (ltb-true 0 (count_at g items rank) e)
+-- a rank that was read has an item
+HaveItemOf-from_read : {Item : Type 0} (g : Rules Item) (items : List Item) (rank : ℕ) → was_read g items rank ≡ true → HaveItemOf g items rank
+HaveItemOf-from_read g items rank e = HaveItemOf-from_count g items rank (ltb-true 0 (count_at g items rank) e)
 
 -- a rank with an item has a count
 pub count_from_at : {Item : Type 0} (g : Rules Item) (items : List Item) (rank n : ℕ) (x : Item) → slice_get items n ≡ Some x → g.rank_of x ≡ rank → 0 < count_at g items rank
@@ -106,32 +106,32 @@ count_from_at g (y ∷ items) rank zero x e is =
     rw (count_at-cons g y items rank, ranked) (omega arith)
 count_from_at g (y ∷ items) rank (suc n) x e is = rw (count_at-cons g y items rank) (omega (arith, count_from_at g items rank n x e is))
 
--- a rank with an item has stood
-stood_from_at : {Item : Type 0} (g : Rules Item) (items : List Item) (rank n : ℕ) (x : Item) → slice_get items n ≡ Some x → g.rank_of x ≡ rank → has_stood g items rank ≡ true
-stood_from_at g items rank n x e is = lt-ltb 0 (count_at g items rank) (count_from_at g items rank n x e is)
+-- a rank with an item was read
+read_from_at : {Item : Type 0} (g : Rules Item) (items : List Item) (rank n : ℕ) (x : Item) → slice_get items n ≡ Some x → g.rank_of x ≡ rank → was_read g items rank ≡ true
+read_from_at g items rank n x e is = lt-ltb 0 (count_at g items rank) (count_from_at g items rank n x e is)
 
--- nothing that is lacking: a needed section of a lower rank has stood
-stood_from_lacks : {Item : Type 0} (g : Rules Item) (before : List Item) (n rank : ℕ) → lacks g before n ≡ false → rank < n → is_needed (slice_get g.sections rank) ≡ true → has_stood g before rank ≡ true
-stood_from_lacks g before zero rank none below need = absurd (omega arith)
-stood_from_lacks g before (suc n) rank none below need =
-    let parts = or_parts (lacks g before n) (is_needed (slice_get g.sections n) && not (has_stood g before n)) none in
+-- nothing that is lacking: a needed section of a lower rank was read
+read_from_lacks : {Item : Type 0} (g : Rules Item) (before : List Item) (n rank : ℕ) → lacks g before n ≡ false → rank < n → is_needed (slice_get g.sections rank) ≡ true → was_read g before rank ≡ true
+read_from_lacks g before zero rank none below need = absurd (omega arith)
+read_from_lacks g before (suc n) rank none below need =
+    let parts = or_parts (lacks g before n) (is_needed (slice_get g.sections n) && not (was_read g before n)) none in
     elim (cases_eq rank n) [
-      | inl e ↦ rw e (needed_stood (is_needed (slice_get g.sections n)) (has_stood g before n) parts.1 (rw e at need))
-      | inr e ↦ stood_from_lacks g before n rank parts.0 (omega arith) need
+      | inl e ↦ rw e (needed_read (is_needed (slice_get g.sections n)) (was_read g before n) parts.1 (rw e at need))
+      | inr e ↦ read_from_lacks g before n rank parts.0 (omega arith) need
     ]
   where
-    needed_stood : (a b : Bool) → (a && not b) ≡ false → a ≡ true → b ≡ true
-    needed_stood true true h t = refl
-    needed_stood true false h t = absurd cc
-    needed_stood false b h t = absurd cc
+    needed_read : (a b : Bool) → (a && not b) ≡ false → a ≡ true → b ≡ true
+    needed_read true true h t = refl
+    needed_read true false h t = absurd cc
+    needed_read false b h t = absurd cc
 
--- ---- two items that stand side by side
+-- ---- two items side by side
 
 -- test 7 on numbers
 abbrev not_late : ℕ → ℕ → Bool → Bool
 not_late rank last single = ltb rank last || (eqb rank last && single)
 
--- behind an item stands one of no lower rank, and of a higher one where the section is single
+-- after an item comes one of no lower rank, and of a higher one where the section is single
 ranks_beside : (rank last : ℕ) (single : Bool) → not_late rank last single ≡ false → (last ≤ rank) × (single ≡ true → last < rank)
 ranks_beside rank last single e =
     let parts = or_parts (ltb rank last) (eqb rank last && single) e in
@@ -205,7 +205,7 @@ module _ {Item : Type 0} (g : Rules Item) (items : List Item) (h : IsAccepted g 
   have_rising_keys : HaveRisingKeys g items
   have_rising_keys rank i j x y a b keys below at p q k l = rising_keys rank keys (j - i - 1) i x y a b at.first (ap (slice_get items) (omega arith) ∙ at.second) p q k l
 
-  -- behind an item of a single section stands none of its rank
+  -- after an item of a single section comes none of its rank
   single_before : (i j : ℕ) (x y : Item) → i < j → AreAt items i j x y → g.rank_of x ≡ g.rank_of y → is_single (slice_get g.sections (g.rank_of y)) ≡ true → ⊥
   single_before i zero x y below at same one = absurd (omega arith)
   single_before i (suc j) x y below at same one =
@@ -224,16 +224,16 @@ module _ {Item : Type 0} (g : Rules Item) (items : List Item) (h : IsAccepted g 
       ]
 
   -- `end` is there
-  the_end : Stands g items (end_rank g)
-  the_end = Stands-from_stood g items (end_rank g) h.has_ended
+  the_end : HaveItemOf g items (end_rank g)
+  the_end = HaveItemOf-from_read g items (end_rank g) h.has_ended
 
   -- each section that must be there is there
   have_needed : HaveNeeded g items
   have_needed = record {
     each = λ rank below need.
         let passed = have_passed the_end.place the_end.item the_end.at in
-        let stood = stood_from_lacks g (take the_end.place items) (g.rank_of the_end.item) rank passed.lacks_none (omega (arith, the_end.ranked)) need in
-        let s = Stands-from_stood g (take the_end.place items) rank stood in
+        let is_read = read_from_lacks g (take the_end.place items) (g.rank_of the_end.item) rank passed.lacks_none (omega (arith, the_end.ranked)) need in
+        let s = HaveItemOf-from_read g (take the_end.place items) rank is_read in
         record { place = s.place; item = s.item; at = (from_front the_end.place items s.place s.item s.at).1; ranked = s.ranked };
     end = the_end;
   }
@@ -266,8 +266,8 @@ module _ {Item : Type 0} (g : Rules Item) (items : List Item) (h : IsAccepted g 
       let within = slice_get_within items n x e in
       elim (cases_lt (suc n) (length items)) [
         | inl more ↦ absurd (
-            let stood = stood_from_at g (take (suc n) items) (end_rank g) n x (slice_get-take (suc n) items n (omega arith) ∙ e) is in
-            let clash : true ≡ false = sym stood ∙ h.before_end (suc n) more in cc)
+            let is_read = read_from_at g (take (suc n) items) (end_rank g) n x (slice_get-take (suc n) items n (omega arith) ∙ e) is in
+            let clash : true ≡ false = sym is_read ∙ h.before_end (suc n) more in cc)
         | inr last ↦ omega arith
       ]
 
@@ -281,7 +281,7 @@ module _ {Item : Type 0} (g : Rules Item) (items : List Item) (h : IsAccepted g 
         ap (λ z. g.rank_of z) (sym same) ∙ the_end.ranked,
   )
 
-  -- leading single sections stand at their ranks
+  -- leading single sections are at their ranks
   have_singles_in_front : HaveSinglesInFront g items
   have_singles_in_front zero below ones =
       let x = element_at items 0 (omega (arith, slice_get_within items the_end.place the_end.item the_end.at)) in (
@@ -290,8 +290,8 @@ module _ {Item : Type 0} (g : Rules Item) (items : List Item) (h : IsAccepted g 
         elim (cases_eq (g.rank_of x.0) 0) [
           | inl e ↦ e
           | inr e ↦ absurd (
-              let stood : has_stood g [] 0 ≡ true = stood_from_lacks g [] (g.rank_of x.0) 0 (have_passed 0 x.0 x.1).lacks_none (omega arith) (ones 0 (omega arith)).1 in
-              let clash : false ≡ true = stood in cc)
+              let is_read : was_read g [] 0 ≡ true = read_from_lacks g [] (g.rank_of x.0) 0 (have_passed 0 x.0 x.1).lacks_none (omega arith) (ones 0 (omega arith)).1 in
+              let clash : false ≡ true = is_read in cc)
         ],
       )
   have_singles_in_front (suc rank) below ones =
@@ -311,8 +311,8 @@ module _ {Item : Type 0} (g : Rules Item) (items : List Item) (h : IsAccepted g 
         elim (cases_eq (g.rank_of x.0) (suc rank)) [
           | inl e ↦ e
           | inr e ↦ absurd (
-              let stood = stood_from_lacks g (take (suc rank) items) (g.rank_of x.0) (suc rank) (have_passed (suc rank) x.0 x.1).lacks_none (omega arith) (ones (suc rank) (omega arith)).1 in
-              let s = Stands-from_stood g (take (suc rank) items) (suc rank) stood in
+              let is_read = read_from_lacks g (take (suc rank) items) (g.rank_of x.0) (suc rank) (have_passed (suc rank) x.0 x.1).lacks_none (omega arith) (ones (suc rank) (omega arith)).1 in
+              let s = HaveItemOf-from_read g (take (suc rank) items) (suc rank) is_read in
               let here = from_front (suc rank) items s.place s.item s.at in
               let up = have_rising_ranks s.place rank s.item z.0 (omega (arith, here.0)) (record { first = here.1; second = z.1 }) in
               omega (arith, z.2, s.ranked))

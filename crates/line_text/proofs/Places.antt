@@ -12,12 +12,12 @@ use Rattle.line_text.specs.declared.fault.FaultKind.{FaultKind}
 use Rattle.line_text.specs.declared.fault.FaultKind.TheVariants.{Missing}
 use Rattle.line_text.specs.declared.fault.TextFault.{TextFault}
 
--- the element behind a front
+-- the element after a front
 pub slice_get_at : {X : Type 0} (front : List X) (x : X) (back : List X) → slice_get (front ++ x ∷ back) (length front) ≡ Some x
 slice_get_at [] x back = refl
 slice_get_at (y ∷ front) x back = slice_get_at front x back
 
--- the line behind a front is judged by what the front says
+-- the line after a front is judged by what the front says
 pub refusal_at_here : {Item : Type 0} (g : Rules Item) (before : List TextLine) (l : TextLine) (after : List TextLine) → refusal_at g (before ++ l ∷ after) (length before) ≡ fault_of g before l
 refusal_at_here g before l after = rw (slice_get_at before l after, take_at before (l ∷ after) (length before) refl) refl
 

@@ -5,17 +5,18 @@ use Rattle.std.specs.Option.{option_to_list}
 use Rattle.std.proofs.lemmas.Option.{same_Some}
 use Rattle.std.proofs.lemmas.Bool.{and_from, and_parts, ne_eqb, le-leb, le-ltb}
 use Rattle.std.proofs.lemmas.List.{length-append, length-take-le, length-drop, take-append-drop}
+use Rattle.type_table.proofs.Elements.{each-weaker}
 use Rattle.line_text.specs.Text.{is_digit, number_value}
 use Rattle.line_text.specs.LineTests.{is_text_byte, words_fault, line_fault}
 use Rattle.line_text.specs.Plain.{IsPlainLine, IsNumberBefore, KeepsPlainly}
-use Rattle.line_text.specs.Rules.{Rules, count_at, has_stood, end_rank, last_item, item_in}
+use Rattle.line_text.specs.Rules.{Rules, count_at, was_read, end_rank, last_item, item_in}
 use Rattle.line_text.specs.Spelling.{spaced, IsWord}
 use Rattle.line_text.specs.Steps.{ended, place_of, place_in, IsCut, Reads}
 use Rattle.line_text.specs.Accepted.{HasPassed}
-use Rattle.line_text.specs.declared.stood.Place.{Place}
+use Rattle.line_text.specs.declared.read_so_far.Place.{Place}
 use Rattle.line_text.proofs.Order.{count_from_at}
 use Rattle.line_text.proofs.Numbers.{digit_range, number_of-digits}
-use Rattle.line_text.proofs.Spelled.{InWord, each_weaker, all_pass, InLine, content_again, spaced_bytes, first_line}
+use Rattle.line_text.proofs.Spelled.{InWord, all_pass, InLine, content_again, spaced_bytes, first_line}
 use Rattle.line_text.proofs.Items.{no_fault}
 
 -- a plain line has words
@@ -29,7 +30,7 @@ plain_words [] text behind h = tt
 plain_words (w ∷ []) text behind h = (h.0, tt)
 plain_words (w ∷ v ∷ words) text behind h = (h.1, plain_words (v ∷ words) h.0 behind h.3)
 
--- the text is that of the words, an LF, and what is behind
+-- the text is that of the words, an LF, and what comes after
 plain_text : (words : List (List ℕ)) (text behind : List ℕ) → IsPlainLine words text behind → text ≡ (spaced words ++ 10 ∷ []) ++ behind
 plain_text [] text behind h = absurd h
 plain_text (w ∷ []) text behind h = h.1 ∙ sym (append_assoc w (10 ∷ []) behind)
@@ -57,7 +58,7 @@ IsCut-plain words text behind h no_comment short =
     let bytes = spaced words in
     let formed = spaced_bytes words each in
     let long : length text ≡ length bytes + 1 + length behind = ap length is ∙ rw (length-append (bytes ++ 10 ∷ []) behind, length-append bytes (10 ∷ [])) refl in
-    let ascii : list_all is_text_byte bytes ≡ true = all_pass is_text_byte bytes (each_weaker InLine (λ b. is_text_byte b ≡ true) (λ b k. and_from (leb 32 b) (leb b 126) (le-leb 32 b k.0) (le-leb b 126 k.1)) bytes formed) in
+    let ascii : list_all is_text_byte bytes ≡ true = all_pass is_text_byte bytes (each-weaker {P = InLine} {Q = λ b. is_text_byte b ≡ true} (λ b k. and_from (leb 32 b) (leb b 126) (le-leb 32 b k.0) (le-leb b 126 k.1)) bytes formed) in
     let few : ltb 200 (length bytes) ≡ false = le-ltb 200 (length bytes) (omega arith) in
     let front : get_or text 0 0 ≡ get_or bytes 0 0 = ap (λ zs. get_or zs 0 0) (is ∙ append_assoc bytes (10 ∷ []) behind) ∙ first_byte bytes (10 ∷ behind) (spaced_some words some each) in
     record {
@@ -69,7 +70,7 @@ IsCut-plain words text behind h no_comment short =
     }
 
 -- words that say an item which has passed are not refused
-no_words_fault : {Item : Type 0} (g : Rules Item) (before : List Item) (words : List (List ℕ)) (x : Item) → 0 < length words → has_stood g before (end_rank g) ≡ false
+no_words_fault : {Item : Type 0} (g : Rules Item) (before : List Item) (words : List (List ℕ)) (x : Item) → 0 < length words → was_read g before (end_rank g) ≡ false
     → g.item_of words ≡ Ok x → HasPassed g before x → words_fault g before words ≡ None
 unfolding words_fault
 no_words_fault g before words x some unended said h =
@@ -77,7 +78,7 @@ no_words_fault g before words x some unended said h =
     rw (here, unended, said) (no_fault g before x h)
 
 -- so a text's first line has passed where its item was kept
-pub Reads-plain : {Item : Type 0} (g : Rules Item) (rank : ℕ) (text behind : List ℕ) (before after : List Item) → has_stood g before (end_rank g) ≡ false → KeepsPlainly g rank text behind before after → Reads g text behind before after
+pub Reads-plain : {Item : Type 0} (g : Rules Item) (rank : ℕ) (text behind : List ℕ) (before after : List Item) → was_read g before (end_rank g) ≡ false → KeepsPlainly g rank text behind before after → Reads g text behind before after
 unfolding line_fault
 Reads-plain g rank text behind before after unended h =
     let words = h.says.words in
@@ -102,9 +103,9 @@ last_counts {Item = Item} g items last is = go (last_item items) refl is
     go None e f = absurd cc
     go (Some y) e f = count_from_at g items last.rank (length items - 1) y e (sym (ap (λ p. p.rank) (same_Some last (place_of g y) f)))
 
--- ---- words in front of a text
+-- ---- words before a text
 
--- a front, the byte behind it, and the others
+-- a front, the byte after it, and the others
 pub front_at : (text : List ℕ) (count stop : ℕ) → count < length text → get_or text count 0 ≡ stop → text ≡ take count text ++ stop ∷ drop (count + 1) text
 front_at text count stop within at =
     sym (take-append-drop count text) ∙ ap (λ zs. take count text ++ zs) (drop-cons text count 0 within ∙ rw (at, add-one) refl)
@@ -117,7 +118,7 @@ digits_in_word (b ∷ w) e =
     let range = digit_range b parts.0 in
     ((omega arith, omega arith), digits_in_word w parts.1)
 
--- digits, and a byte behind them
+-- digits, and a byte after them
 pub IsNumberBefore-digits : (text : List ℕ) (count number stop : ℕ) → count < length text → 0 < count → count ≤ 7 → list_all is_digit (take count text) ≡ true
     → (ltb 1 (length (take count text)) && eqb (get_or (take count text) 0 0) 48) ≡ false → get_or text count 0 ≡ stop → number ≡ number_value (take count text)
     → IsNumberBefore stop text number (drop (count + 1) text)

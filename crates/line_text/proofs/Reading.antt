@@ -5,7 +5,7 @@ use Rattle.std.specs.List.{cons_option}
 use Rattle.std.proofs.lemmas.List.{append-nil, length-append}
 use Rattle.std.proofs.lemmas.List.Elements.{filter_map-append}
 use Rattle.line_text.specs.Text.{TextLine, lines_of, content_of}
-use Rattle.line_text.specs.Rules.{Rules, item_in, items_of, has_stood, end_rank}
+use Rattle.line_text.specs.Rules.{Rules, item_in, items_of, was_read, end_rank}
 use Rattle.line_text.specs.LineTests.{line_fault}
 use Rattle.line_text.specs.Outcome.{fault_on, has_ended, outcome_of, refusal_at, ArePassed, IsReached}
 use Rattle.line_text.specs.declared.fault.FaultKind.{FaultKind}
@@ -68,17 +68,17 @@ module _ {Item : Type 0} (g : Rules Item) (text rest : List ℕ) (line : ℕ) (i
   all_passed : ArePassed g (lines_of text) (length (lines_of text))
   all_passed k below = read.passed k (omega (arith, ap length no_more))
 
-  -- `end` stands among the lines where it stands among the items
-  stood_is : has_ended g (lines_of text) ≡ has_stood g items (end_rank g)
-  stood_is = rw (no_more, read.items_are) refl
+  -- `end` is among the lines where it is among the items
+  read_is : has_ended g (lines_of text) ≡ was_read g items (end_rank g)
+  read_is = rw (no_more, read.items_are) refl
 
-  -- behind the last line `end` hasn't stood
-  pub unfinished_next : false ≡ has_stood g items (end_rank g) → outcome_of g text ≡ Err (fault_on line Missing)
-  unfinished_next e = outcome_from g text (Err (fault_on line Missing)) (inr (record { passed = all_passed; no_end = stood_is ∙ sym e; fault = ap (λ (n : ℕ). fault_on n Missing) (read.line_is ∙ ap (λ (ls : List TextLine). length ls + 1) (sym no_more)) }))
+  -- after the last line `end` wasn't read
+  pub unfinished_next : false ≡ was_read g items (end_rank g) → outcome_of g text ≡ Err (fault_on line Missing)
+  unfinished_next e = outcome_from g text (Err (fault_on line Missing)) (inr (record { passed = all_passed; no_end = read_is ∙ sym e; fault = ap (λ (n : ℕ). fault_on n Missing) (read.line_is ∙ ap (λ (ls : List TextLine). length ls + 1) (sym no_more)) }))
 
-  -- behind the last line `end` has stood
-  pub value_next : true ≡ has_stood g items (end_rank g) → outcome_of g text ≡ Ok items
-  value_next e = outcome_from g text (Ok items) (record { passed = all_passed; ended = stood_is ∙ sym e; value = read.items_are ∙ ap (items_of g) (sym no_more) })
+  -- after the last line `end` was read
+  pub value_next : true ≡ was_read g items (end_rank g) → outcome_of g text ≡ Ok items
+  value_next e = outcome_from g text (Ok items) (record { passed = all_passed; ended = read_is ∙ sym e; value = read.items_are ∙ ap (items_of g) (sym no_more) })
 
 -- before the first line
 pub HasRead-none : {Item : Type 0} (g : Rules Item) (text : List ℕ) (items : List Item) → items ≡ [] → HasRead g text text 1 items

@@ -6,7 +6,7 @@ use Rattle.std.proofs.lemmas.List.Elements.{All-from_recursion, filter_map-appen
 use Rattle.std.proofs.lemmas.List.Splits.{length-slice_split, slice_split-cons_yes, slice_split-cons_no, slice_split_at}
 use Rattle.std.specs.Prelude.{nat_le, if◌then◌else◌}
 use Rattle.line_text.specs.Text.{TextLine, is_comment, lines_of, lines_of_pieces}
-use Rattle.line_text.specs.Rules.{Rules, items_of, has_stood, end_rank}
+use Rattle.line_text.specs.Rules.{Rules, items_of, was_read, end_rank}
 use Rattle.line_text.specs.LineTests.{is_text_byte, fault_of, line_fault, words_fault}
 use Rattle.line_text.specs.Outcome.{first_fault, fault_on, has_ended, or_fault, or_next, outcome_of}
 use Rattle.line_text.specs.Comments.{AreSkipped, IsComment, MaySkip, ended, lines_text, tells}
@@ -46,7 +46,7 @@ cut_at : (front rest : List ℕ) → slice_split is_feed (front ++ 10 ∷ rest) 
 cut_at [] rest = slice_split-cons_yes is_feed 10 rest refl
 cut_at (b ∷ front) rest = cut_more b front rest (is_feed b) refl (cut_at front rest)
 
--- a piece in front of others is a line with its LF
+-- a piece before others is a line with its LF
 first_piece : (p : List ℕ) (ps : List (List ℕ)) → 0 < length ps → lines_of_pieces (p ∷ ps) ≡ ended_line p ∷ lines_of_pieces ps
 first_piece p [] some = absurd (omega (arith, some))
 first_piece p (q ∷ ps) some = refl
@@ -60,7 +60,7 @@ first_pieces [] qs some = refl
 first_pieces (p ∷ ps) qs some =
     first_piece p (ps ++ qs) (more ps qs some) ∙ ap (λ (ls : List TextLine). ended_line p ∷ ls) (first_pieces ps qs some)
 
--- the lines up to a LF, and those behind it
+-- the lines up to a LF, and those after it
 lines_append : (front rest : List ℕ) → lines_of (ended front ++ rest) ≡ lines_of (ended front) ++ lines_of rest
 lines_append front rest =
     let cut : (r : List ℕ) → lines_of (front ++ 10 ∷ r) ≡ map ended_line (slice_split is_feed front) ++ lines_of r =
@@ -78,7 +78,7 @@ no_feed (b ∷ l) bytes =
     let low = leb-true 32 b (and_parts (nat_le 32 b) (nat_le b 126) parts.0).0 in
     (ne_eqb b 10 (λ e. omega (arith, e, low)), no_feed l parts.1)
 
--- its line, in front of others
+-- its line, before others
 comment_line : (l rest : List ℕ) → IsComment l → lines_of (ended l ++ rest) ≡ ended_line l ∷ lines_of rest
 comment_line l rest is =
     let alone : lines_of (ended l) ≡ ended_line l ∷ [] =
@@ -134,10 +134,10 @@ module _ {Item : Type 0} (g : Rules Item) where
   unfolding first_fault
   end_passes before others same passed =
       let ends = has_ended-from (has_ended g before) (fault_on (length before + 1) _) passed in
-      let ended_too : has_ended g others ≡ true = ap (λ (xs : List Item). has_stood g xs (end_rank g)) (sym same) ∙ ends in
+      let ended_too : has_ended g others ≡ true = ap (λ (xs : List Item). was_read g xs (end_rank g)) (sym same) ∙ ends in
       rw ended_too refl
 
-  -- lines that pass behind some pass behind others that say the same
+  -- lines that pass after some lines pass after others that say the same
   front_passes : (front rest more_rest before others : List TextLine) → Alike before others
       → ((b o : List TextLine) → Alike b o → first_fault g b rest ≡ None → first_fault g o more_rest ≡ None)
       → first_fault g before (front ++ rest) ≡ None → first_fault g others (front ++ more_rest) ≡ None
@@ -155,11 +155,11 @@ module _ {Item : Type 0} (g : Rules Item) where
 
   -- ---- all lines
 
-  -- the lines that tell something, where the first is a comment or isn't
+  -- the lines that say something, where the first is a comment or isn't
   abbrev told : Bool → List ℕ → List (List ℕ) → List (List ℕ)
   told is l ls = cond (not is) (l ∷ filter tells ls) (filter tells ls)
 
-  -- what passes where it tells passes with its comments
+  -- what passes without its comments passes with them
   abbrev Passes : List (List ℕ) → Type 0
   Passes ls =
       (before others : List TextLine) → Alike before others → first_fault g before (lines_of (lines_text (filter tells ls))) ≡ None

@@ -1,5 +1,5 @@
 -- The canonical text of items is read as these items.
-use Rattle.std.proofs.Common.{◌≡◌, ◌≢◌, ℕ, zero, suc, ◌<◌, ◌≤◌, Bool, true, false, eqb, leb, ltb, List, [], ◌∷◌, ◌++◌, length, get_or, take, map, filter, Some, None, Ok, refl, sym, ap, ◌∙◌, append_assoc, arith}
+use Rattle.std.proofs.Common.{◌≡◌, ◌≢◌, ℕ, ◌<◌, ◌≤◌, Bool, true, false, eqb, leb, ltb, List, [], ◌∷◌, ◌++◌, length, get_or, take, map, filter, Some, None, Ok, refl, sym, ap, ◌∙◌, append_assoc, arith}
 use Rattle.std.specs.Option.{option_map}
 use Rattle.std.specs.List.{All, AllByRecursion, list_all, slice_get, slice_split}
 use Rattle.std.proofs.lemmas.Bool.{ne_eqb, le-leb, le-ltb, and_from}
@@ -7,9 +7,9 @@ use Rattle.std.proofs.lemmas.List.{take-map, length-map}
 use Rattle.std.proofs.lemmas.List.Elements.{All-from_recursion}
 use Rattle.std.proofs.lemmas.List.Splits.{slice_split_at, slice_split_none, length-slice_split}
 use Rattle.std.proofs.lemmas.Option.{slice_get-map}
-use Rattle.type_table.proofs.Elements.{each-append, each-found, element_at}
+use Rattle.type_table.proofs.Elements.{each-append, each-found, each-take, each-weaker, element_at}
 use Rattle.line_text.specs.Text.{TextLine, has_bytes, lines_of, lines_of_pieces, is_comment, content_of}
-use Rattle.line_text.specs.Rules.{Rules, item_in, items_of, has_stood, end_rank}
+use Rattle.line_text.specs.Rules.{Rules, item_in, items_of, was_read, end_rank}
 use Rattle.line_text.specs.LineTests.{is_text_byte, item_fault, words_fault, line_fault}
 use Rattle.line_text.specs.Outcome.{ArePassed}
 use Rattle.line_text.specs.Accepted.{IsAccepted}
@@ -19,17 +19,6 @@ use Rattle.line_text.proofs.Words.{content_of-plain}
 use Rattle.line_text.proofs.Places.{outcome_from}
 
 -- ---- facts of each element
-
--- a weaker fact
-pub each_weaker : {X : Type 0} (P Q : X → Type 0) → ((x : X) → P x → Q x) → (xs : List X) → AllByRecursion P xs → AllByRecursion Q xs
-each_weaker P Q f [] h = tt
-each_weaker P Q f (x ∷ xs) h = (f x h.0, each_weaker P Q f xs h.1)
-
--- of a front
-each_take : {X : Type 0} (P : X → Type 0) (n : ℕ) (xs : List X) → AllByRecursion P xs → AllByRecursion P (take n xs)
-each_take P zero xs h = tt
-each_take P (suc n) [] h = tt
-each_take P (suc n) (x ∷ xs) h = (h.0, each_take P n xs h.1)
 
 -- as a test
 pub all_pass : (p : ℕ → Bool) (xs : List ℕ) → AllByRecursion (λ b. p b ≡ true) xs → list_all p xs ≡ true
@@ -48,7 +37,7 @@ InLine b = (32 ≤ b) × (b ≤ 126)
 
 -- a word has no space
 pub no_space : (w : List ℕ) → AllByRecursion InWord w → All (λ b. eqb b 32 ≡ false) w
-no_space w h = All-from_recursion (λ b. eqb b 32 ≡ false) w (each_weaker InWord (λ b. eqb b 32 ≡ false) (λ b k. ne_eqb b 32 (λ e. omega arith)) w h)
+no_space w h = All-from_recursion (λ b. eqb b 32 ≡ false) w (each-weaker {P = InWord} {Q = λ b. eqb b 32 ≡ false} (λ b k. ne_eqb b 32 (λ e. omega arith)) w h)
 
 -- words with one space between are split into these words
 pieces_again : (w : List ℕ) (ws : List (List ℕ)) → AllByRecursion IsWord (w ∷ ws) → slice_split (λ b. eqb b 32) (spaced (w ∷ ws)) ≡ w ∷ ws
@@ -74,13 +63,13 @@ content_again (w ∷ ws) some each plain = sym (content_of-plain (spaced (w ∷ 
 -- words and the spaces between are bytes of a line
 pub spaced_bytes : (ws : List (List ℕ)) → AllByRecursion IsWord ws → AllByRecursion InLine (spaced ws)
 spaced_bytes [] h = tt
-spaced_bytes (w ∷ []) h = each_weaker InWord InLine (λ b k. (omega arith, k.1)) w h.0.1
-spaced_bytes (w ∷ v ∷ ws) h = each-append InLine w (32 ∷ spaced (v ∷ ws)) (each_weaker InWord InLine (λ b k. (omega arith, k.1)) w h.0.1) ((omega arith, omega arith), spaced_bytes (v ∷ ws) h.1)
+spaced_bytes (w ∷ []) h = each-weaker {P = InWord} {Q = InLine} (λ b k. (omega arith, k.1)) w h.0.1
+spaced_bytes (w ∷ v ∷ ws) h = each-append InLine w (32 ∷ spaced (v ∷ ws)) (each-weaker {P = InWord} {Q = InLine} (λ b k. (omega arith, k.1)) w h.0.1) ((omega arith, omega arith), spaced_bytes (v ∷ ws) h.1)
 
--- a line and its LF, in front of more text
+-- a line and its LF, before more text
 pub first_line : (bytes rest : List ℕ) → AllByRecursion InLine bytes → lines_of ((bytes ++ 10 ∷ []) ++ rest) ≡ record { bytes = bytes; is_ended = true } ∷ lines_of rest
 first_line bytes rest h =
-    let no_feed = All-from_recursion (λ b. eqb b 10 ≡ false) bytes (each_weaker InLine (λ b. eqb b 10 ≡ false) (λ b k. ne_eqb b 10 (λ e. omega arith)) bytes h) in
+    let no_feed = All-from_recursion (λ b. eqb b 10 ≡ false) bytes (each-weaker {P = InLine} {Q = λ b. eqb b 10 ≡ false} (λ b k. ne_eqb b 10 (λ e. omega arith)) bytes h) in
     ap lines_of (append_assoc bytes (10 ∷ []) rest)
     ∙ ap lines_of_pieces (slice_split_at (λ b. eqb b 10) bytes 10 rest no_feed refl)
     ∙ lines_of_pieces-ended bytes (slice_split (λ b. eqb b 10) rest) (omega (arith, length-slice_split (λ b. eqb b 10) rest))
@@ -112,10 +101,10 @@ module _ {Item : Type 0} (g : Rules Item) (words : Item → List (List ℕ)) whe
   items_again (x ∷ items) h = rw (item_again x h.0) (ap (λ xs. x ∷ xs) (items_again items h.1))
 
   -- the line of an item that passes has no fault
-  line_passes : (before : List Item) (x : Item) → IsSpelled x → has_stood g before (end_rank g) ≡ false → item_fault g before x ≡ None → line_fault g before (line_of x) ≡ None
+  line_passes : (before : List Item) (x : Item) → IsSpelled x → was_read g before (end_rank g) ≡ false → item_fault g before x ≡ None → line_fault g before (line_of x) ≡ None
   unfolding line_fault words_fault
   line_passes before x s unended none =
-      let ascii : list_all is_text_byte (spaced (words x)) ≡ true = all_pass is_text_byte (spaced (words x)) (each_weaker InLine (λ b. is_text_byte b ≡ true) (λ b k. and_from (leb 32 b) (leb b 126) (le-leb 32 b k.0) (le-leb b 126 k.1)) (spaced (words x)) (spaced_bytes (words x) s.each)) in
+      let ascii : list_all is_text_byte (spaced (words x)) ≡ true = all_pass is_text_byte (spaced (words x)) (each-weaker {P = InLine} {Q = λ b. is_text_byte b ≡ true} (λ b k. and_from (leb 32 b) (leb b 126) (le-leb 32 b k.0) (le-leb b 126 k.1)) (spaced (words x)) (spaced_bytes (words x) s.each)) in
       let short : ltb 200 (length (spaced (words x))) ≡ false = le-ltb 200 (length (spaced (words x))) s.short in
       let some : eqb (length (words x)) 0 ≡ false = ne_eqb (length (words x)) 0 (λ e. omega (arith, s.some)) in
       rw (ascii, short, content_again (words x) s.some s.each s.no_comment, some, unended, s.said) none
@@ -125,7 +114,7 @@ module _ {Item : Type 0} (g : Rules Item) (words : Item → List (List ℕ)) whe
   passed_again items h accepted k below =
       let x = element_at items k below in
       let line : slice_get (map line_of items) k ≡ Some (line_of x.0) = slice_get-map line_of items k ∙ ap (option_map line_of) x.1 in
-      let front : items_of g (take k (map line_of items)) ≡ take k items = ap (items_of g) (take-map line_of k items) ∙ items_again (take k items) (each_take IsSpelled k items h) in
+      let front : items_of g (take k (map line_of items)) ≡ take k items = ap (items_of g) (take-map line_of k items) ∙ items_again (take k items) (each-take IsSpelled k items h) in
       rw (line, front) (line_passes (take k items) x.0 (each-found IsSpelled items k x.0 h x.1) (accepted.before_end k below) (accepted.each k x.0 x.1))
 
   -- so the text is read as the items

@@ -1,17 +1,17 @@
 -- What the items of an accepted text are known to be.
 use Rattle.std.specs.Prelude.{◌≡◌, ◌↔◌, ℕ, ◌+◌, ◌<◌, ◌≤◌, true, false, List, length, take, slice_get, IsSome, Some, None}
 use Rattle.std.specs.List.{list_any}
-use Rattle.line_text.specs.Rules.{Rules, count_at, has_stood, end_rank, last_item}
+use Rattle.line_text.specs.Rules.{Rules, count_at, was_read, end_rank, last_item}
 use Rattle.line_text.specs.LineTests.{item_fault, is_late, lacks, is_full, is_single, is_needed, ascends, pair_below}
 use Rattle.line_text.specs.declared.section.Section.{Section}
 
--- the items of a text that was read: each passes tests 7 to 11 behind those before it, and the last alone is `end`
+-- the items of a text that was read: each passes tests 7 to 11 after those before it, and the last alone is `end`
 pub record IsAccepted {Item : Type 0} (g : Rules Item) (items : List Item) : Type 0 where
   pub each : (n : ℕ) (x : Item) → slice_get items n ≡ Some x → item_fault g (take n items) x ≡ None
-  pub before_end : (n : ℕ) → n < length items → has_stood g (take n items) (end_rank g) ≡ false
-  pub has_ended : has_stood g items (end_rank g) ≡ true
+  pub before_end : (n : ℕ) → n < length items → was_read g (take n items) (end_rank g) ≡ false
+  pub has_ended : was_read g items (end_rank g) ≡ true
 
--- tests 7 to 11 didn't refuse an item behind these
+-- tests 7 to 11 didn't refuse an item after these
 pub record HasPassed {Item : Type 0} (g : Rules Item) (before : List Item) (x : Item) : Type 0 where
   pub in_order : is_late g (last_item before) x ≡ false
   pub lacks_none : lacks g before (g.rank_of x) ≡ false
@@ -57,7 +57,7 @@ HaveSinglesOnce {Item} g items =
     is_single (slice_get g.sections (g.rank_of x)) ≡ true → i ≡ j
 
 -- an item of a rank, and its place
-pub record Stands {Item : Type 0} (g : Rules Item) (items : List Item) (rank : ℕ) : Type 0 where
+pub record HaveItemOf {Item : Type 0} (g : Rules Item) (items : List Item) (rank : ℕ) : Type 0 where
   pub place : ℕ
   pub item : Item
   pub at : slice_get items place ≡ Some item
@@ -65,8 +65,8 @@ pub record Stands {Item : Type 0} (g : Rules Item) (items : List Item) (rank : �
 
 -- a section that must be there is there; so is `end`
 pub record HaveNeeded {Item : Type 0} (g : Rules Item) (items : List Item) : Type 0 where
-  pub each : (rank : ℕ) → rank < end_rank g → is_needed (slice_get g.sections rank) ≡ true → Stands g items rank
-  pub end : Stands g items (end_rank g)
+  pub each : (rank : ℕ) → rank < end_rank g → is_needed (slice_get g.sections rank) ≡ true → HaveItemOf g items rank
+  pub end : HaveItemOf g items (end_rank g)
 
 -- no section has more items than it may have
 abbrev pub KeepLimits : {Item : Type 0} → Rules Item → List Item → Type 0

@@ -58,7 +58,7 @@ size_of (x ∷ before) = x.1
 abbrev pub is_in_range : List Entry → Entry → Bool
 is_in_range before x = if x.0 == 0 then nat_le 1 x.1 && nat_le x.1 9 else (if x.0 == 2 then nat_lt x.1 (size_of before) && nat_lt x.2 (size_of before) else true)
 
--- a `put` comes behind an `open`
+-- a `put` comes after an `open`
 abbrev pub misses : List Entry → Entry → Bool
 misses before x = x.0 == 3 && x.2 == 1 && count_by (λ y. rank_of y == 3) before == 0
 

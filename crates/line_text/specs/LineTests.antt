@@ -4,7 +4,7 @@ use Rattle.std.specs.List.{list_all, list_any}
 use Rattle.std.specs.Option.{option_or}
 use Rattle.type_table.specs.Limits.{longest_line}
 use Rattle.line_text.specs.Text.{TextLine, content_of}
-use Rattle.line_text.specs.Rules.{Rules, items_of, count_at, has_stood, end_rank, last_item}
+use Rattle.line_text.specs.Rules.{Rules, items_of, count_at, was_read, end_rank, last_item}
 use Rattle.line_text.specs.declared.fault.FaultKind.{FaultKind}
 use Rattle.line_text.specs.declared.fault.FaultKind.TheVariants.{NotAscii, LineTooLong, Unterminated, OutOfRange, OutOfOrder, Missing, AfterEnd, TwiceOp}
 use Rattle.line_text.specs.declared.section.Section.{Section}
@@ -46,7 +46,7 @@ is_late g (Some y) x = nat_lt (g.rank_of x) (g.rank_of y) || (g.rank_of x == g.r
 -- test 8: a section of a rank below this one must be there and hasn't come
 abbrev pub lacks : {Item : Type 0} → Rules Item → List Item → ℕ → Bool
 lacks g before zero = false
-lacks g before (suc rank) = lacks g before rank || (is_needed (slice_get g.sections rank) && not (has_stood g before rank))
+lacks g before (suc rank) = lacks g before rank || (is_needed (slice_get g.sections rank) && not (was_read g before rank))
 
 -- the order of pairs: by the first numbers, then by the second
 abbrev pub pair_below : ℕ × ℕ → ℕ × ℕ → Bool
@@ -62,7 +62,7 @@ abbrev pub ascends : {Item : Type 0} → Rules Item → Option Item → Item →
 ascends g None x = true
 ascends g (Some y) x = not (g.rank_of x == g.rank_of y) || keys_ascend (g.key_of y) (g.key_of x)
 
--- the first of tests 7 to 11 that refuses an item behind others
+-- the first of tests 7 to 11 that refuses an item after others
 unfoldable pub item_fault : {Item : Type 0} → Rules Item → List Item → Item → Option FaultKind
 item_fault g before x =
     first_kind ((is_late g (last_item before) x, OutOfOrder)
@@ -81,7 +81,7 @@ parsed_fault g before (Ok x) = item_fault g before x
 unfoldable pub words_fault : {Item : Type 0} → Rules Item → List Item → List (List ℕ) → Option FaultKind
 words_fault g before words =
     if length words == 0 then None
-    else (if has_stood g before (end_rank g) then Some AfterEnd
+    else (if was_read g before (end_rank g) then Some AfterEnd
     else parsed_fault g before (g.item_of words))
 
 -- tests 1 to 3

@@ -1,7 +1,7 @@
 -- The value or the fault of a text.
 use Rattle.std.specs.Prelude.{◌≡◌, ◌↔◌, ◌⊎◌, ℕ, ◌+◌, ◌<◌, ◌≤◌, Bool, true, false, List, [], ◌∷◌, ◌++◌, length, take, slice_get, if◌then◌else◌, option_and_then, Option, Some, None, Result, Ok, Err}
 use Rattle.line_text.specs.Text.{TextLine, lines_of}
-use Rattle.line_text.specs.Rules.{Rules, items_of, has_stood, end_rank}
+use Rattle.line_text.specs.Rules.{Rules, items_of, was_read, end_rank}
 use Rattle.line_text.specs.LineTests.{fault_of}
 use Rattle.line_text.specs.declared.fault.FaultKind.{FaultKind}
 use Rattle.line_text.specs.declared.fault.FaultKind.TheVariants.{Missing, NoMemory}
@@ -18,7 +18,7 @@ or_next line None next = next
 
 -- whether `end` is among the lines
 abbrev pub has_ended : {Item : Type 0} → Rules Item → List TextLine → Bool
-has_ended g lines = has_stood g (items_of g lines) (end_rank g)
+has_ended g lines = was_read g (items_of g lines) (end_rank g)
 
 -- the first refused line of those that follow, or that `end` hasn't come
 unfoldable pub first_fault : {Item : Type 0} → Rules Item → List TextLine → List TextLine → Option TextFault
@@ -51,7 +51,7 @@ pub record IsRefused {Item : Type 0} (g : Rules Item) (lines : List TextLine) (f
   pub before : ArePassed g lines place
   pub kind : refusal_at g lines place ≡ Some f.kind
 
--- no line is refused and `end` isn't there: the fault is behind the last line
+-- no line is refused and `end` isn't there: the fault is after the last line
 pub record IsUnfinished {Item : Type 0} (g : Rules Item) (lines : List TextLine) (f : TextFault) : Type 0 where
   pub passed : ArePassed g lines (length lines)
   pub no_end : has_ended g lines ≡ false

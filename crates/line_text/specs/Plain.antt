@@ -2,14 +2,14 @@
 use Rattle.std.specs.Prelude.{◌≡◌, ◌≢◌, ℕ, ◌+◌, ◌<◌, ◌≤◌, true, false, List, [], ◌∷◌, ◌++◌, length, slice_index, slice_get, Some, None, Result, Ok}
 use Rattle.line_text.specs.Text.{number_of}
 use Rattle.line_text.specs.Spelling.{IsWord}
-use Rattle.line_text.specs.Rules.{Rules, count_at, has_stood, end_rank, last_item}
+use Rattle.line_text.specs.Rules.{Rules, count_at, was_read, end_rank, last_item}
 use Rattle.line_text.specs.LineTests.{is_late, lacks, is_full, ascends}
 use Rattle.line_text.specs.Accepted.{HasPassed}
 use Rattle.line_text.specs.Steps.{place_of}
-use Rattle.line_text.specs.declared.stood.Place.{Place}
+use Rattle.line_text.specs.declared.read_so_far.Place.{Place}
 use Rattle.line_text.specs.declared.fault.FaultKind.{FaultKind}
 
--- a text begins with these words, one space between two and an LF behind the last, and goes on so
+-- a text begins with these words, one space between two and an LF after the last, and goes on so
 abbrev pub IsPlainLine : List (List ℕ) → List ℕ → List ℕ → Type 0
 IsPlainLine [] text behind = ⊥
 IsPlainLine (w ∷ []) text behind = IsWord w × (text ≡ w ++ 10 ∷ behind)
@@ -23,7 +23,7 @@ pub record SaysPlainly {Item : Type 0} (item_of : List (List ℕ) → Result Ite
   pub short : length text ≤ length behind + 201
   pub said : item_of words ≡ Ok x
 
--- a number and this byte are in front of a text, which goes on so
+-- a text begins with a number and this byte, and goes on so
 pub record IsNumberBefore (stop : ℕ) (text : List ℕ) (n : ℕ) (behind : List ℕ) : Type 0 where
   pub word : List ℕ
   pub is_word : IsWord word
@@ -35,16 +35,16 @@ pub record IsNumberBefore (stop : ℕ) (text : List ℕ) (n : ℕ) (behind : Lis
 abbrev pub plain_place : ℕ → Place
 plain_place rank = record { rank = rank; key = None }
 
--- a section that has items may go on behind these with an item that ascends by nothing, if its numbers are in range
+-- a section that has items may go on after these with an item that ascends by nothing, if its numbers are in range
 pub record TakesMore {Item : Type 0} (g : Rules Item) (before : List Item) (rank : ℕ) : Type 0 where
-  pub unended : has_stood g before (end_rank g) ≡ false
+  pub unended : was_read g before (end_rank g) ≡ false
   pub some : 0 < count_at g before rank
   pub in_order : (x : Item) → plain_place rank ≡ place_of g x → is_late g (last_item before) x ≡ false
   pub lacks_none : lacks g before rank ≡ false
   pub has_room : is_full (slice_get g.sections rank) (count_at g before rank) ≡ false
   pub ascending : (x : Item) → plain_place rank ≡ place_of g x → ascends g (last_item before) x ≡ true
 
--- a text's first line says an item of this section plainly, which passes its tests and is kept behind the others
+-- a text's first line says an item of this section plainly, which passes its tests and is kept after the others
 pub record KeepsPlainly {Item : Type 0} (g : Rules Item) (rank : ℕ) (text behind : List ℕ) (before after : List Item) : Type 0 where
   pub item : Item
   pub says : SaysPlainly g.item_of text item behind

@@ -14,13 +14,13 @@ pub record Rules (Item : Type 0) : Type 0 where
   pub rank_of : Item → ℕ
   -- the sections by rank; the last is `end`
   pub sections : List Section
-  -- whether a line of its own section must come before an item and doesn't: a `do` wants a `job`
+  -- whether a line of its own section must come before an item and doesn't: a `do` needs a `job`
   pub misses : List Item → Item → Bool
-  -- whether the numbers of an item are in range behind these items
+  -- whether the numbers of an item are in range after these items
   pub is_in_range : List Item → Item → Bool
   -- what the items of its section ascend by, where they do
   pub key_of : Item → Option (ℕ × ℕ)
-  -- whether the first item may not come behind the second
+  -- whether the first item may not come after the second
   pub is_twin : Item → Item → Bool
 
 -- the item of a line's words, where there is a word and they say one
@@ -35,9 +35,9 @@ items_of g lines = filter_map (λ l. item_in g (content_of l.bytes)) lines
 abbrev pub count_at : {Item : Type 0} → Rules Item → List Item → ℕ → ℕ
 count_at g items rank = count_by (λ x. g.rank_of x == rank) items
 
--- whether an item of a rank is there
-abbrev pub has_stood : {Item : Type 0} → Rules Item → List Item → ℕ → Bool
-has_stood g items rank = nat_lt 0 (count_at g items rank)
+-- whether an item of a rank is among these
+abbrev pub was_read : {Item : Type 0} → Rules Item → List Item → ℕ → Bool
+was_read g items rank = nat_lt 0 (count_at g items rank)
 
 -- the rank of `end`
 abbrev pub end_rank : {Item : Type 0} → Rules Item → ℕ

@@ -10,7 +10,7 @@ use Rattle.type_table.specs.declared.kind.Kind.{Kind}
 use Rattle.type_table.specs.declared.table_kind.TableKind.{TableKind}
 
 infixl 10 ◌>>=◌
--- a step behind one that may fail, as `?` makes it
+-- a step after one that may fail, as `?` makes it
 abbrev pub ◌>>=◌ : {A B : Type 0} → Result A FaultKind → (A → Result B FaultKind) → Result B FaultKind
 (Ok x) >>= f = f x
 (Err e) >>= f = Err e
@@ -19,7 +19,7 @@ abbrev pub ◌>>=◌ : {A B : Type 0} → Result A FaultKind → (A → Result B
 abbrev pub word : List (List ℕ) → ℕ → List ℕ
 word words place = slice_index_or words place []
 
--- a line has so many words, its keyword among them
+-- a line has this many words, its keyword among them
 unfoldable pub exactly : List (List ℕ) → ℕ → Result (Unit {0}) FaultKind
 exactly words count = if length words == count then Ok tt else Err UnknownWord
 

@@ -6,7 +6,7 @@ use Rattle.line_text.specs.Rules.{Rules, IsCounted, item_in, last_item}
 use Rattle.line_text.specs.LineTests.{form_fault, lacks, words_fault, line_fault}
 use Rattle.line_text.specs.declared.fault.FaultKind.{FaultKind}
 use Rattle.line_text.specs.declared.fault.FaultKind.TheVariants.{NoMemory}
-use Rattle.line_text.specs.declared.stood.Place.{Place}
+use Rattle.line_text.specs.declared.read_so_far.Place.{Place}
 
 -- the rank of an item's section, and what the item ascends by
 abbrev pub place_of : {Item : Type 0} → Rules Item → Item → Place
@@ -42,12 +42,12 @@ pub record IsRefusedFirst (text : List ℕ) (kind : FaultKind) : Type 0 where
   pub first : lines_of text ≡ line ∷ after
   pub refused : (form_fault line ≡ Some kind) ⊎ (kind ≡ NoMemory)
 
--- words were judged behind items: they pass and their item is then behind the others, or the fault is theirs, or memory was refused
+-- words were judged after items: they pass and their item is then after the others, or the fault is theirs, or memory was refused
 abbrev pub JudgesWords : {Item : Type 0} → Rules Item → List (List ℕ) → List Item → Result (Unit {0}) FaultKind → List Item → Type 0
 JudgesWords g words before (Ok _) after = (words_fault g before words ≡ None) × (after ≡ before ++ option_to_list (item_in g words))
 JudgesWords g words before (Err kind) after = (words_fault g before words ≡ Some kind) ⊎ (kind ≡ NoMemory)
 
--- a text's first line passed behind items, and its item is then behind the others
+-- a text's first line passed after items, and its item is then after the others
 pub record Reads {Item : Type 0} (g : Rules Item) (text behind : List ℕ) (before after : List Item) : Type 0 where
   pub line : TextLine
   pub first : lines_of text ≡ line ∷ lines_of behind
@@ -55,7 +55,7 @@ pub record Reads {Item : Type 0} (g : Rules Item) (text behind : List ℕ) (befo
   pub passed : line_fault g before line ≡ None
   pub items : after ≡ before ++ option_to_list (item_in g (content_of line.bytes))
 
--- a text's first line is refused behind items, or memory was
+-- a text's first line is refused after items, or memory was
 pub record IsStopped {Item : Type 0} (g : Rules Item) (text : List ℕ) (before : List Item) (kind : FaultKind) : Type 0 where
   pub line : TextLine
   pub after : List TextLine

@@ -8,7 +8,7 @@ pub record TextLine : Type 0 where
   pub bytes : List ℕ
   pub is_ended : Bool
 
--- a line without where it lies in memory
+-- a line without where it is in memory
 abbrev pub seen : Line → TextLine
 seen l = record { bytes = l.bytes.now; is_ended = l.is_ended }
 

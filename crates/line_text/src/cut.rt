@@ -11,7 +11,7 @@ use crate::line::{Line, is_comment, split_words, take_line};
 use std::alloc::AllocError;
 use type_table::LONGEST_LINE;
 
-/// Puts the words of a text's first line in place of those in `words`, and gives what is behind the
+/// Puts the words of a text's first line in place of those in `words`, and gives what comes after the
 /// line; else the first of tests 1 to 3 that refuses it. There has to be a line.
 pub fn cut_line<'a>(text: &'a [u8], words: &mut Vec<&'a [u8]>) -> Result<&'a [u8], FaultKind>
     requires { 0 < length text.now }
@@ -41,27 +41,43 @@ fn cut_plain_line<'a>(
     }
     let mut rest = text;
     while words.len() <= LONGEST_LINE {
-        let Some((word, stop, behind)) = take_word(rest) else {
+        let Some(taken) = take_word(rest) else {
             return Ok(None);
         };
-        push_word(words, word)?;
-        match stop {
-            b' ' => rest = behind,
-            b'\n' if text.len() - behind.len() <= LONGEST_LINE + 1 => return Ok(Some(behind)),
+        push_word(words, taken.word)?;
+        match taken.stop {
+            b' ' => rest = taken.behind,
+            b'\n' if text.len() - taken.behind.len() <= LONGEST_LINE + 1 => {
+                return Ok(Some(taken.behind));
+            }
             _ => return Ok(None),
         }
     }
     Ok(None)
 }
 
-/// The bytes of a word in front of a text, the first other byte, and what is behind that.
+/// A word that was taken from the front of a text.
+#[derive(Clone, Copy)]
+struct TakenWord<'a> {
+    word: &'a [u8],
+    /// The first byte that a word can't have.
+    stop: u8,
+    /// What comes after that byte.
+    behind: &'a [u8],
+}
+
+/// The bytes of a word at the front of a text, of which there may be none.
 #[inline]
-fn take_word(text: &[u8]) -> Option<(&[u8], u8, &[u8])>
-    ensures cut { IfSome result (λ taken. text.now ≡ taken.0.now ++ taken.1 ∷ taken.2.now) }
-    ensures word { IfSome result (λ taken. AllByRecursion (λ b. (33 ≤ b) × (b ≤ 126)) taken.0.now) }
+fn take_word(text: &[u8]) -> Option<TakenWord<'_>>
+    ensures cut { IfSome result (λ taken. text.now ≡ taken.word.now ++ taken.stop ∷ taken.behind.now) }
+    ensures word { IfSome result (λ taken. AllByRecursion (λ b. (33 ≤ b) × (b ≤ 126)) taken.word.now) }
 {
     let end = word_end(text)?;
-    Some((&text[..end], text[end], &text[end + 1..]))
+    Some(TakenWord {
+        word: &text[..end],
+        stop: text[end],
+        behind: &text[end + 1..],
+    })
 }
 
 /// The place of the first byte that a word can't have.
@@ -78,7 +94,7 @@ fn is_word_byte(b: u8) -> bool
     b'!' <= b && b <= b'~'
 }
 
-/// Puts a word behind the others, if it has bytes.
+/// Puts a word after the others, if it has bytes.
 fn push_word<'a>(words: &mut Vec<&'a [u8]>, word: &'a [u8]) -> Result<(), AllocError>
     ensures { OnOk result (map (λ w. w.now) words.new.items
         ≡ map (λ w. w.now) words.old.items ++ filter has_bytes (word.now ∷ [])) }

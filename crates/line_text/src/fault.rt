@@ -14,9 +14,9 @@ pub enum FaultKind {
     LineTooLong = 2,
     /// No LF ends the line.
     Unterminated = 3,
-    /// An unknown keyword, a wrong number of words, or a word that isn't the name or kind that is wanted.
+    /// An unknown keyword, a wrong number of words, or a word that isn't the name or kind that is asked for.
     UnknownWord = 4,
-    /// A word that isn't the number that is wanted.
+    /// A word that isn't the number that is asked for.
     BadNumber = 5,
     /// A number out of its range, or a section with too many lines.
     OutOfRange = 6,
@@ -24,7 +24,7 @@ pub enum FaultKind {
     OutOfOrder = 7,
     /// A section that must be there hasn't come.
     Missing = 8,
-    /// A line behind `end`.
+    /// A line after `end`.
     AfterEnd = 9,
     /// An entry that came before and may not come twice.
     TwiceOp = 10,

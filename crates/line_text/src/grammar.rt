@@ -31,7 +31,7 @@ pub trait Grammar {
     fn nothing(&self, alloc: Global) -> Self::Kept
         ensures { kept result ≡ [] };
 
-    /// Keeps an item that passed its tests behind those before it. There are never so many items that a
+    /// Keeps an item that passed its tests after those before it. There are never so many items that a
     /// number can't count them.
     fn keep(&self, before: &mut Self::Kept, item: Self::Item) -> Result<(), AllocError>
         requires { HasPassed (rules self.now) (kept before.old) item }
@@ -44,7 +44,7 @@ pub trait Grammar {
         ensures { result ≡ (rules self.now).item_of (map (λ w. w.now) words.now) };
 
     /// Keeps what a text's first line says, where it is a plain line of the section of this rank, with one
-    /// space between two words and none elsewhere, whose numbers are in range, and gives what is behind it.
+    /// space between two words and none elsewhere, whose numbers are in range, and gives what comes after it.
     /// `None` says nothing of the line: nothing was kept, and the line is read word by word.
     fn keep_plain<'a>(
         &self,

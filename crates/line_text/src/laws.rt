@@ -13,7 +13,7 @@ pub fn outcome_by_lines<Item>()
     ensures { (g : Rules Item) (text : List ℕ) → IsOutcome g text }
 {}
 
-/// How the items of an accepted text follow each other: each passed its tests behind those before
+/// How the items of an accepted text follow each other: each passed its tests after those before
 /// it, ranks never fall, keys rise within a section, each needed section is there, and the last item
 /// alone is `end`.
 pub fn accepted_in_order<Item>()

@@ -12,9 +12,9 @@ mod more;
 mod number;
 mod plain;
 mod read;
+mod read_so_far;
 mod section;
 mod shapes;
-mod stood;
 
 pub use fault::{FaultKind, TextFault};
 pub use grammar::Grammar;

@@ -11,7 +11,7 @@ pub struct Line<'a> {
     pub is_ended: bool,
 }
 
-/// The first line of a text and what is behind it.
+/// The first line of a text and what comes after it.
 pub fn take_line(text: &[u8]) -> Option<(Line<'_>, &[u8])>
     ensures lines { MatchOption result
         (lines_of text.now ≡ [])

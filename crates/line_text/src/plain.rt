@@ -7,8 +7,8 @@ ghost use Rattle.line_text.specs.Plain.{IsNumberBefore};
 
 use crate::number::{MOST_DIGITS, has_leading_zero, is_digit};
 
-/// The number in front of a text that this byte ends, and what is behind that byte. A text that has no
-/// byte behind the most digits isn't looked at.
+/// The number at the front of a text that this byte ends, and what comes after that byte. A text that has no
+/// byte after the most digits isn't looked at.
 #[inline(always)]
 pub fn number_before(text: &[u8], stop: u8) -> Option<(u32, &[u8])>
     ensures { IfSome result (λ taken. IsNumberBefore stop text.now taken.0 taken.1.now) }
@@ -28,7 +28,7 @@ pub fn number_before(text: &[u8], stop: u8) -> Option<(u32, &[u8])>
     behind_digits(text, MOST_DIGITS, number, stop)
 }
 
-/// The same where so many digits are in front of the text, which say this number.
+/// The same where this many digits are at the front of the text and say this number.
 #[inline(always)]
 fn behind_digits(text: &[u8], count: usize, number: u32, stop: u8) -> Option<(u32, &[u8])>
     requires within { count < length text.now }
@@ -44,7 +44,7 @@ fn behind_digits(text: &[u8], count: usize, number: u32, stop: u8) -> Option<(u3
     }
 }
 
-/// The bytes of a text in front of the first such byte, and what is behind that.
+/// The bytes of a text before the first such byte, and what comes after that.
 #[inline]
 pub fn bytes_before(text: &[u8], stop: u8) -> Option<(&[u8], &[u8])>
     ensures { IfSome result (λ taken. text.now ≡ taken.0.now ++ stop ∷ taken.1.now) }

@@ -8,7 +8,7 @@ use crate::fault::{FaultKind, TextFault};
 use crate::grammar::Grammar;
 use crate::judge::judge_words;
 use crate::more::keep_plain_line;
-use crate::stood::{Stood, has_ended, nothing_stood};
+use crate::read_so_far::{ReadSoFar, has_ended, nothing_read};
 use std::alloc::Global;
 
 /// The items of a text as its grammar keeps them, or its first fault.
@@ -19,7 +19,7 @@ pub fn read_items<G: Grammar>(alloc: Global, grammar: &G, text: &[u8]) -> Result
     ensures exact { Gives G.kept result (G.rules grammar.now) text.now }
     ensures accepted { IfOk result (λ kept. IsAccepted (G.rules grammar.now) (G.kept kept)) }
 {
-    let Ok(mut stood) = nothing_stood(alloc, grammar) else {
+    let Ok(mut so_far) = nothing_read(alloc, grammar) else {
         return Err(TextFault {
             line: 1,
             kind: FaultKind::NoMemory,
@@ -29,48 +29,48 @@ pub fn read_items<G: Grammar>(alloc: Global, grammar: &G, text: &[u8]) -> Result
     let mut rest = text;
     let mut line = 1;
     while !rest.is_empty() {
-        match read_line(grammar, rest, &mut words, &mut stood) {
+        match read_line(grammar, rest, &mut words, &mut so_far) {
             Ok(behind) => rest = behind,
             Err(kind) => return Err(TextFault { line, kind }),
         }
         line += 1;
     }
-    if !has_ended(grammar, &stood) {
+    if !has_ended(grammar, &so_far) {
         return Err(TextFault {
             line,
             kind: FaultKind::Missing,
         });
     }
-    let Stood {
+    let ReadSoFar {
         kept,
         counts: _,
         last: _,
         clear: _,
-    } = stood;
+    } = so_far;
     Ok(kept)
 }
 
-/// The eleven tests of a text's first line, and what is behind it. The line's item, if it passes and has
-/// one, is then behind the others.
+/// The eleven tests of a text's first line, and what comes after it. The line's item, if it passes and has
+/// one, is then after the others.
 #[tactic(auto, unfolding(crate::specs::LineTests::line_fault))]
 fn read_line<'a, G: Grammar>(
     grammar: &G,
     text: &'a [u8],
     words: &mut Vec<&'a [u8]>,
-    stood: &mut Stood<G::Kept>,
+    so_far: &mut ReadSoFar<G::Kept>,
 ) -> Result<&'a [u8], FaultKind>
     requires some { 0 < length text.now }
-    requires known { IsKnown (G.rules grammar.now) (G.kept stood.old.kept) stood.old.counts.items stood.old.last stood.old.clear }
+    requires known { IsKnown (G.rules grammar.now) (G.kept so_far.old.kept) so_far.old.counts.items so_far.old.last so_far.old.clear }
     ensures read { MatchResult result
-        (λ behind. Reads (G.rules grammar.now) text.now behind.now (G.kept stood.old.kept) (G.kept stood.new.kept))
-        (λ kind. IsStopped (G.rules grammar.now) text.now (G.kept stood.old.kept) kind) }
+        (λ behind. Reads (G.rules grammar.now) text.now behind.now (G.kept so_far.old.kept) (G.kept so_far.new.kept))
+        (λ kind. IsStopped (G.rules grammar.now) text.now (G.kept so_far.old.kept) kind) }
     ensures known { OnOk result
-        (IsKnown (G.rules grammar.now) (G.kept stood.new.kept) stood.new.counts.items stood.new.last stood.new.clear) }
+        (IsKnown (G.rules grammar.now) (G.kept so_far.new.kept) so_far.new.counts.items so_far.new.last so_far.new.clear) }
 {
-    if let Some(behind) = keep_plain_line(grammar, text, stood) {
+    if let Some(behind) = keep_plain_line(grammar, text, so_far) {
         return Ok(behind);
     }
     let behind = cut_line(text, words)?;
-    judge_words(grammar, words, stood)?;
+    judge_words(grammar, words, so_far)?;
     Ok(behind)
 }

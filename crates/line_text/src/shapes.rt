@@ -13,7 +13,7 @@ pub fn is_key(words: &[&[u8]], key: &str) -> bool
     word(words, 0) == key.as_bytes()
 }
 
-/// That a line has so many words, its keyword among them; else `UnknownWord`.
+/// That a line has this many words, its keyword among them; else `UnknownWord`.
 #[tactic(auto, unfolding(crate::specs::Shapes::exactly))]
 pub fn exactly(words: &[&[u8]], count: usize) -> Result<(), FaultKind>
     ensures { result ≡ exactly (map (λ w. w.now) words.now) count }

@@ -23,7 +23,7 @@ call_rank_low GiveAny = (omega arith, omega arith)
 call_rank_low (AtLeast k) = (omega arith, omega arith)
 call_rank_low Value = (omega arith, omega arith)
 
--- a line that passed isn't one with a number that is too large; so its rank tells what it is
+-- a line that passed isn't one with a number that is too large; so its rank says what it is
 name_line : (x : NumberLine) → rank_of x ≡ 0 → (name : List ℕ) × (x ≡ Called name)
 name_line (Called name) e = (name, refl)
 name_line (Max m) e = absurd (omega (arith, e))
@@ -71,7 +71,7 @@ front_singles (suc (suc (suc k))) h = absurd (omega (arith, h))
 at_front : (lines : List NumberLine) → AreInOrder number_rules lines → (rank : ℕ) → rank ≤ 2 → (x : NumberLine) × (slice_get lines rank ≡ Some x) × (rank_of x ≡ rank)
 at_front lines order rank h = order.singles_in_front rank (omega (arith, h)) (λ k k_in. front_singles k (omega (arith, h, k_in)))
 
--- what a line is told of the greatest value is at most what the text says
+-- what a line knows of the greatest value is at most what the text says
 max_of-take : (lines : List NumberLine) (i : ℕ) → max_of (take i lines) ≤ max_of lines
 max_of-take [] zero = omega arith
 max_of-take [] (suc i) = omega arith
@@ -98,11 +98,11 @@ each_call p (Call d ∷ lines) h = and_from (p d) (list_all p (calls_of lines)) 
 each_call p (TooLarge counted ∷ lines) h = each_call p lines (λ i c at. h (suc i) c at)
 each_call p (End ∷ lines) h = each_call p lines (λ i c at. h (suc i) c at)
 
--- each line of a call is below all behind it
+-- each line of a call is below all those after it
 abbrev AreBelow : List NumberLine → Type 0
 AreBelow lines = (i j : ℕ) (c d : NumberCall) → i < j → CallAt lines i c → CallAt lines j d → is_below c d ≡ true
 
--- so it is of the lines behind the first
+-- so it is of the lines after the first
 below_tail : (x : NumberLine) (lines : List NumberLine) → AreBelow (x ∷ lines) → AreBelow lines
 below_tail x lines h = λ i j c d less at_i at_j. h (suc i) (suc j) c d (omega (arith, less)) at_i at_j
 
@@ -119,7 +119,7 @@ calls_ascend (Call c ∷ lines) h =
 calls_ascend (TooLarge counted ∷ lines) h = calls_ascend lines (below_tail (TooLarge counted) lines h)
 calls_ascend (End ∷ lines) h = calls_ascend lines (below_tail End lines h)
 
--- lines of which each call comes behind fewer than a limit have at most so many calls
+-- lines of which each call comes after fewer than a limit have at most as many calls
 few_calls : (limit n : ℕ) (lines : List NumberLine) → n ≤ limit → ((i : ℕ) (c : NumberCall) → CallAt lines i c → n + length (calls_of (take i lines)) < limit) → n + length (calls_of lines) ≤ limit
 few_calls limit n [] fits h = omega (arith, fits)
 few_calls limit n (Called name ∷ lines) fits h = few_calls limit n lines fits (λ i c at. h (suc i) c at)
@@ -144,7 +144,7 @@ calls_of-take (Call c ∷ lines) (suc i) = let rest = calls_of-take lines i in o
 calls_of-take (TooLarge counted ∷ lines) (suc i) = calls_of-take lines i
 calls_of-take (End ∷ lines) (suc i) = calls_of-take lines i
 
--- with one more line there is its call behind the others
+-- with one more line its call comes after the others
 pub calls_more : (lines : List NumberLine) (i : ℕ) (x : NumberLine) → i < length lines → x ≡ get_or lines i x → calls_of (take (i + 1) lines) ≡ calls_of (take i lines) ++ calls_of (x ∷ [])
 calls_more lines i x below e = ap calls_of (take_more lines i x below ∙ ap (λ y. take i lines ++ y ∷ []) (sym e)) ∙ filter_map-append call_in (take i lines) (x ∷ [])
 
@@ -191,11 +191,11 @@ module _ (lines : List NumberLine) (order : AreInOrder number_rules lines) where
   -- a call comes before `end`
   has_call : 0 < length (calls_of lines)
   has_call =
-      let stands = order.needed.end in
-      let end : stands.item ≡ End = end_line (take stands.place lines) stands.item (order.passed stands.place stands.item stands.at).in_range stands.ranked in
-      let at : slice_get lines stands.place ≡ Some End = stands.at ∙ ap Some end in
-      let none : eqb (length (calls_of (take stands.place lines))) 0 ≡ false = (order.passed stands.place End at).misses_none in
-      omega (arith, eqb-false (length (calls_of (take stands.place lines))) 0 none, calls_of-take lines stands.place)
+      let in_list = order.needed.end in
+      let end : in_list.item ≡ End = end_line (take in_list.place lines) in_list.item (order.passed in_list.place in_list.item in_list.at).in_range in_list.ranked in
+      let at : slice_get lines in_list.place ≡ Some End = in_list.at ∙ ap Some end in
+      let none : eqb (length (calls_of (take in_list.place lines))) 0 ≡ false = (order.passed in_list.place End at).misses_none in
+      omega (arith, eqb-false (length (calls_of (take in_list.place lines))) 0 none, calls_of-take lines in_list.place)
 
   pub are_number_lines : AreNumberLines lines
   are_number_lines =

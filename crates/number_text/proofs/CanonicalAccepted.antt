@@ -3,7 +3,7 @@ use Rattle.std.proofs.Common.{◌≡◌, ◌+◌, ◌<◌, ◌≤◌, Bool, true
 use Rattle.std.specs.List.{AllByRecursion, list_all}
 use Rattle.std.proofs.lemmas.Bool.{lt-ltb, le-ltb, ltb-true, eqb-true, eq-eqb, ne_eqb, le-leb, and_parts, and_from, or_left, or_cases}
 use Rattle.std.proofs.lemmas.List.{length-append, map-append}
-use Rattle.line_text.specs.Rules.{has_stood, last_item}
+use Rattle.line_text.specs.Rules.{was_read, last_item}
 use Rattle.line_text.specs.LineTests.{is_late, ascends, pair_below, is_single, is_full, lacks}
 use Rattle.std.specs.List.{slice_get}
 use Rattle.line_text.specs.Accepted.{HasPassed, IsAccepted}
@@ -22,7 +22,7 @@ use Rattle.number_text.proofs.Follows.{Follow, follow_append, no_twins, count, c
 abbrev front : Number → List NumberLine → List NumberLine
 front v more = Called v.name ∷ Max v.max ∷ Initial v.initial ∷ more
 
--- the lines in front of a call
+-- the lines before a call
 abbrev before : Number → List NumberCall → List NumberLine
 before v done = front v (map Call done)
 
@@ -33,28 +33,28 @@ calls_back (c ∷ cs) = ap (λ ds. c ∷ ds) (calls_back cs)
 
 -- ---- the sections that must be there
 
-first_stood : (v : Number) (more : List NumberLine) → has_stood number_rules (front v more) 0 ≡ true
-first_stood v more = let rest = Max v.max ∷ Initial v.initial ∷ more in lt-ltb 0 (count 0 (front v more)) (omega (arith, count-cons 0 (Called v.name) rest))
+first_read : (v : Number) (more : List NumberLine) → was_read number_rules (front v more) 0 ≡ true
+first_read v more = let rest = Max v.max ∷ Initial v.initial ∷ more in lt-ltb 0 (count 0 (front v more)) (omega (arith, count-cons 0 (Called v.name) rest))
 
-second_stood : (v : Number) (more : List NumberLine) → has_stood number_rules (front v more) 1 ≡ true
-second_stood v more = let rest = Initial v.initial ∷ more in lt-ltb 0 (count 1 (front v more)) (omega (arith, count-cons 1 (Called v.name) (Max v.max ∷ rest), count-cons 1 (Max v.max) rest))
+second_read : (v : Number) (more : List NumberLine) → was_read number_rules (front v more) 1 ≡ true
+second_read v more = let rest = Initial v.initial ∷ more in lt-ltb 0 (count 1 (front v more)) (omega (arith, count-cons 1 (Called v.name) (Max v.max ∷ rest), count-cons 1 (Max v.max) rest))
 
-third_stood : (v : Number) (more : List NumberLine) → has_stood number_rules (front v more) 2 ≡ true
-third_stood v more =
+third_read : (v : Number) (more : List NumberLine) → was_read number_rules (front v more) 2 ≡ true
+third_read v more =
     let last = Initial v.initial ∷ more in
     let rest = Max v.max ∷ last in
     lt-ltb 0 (count 2 (front v more)) (omega (arith, count-cons 2 (Called v.name) rest, count-cons 2 (Max v.max) last, count-cons 2 (Initial v.initial) more))
 
 -- so none is missing before a call
 lacks_call : (v : Number) (more : List NumberLine) (c : NumberCall) → lacks number_rules (front v more) (call_rank c) ≡ false
-lacks_call v more (Take k) = rw (first_stood v more, second_stood v more, third_stood v more) refl
-lacks_call v more TakeAny = rw (first_stood v more, second_stood v more, third_stood v more) refl
-lacks_call v more (Give k) = rw (first_stood v more, second_stood v more, third_stood v more) refl
-lacks_call v more GiveAny = rw (first_stood v more, second_stood v more, third_stood v more) refl
-lacks_call v more (AtLeast k) = rw (first_stood v more, second_stood v more, third_stood v more) refl
-lacks_call v more Value = rw (first_stood v more, second_stood v more, third_stood v more) refl
+lacks_call v more (Take k) = rw (first_read v more, second_read v more, third_read v more) refl
+lacks_call v more TakeAny = rw (first_read v more, second_read v more, third_read v more) refl
+lacks_call v more (Give k) = rw (first_read v more, second_read v more, third_read v more) refl
+lacks_call v more GiveAny = rw (first_read v more, second_read v more, third_read v more) refl
+lacks_call v more (AtLeast k) = rw (first_read v more, second_read v more, third_read v more) refl
+lacks_call v more Value = rw (first_read v more, second_read v more, third_read v more) refl
 
--- ---- behind a line that is below
+-- ---- after a line that is below
 
 -- a line is below another: by their sections, and in one section by their amounts
 abbrev IsBelow : NumberLine → NumberLine → Type 0
@@ -74,7 +74,7 @@ amount_not_single (Call Value) h = absurd (omega (arith, h))
 amount_not_single (TooLarge counted) h = absurd (omega (arith, h))
 amount_not_single End h = absurd (omega (arith, h))
 
--- the two tests of a line behind the last one
+-- the two tests of a line after the last one
 record Passes (y x : NumberLine) : Type 0 where
   in_order : is_late number_rules (Some y) x ≡ false
   ascending : ascends number_rules (Some y) x ≡ true
@@ -106,7 +106,7 @@ record Ends (v : Number) (done rest : List NumberCall) : Type 0 where
   low : rank_of last < 9
   below : AllByRecursion (λ c. IsBelow last (Call c)) rest
 
--- behind the head each call may come
+-- after the head each call may come
 head_ends : (v : Number) (cs : List NumberCall) → Ends v [] cs
 head_ends v cs = record { last = Initial v.initial; is_last = refl; low = omega arith; below = all_above cs }
   where
@@ -128,7 +128,7 @@ each_true p (c ∷ cs) h = let both = and_parts (p c) (list_all p cs) h in (both
 before_more : (v : Number) (done : List NumberCall) (c : NumberCall) → before v (done ++ c ∷ []) ≡ before v done ++ Call c ∷ []
 before_more v done c = ap (front v) (map-append Call done (c ∷ []))
 
--- behind a call those may come that it is below
+-- after a call those may come below which it is
 call_ends : (v : Number) (done : List NumberCall) (c : NumberCall) (rest : List NumberCall) → list_all (is_below c) rest ≡ true → Ends v (done ++ c ∷ []) rest
 call_ends v done c rest h = record {
   last = Call c;
@@ -171,7 +171,7 @@ calls_follow v done (c ∷ rest) ends within ascend few =
       subst (λ (lines : List NumberLine). Follow lines (map Call rest)) (before_more v done c) (calls_follow v (done ++ c ∷ []) rest (call_ends v done c rest orders.0) amounts.1 orders.1 more),
     )
 
--- what is last behind all of them
+-- what comes last, after all of them
 all_end : (v : Number) (done rest : List NumberCall) → Ends v done rest → are_ascending rest ≡ true → Ends v (done ++ rest) []
 all_end v done [] ends ascend = rw (append-nil done) ends
 all_end v done (c ∷ rest) ends ascend =
@@ -200,7 +200,7 @@ module _ (v : Number) (known : IsNumber v) where
       let passes = passes_behind ends.last End (or_left (ltb (rank_of ends.last) 9) _ under) in
       record {
         in_order = ap (λ o. is_late number_rules o End) ends.is_last ∙ passes.in_order;
-        lacks_none = rw (first_stood v (map Call v.calls), second_stood v (map Call v.calls), third_stood v (map Call v.calls)) refl;
+        lacks_none = rw (first_read v (map Call v.calls), second_read v (map Call v.calls), third_read v (map Call v.calls)) refl;
         misses_none = ap (λ (ds : List NumberCall). eqb (length ds) 0) (calls_back v.calls) ∙ ne_eqb (length v.calls) 0 (λ e. omega (arith, e, known.some_call));
         in_range = refl;
         has_room = refl;

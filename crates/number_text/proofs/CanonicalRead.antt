@@ -53,7 +53,7 @@ canonical_read again names v known named = record {
   described = record { name = refl; max = refl; initial = refl; calls = sym (calls_again v) };
 }
 
--- lines tell their number
+-- lines say their number
 same_number : (lines : List NumberLine) (a b : Number) → IsNumberOf lines a → IsNumberOf lines b → b ≡ a
 same_number lines a b of_a of_b =
     let name : b.name ≡ a.name = called (same_Some (Called b.name) (Called a.name) (sym of_b.name ∙ of_a.name)) in

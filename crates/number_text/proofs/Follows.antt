@@ -1,18 +1,18 @@
--- Lines that pass their tests one behind the other.
+-- Lines that pass their tests one after the other.
 use Rattle.std.proofs.Common.{◌≡◌, ℕ, zero, suc, ◌+◌, ◌<◌, ◌≤◌, false, cond, eqb, ltb, List, [], ◌∷◌, ◌++◌, length, take, Some, sym, ap, subst, ◌∙◌, refl, arith, append_assoc}
 use Rattle.std.specs.List.{AllByRecursion, list_any, slice_get, sum_by}
 use Rattle.std.proofs.lemmas.Bool.{lt-ltb, ne_eqb}
 use Rattle.std.proofs.lemmas.List.{append-nil, length-append, take-append-le}
 use Rattle.std.proofs.lemmas.List.Sums.{sum_by-append, sum_by-cons}
 use Rattle.std.proofs.lemmas.Option.{none-some, same_Some}
-use Rattle.line_text.specs.Rules.{has_stood}
+use Rattle.line_text.specs.Rules.{was_read}
 use Rattle.line_text.specs.Accepted.{HasPassed, IsAccepted}
 use Rattle.line_text.proofs.Items.{no_fault}
 use Rattle.number_text.specs.declared.number_line.NumberLine.{NumberLine}
 use Rattle.number_text.specs.declared.number_line.NumberLine.TheVariants.{End}
 use Rattle.number_text.specs.NumberLines.{rank_of, number_rules}
 
--- each of these lines passes its tests behind the lines before and those in front of it
+-- each of these lines passes its tests after all lines before it
 abbrev pub Follow : List NumberLine → List NumberLine → Type 0
 Follow before [] = Unit {0}
 Follow before (x ∷ xs) = HasPassed number_rules before x × Follow (before ++ x ∷ []) xs
@@ -60,6 +60,6 @@ accepted_with_end lines low h = record {
   each = λ n x at. no_fault number_rules (take n (lines ++ End ∷ [])) x (follow_at [] (lines ++ End ∷ []) n x h at);
   before_end = λ n below.
       let within : n ≤ length lines = omega (arith, below, length-append lines (End ∷ [])) in
-      ap (λ front. has_stood number_rules front 9) (take-append-le n lines (End ∷ []) within) ∙ ap (ltb 0) (no_ends (take n lines) (low_take n lines low));
+      ap (λ front. was_read number_rules front 9) (take-append-le n lines (End ∷ []) within) ∙ ap (ltb 0) (no_ends (take n lines) (low_take n lines low));
   has_ended = lt-ltb 0 (count 9 (lines ++ End ∷ [])) (omega (arith, sum_by-append (λ x. cond (eqb (rank_of x) 9) 1 0) lines (End ∷ [])));
 }

@@ -17,7 +17,7 @@ digits_tested = record {
   more = λ c cs r e. and_from (is_digit c) (list_all is_digit cs) (and_from (leb 48 c) (leb c 57) (le-leb 48 c (search rules)) (le-leb c 57 (search rules))) e;
 }
 
--- the value of digits behind a number
+-- the value of digits after a number
 abbrev value_after : ℕ → List ℕ → ℕ
 value_after n w = fold (λ m b. 10 * m + (b - 48)) n w
 

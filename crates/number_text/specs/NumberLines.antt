@@ -52,7 +52,7 @@ numbered_of counted words = do
   n ← long_number_at words 1
   Ok (number_line counted n)
 
--- whether a line has one word behind the keyword, which is `any`
+-- whether a line has one word after the keyword, which is `any`
 unfoldable pub says_any : List (List ℕ) → Bool
 says_any words = length words == 2 && bytes_eq (word words 1) (codes "any")
 
@@ -123,7 +123,7 @@ sections = one_line ∷ one_line ∷ one_line ∷ any_lines ∷ maybe_line ∷ a
 
 -- ---- what the lines say together
 
--- the greatest value, which the second line tells
+-- the greatest value, which the second line says
 abbrev pub max_in : Option NumberLine → ℕ
 max_in (Some (Max m)) = m
 max_in _ = 0
@@ -169,12 +169,12 @@ is_within max _ = true
 abbrev pub is_below : NumberCall → NumberCall → Bool
 is_below c d = pair_below (call_rank c, amount_of c) (call_rank d, amount_of d)
 
--- each call is below all behind it
+-- each call is below all those after it
 abbrev pub are_ascending : List NumberCall → Bool
 are_ascending [] = true
 are_ascending (c ∷ cs) = list_all (is_below c) cs && are_ascending cs
 
--- ---- the tests of a line behind others
+-- ---- the tests of a line after others
 
 -- a call lists an amount within the greatest value, and is one of at most 32
 abbrev pub is_in_range : List NumberLine → NumberLine → Bool

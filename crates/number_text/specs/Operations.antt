@@ -26,7 +26,7 @@ call_name Value = codes "value"
 abbrev pub op_with : List ℕ → List ℕ → Op
 op_with call reply = record { call = call; reply = reply }
 
--- the operations of a call. Where `value` is answered, the number stands in place of its `n`
+-- the operations of a call. Where `value` is answered, the number is in place of its `n`
 abbrev pub ops_of_call : NumberCall → List Op
 ops_of_call (Take k) = op_with (call_name (Take k)) (codes "ok") ∷ op_with (call_name (Take k)) (codes "short") ∷ []
 ops_of_call TakeAny = op_with (call_name TakeAny) (codes "ok") ∷ op_with (call_name TakeAny) (codes "short") ∷ []
@@ -41,7 +41,7 @@ number_ops v = flat_map ops_of_call v.calls
 
 -- ---- bounds
 
--- an operation that is legal from low to high, and gives or takes so much, or moves nothing
+-- an operation that is legal from low to high, and gives or takes an amount, or moves nothing
 abbrev pub giving : ℕ → ℕ → ℕ → Bounded
 giving low high amount = record { low = low; high = high; gives = amount; takes = 0 }
 

@@ -47,7 +47,7 @@ fn is_free(call: NumberCall) -> bool
     }
 }
 
-/// Puts the bounds of a call's operations behind the others.
+/// Puts the bounds of a call's operations after the others.
 fn push_bounds(bounds: &mut Vec<Bounded>, max: u32, call: NumberCall) -> Result<(), AllocError>
     requires { is_within max call ≡ true }
     ensures { OnOk result (bounds.new.items ≡ bounds.old.items ++ bounds_of_call max call) }
@@ -68,7 +68,7 @@ fn push_two(bounds: &mut Vec<Bounded>, first: Bounded, second: Bounded) -> Resul
     Ok(())
 }
 
-/// An operation that takes so much.
+/// An operation that takes an amount.
 fn taking(low: u32, high: u32, amount: u32) -> Bounded
     ensures { result ≡ taking low high amount }
 {
@@ -80,7 +80,7 @@ fn taking(low: u32, high: u32, amount: u32) -> Bounded
     }
 }
 
-/// One that gives so much.
+/// One that gives an amount.
 fn giving(low: u32, high: u32, amount: u32) -> Bounded
     ensures { result ≡ giving low high amount }
 {

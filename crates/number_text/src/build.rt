@@ -63,7 +63,7 @@ fn calls_of(alloc: Global, lines: &[NumberLine]) -> Result<Vec<NumberCall>, Allo
     Ok(calls)
 }
 
-/// Puts the call of a line behind the others, where the line has one.
+/// Puts the call of a line after the others, where the line has one.
 fn push_call(calls: &mut Vec<NumberCall>, line: NumberLine) -> Result<(), AllocError>
     ensures { OnOk result (calls.new.items ≡ calls.old.items ++ calls_of (line ∷ [])) }
 {

@@ -1,4 +1,4 @@
-//! The grammar of number files: what a line says, and its tests behind the lines before it.
+//! The grammar of number files: what a line says, and its tests after the lines before it.
 
 ghost use Rattle.std.specs.Prelude.{◌≡◌, ◌<◌, ◌≤◌, [], ◌∷◌, length, map};
 ghost use Rattle.number_text.specs.NumberLines.{number_rules, line_with, number_line, called_of, numbered_of, says_any, any_or_numbered, bare_of, call_rank, counted_rank, max_of, calls_of, amount_in, is_amount, is_within};
@@ -151,7 +151,7 @@ fn counted_rank(counted: Counted) -> usize
     }
 }
 
-/// The greatest value, which the second line tells.
+/// The greatest value, which the second line says.
 fn max_of(lines: &[NumberLine]) -> u32
     ensures { result ≡ max_of lines.now }
 {
@@ -250,7 +250,7 @@ fn line_with(counted: Counted, n: u32) -> NumberLine
     }
 }
 
-/// `any` behind the keyword, or a number.
+/// `any` after the keyword, or a number.
 #[tactic(auto, unfolding(crate::specs::NumberLines::any_or_numbered))]
 fn any_or_numbered(
     any: NumberCall,

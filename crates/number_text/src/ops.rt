@@ -32,7 +32,7 @@ fn ops_of(alloc: Global, calls: &[NumberCall]) -> Result<Vec<Op>, AllocError>
     Ok(ops)
 }
 
-/// Puts the operations of a call behind the others.
+/// Puts the operations of a call after the others.
 #[tactic(auto, unfolding(type_table::specs::Name::is_name))]
 fn push_ops(alloc: Global, ops: &mut Vec<Op>, call: NumberCall) -> Result<(), AllocError>
     ensures { OnOk result (ops.new.items ≡ ops.old.items ++ ops_of_call call) }
@@ -46,7 +46,7 @@ fn push_ops(alloc: Global, ops: &mut Vec<Op>, call: NumberCall) -> Result<(), Al
     }
 }
 
-/// Puts the operations of a call with two replies behind the others.
+/// Puts the operations of a call with two replies after the others.
 fn push_two(ops: &mut Vec<Op>, call: Name, first: &[u8], second: &[u8]) -> Result<(), AllocError>
     requires first { is_name first.now ≡ true }
     requires second { is_name second.now ≡ true }
@@ -56,7 +56,7 @@ fn push_two(ops: &mut Vec<Op>, call: Name, first: &[u8], second: &[u8]) -> Resul
     push_op(ops, call, second)
 }
 
-/// Puts an operation behind the others.
+/// Puts an operation after the others.
 fn push_op(ops: &mut Vec<Op>, call: Name, reply: &[u8]) -> Result<(), AllocError>
     requires { is_name reply.now ≡ true }
     ensures { OnOk result (ops.new.items ≡ ops.old.items ++ op_with call reply.now ∷ []) }

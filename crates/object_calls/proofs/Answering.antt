@@ -1,4 +1,4 @@
--- What the calls at one object tell of an operation of a call.
+-- What the calls at one object say of an operation of a call.
 use Rattle.std.proofs.Common.{◌≡◌, ℕ, Bool, true, false, [], ◌∷◌, Option, is_some, ◌↔◌, refl, sym, ◌∙◌}
 use Rattle.std.proofs.lemmas.Bool.{false≢true, false_from_ne_true, and_parts}
 use Rattle.type_table.specs.Table.{is_same_call}

@@ -1,22 +1,13 @@
 -- What was changed at the places that were visited, and at no other.
-use Rattle.std.proofs.Common.{◌≡◌, ℕ, zero, suc, ◌+◌, ◌<◌, List, [], ◌∷◌, length, map, set, take, get_or, Some, ◌≢◌, refl, sym, ap, subst, ◌∙◌, inl, inr, length-set}
+use Rattle.std.proofs.Common.{◌≡◌, ℕ, ◌+◌, ◌<◌, List, [], length, map, set, take, get_or, Some, ◌≢◌, refl, sym, ap, subst, ◌∙◌, inl, inr, length-set}
 use Rattle.std.specs.Prelude.{slice_get}
 use Rattle.std.specs.Option.{option_map}
 use Rattle.std.proofs.lemmas.Bool.{cases_eq, false≢true}
 use Rattle.std.proofs.lemmas.List.{map-set}
 use Rattle.std.proofs.lemmas.Option.{slice_get-map, same_Some}
-use Rattle.type_table.proofs.Elements.{found-set}
+use Rattle.type_table.proofs.Elements.{found-set, found-set_other}
 use Rattle.object_calls.specs.Ends.{is_at, ChangesAt}
 use Rattle.object_calls.proofs.Places.{visited_with, visited_now, visited_cases}
-
--- ---- a list that is written at one place
-
-set_elsewhere : {A : Type 0} (xs : List A) (i j : ℕ) (b : A) → j ≢ i → slice_get (set xs i b) j ≡ slice_get xs j
-set_elsewhere [] i j b apart = refl
-set_elsewhere (x ∷ xs) zero zero b apart = absurd (apart refl)
-set_elsewhere (x ∷ xs) zero (suc j) b apart = refl
-set_elsewhere (x ∷ xs) (suc i) zero b apart = refl
-set_elsewhere (x ∷ xs) (suc i) (suc j) b apart = set_elsewhere xs i j b (λ same. apart (ap suc same))
 
 -- ---- a visit
 
@@ -59,12 +50,12 @@ module _ (places : List ℕ) (i : ℕ) (i_in : i < length places) {A : Type 0} (
                 | inl same ↦ changed_here x p q same y_in is_p is_q
                 | inr other ↦
                     elim (visited_cases places i i_in x at) [
-                      | inl early ↦ h.changed x p q is_p (sym (set_elsewhere new y x b other) ∙ is_q) early
+                      | inl early ↦ h.changed x p q is_p (sym (found-set_other new y x b other) ∙ is_q) early
                       | inr same ↦ absurd (other (sym same))
                     ]
               ];
           others = λ x isnt.
-              set_elsewhere new y x b (λ same. isnt (subst (λ z. is_at (take (i + 1) places) z) (sym same) (visited_now places i i_in)))
+              found-set_other new y x b (λ same. isnt (subst (λ z. is_at (take (i + 1) places) z) (sym same) (visited_now places i i_in)))
               ∙ h.others x (λ at. isnt (visited_with places i i_in x at));
         }
 

@@ -10,9 +10,10 @@ use Rattle.std.proofs.lemmas.Nat.{one_shl}
 use Rattle.std.proofs.lemmas.Nat.Bits.{bit_at_set_same, bit_at_set_other, bit_at-pow_same, bit_at-pow_other}
 use Rattle.std.proofs.lemmas.Option.{none-some, same_Some, slice_get-get_or, slice_get_read, get_or_from_slice_get}
 use Rattle.std.proofs.lemmas.Slice.Eq.{bytes_eq-Decides}
+use Rattle.type_table.proofs.Elements.{cases-more}
 use Rattle.object_calls.specs.declared.call.NamedCall.{NamedCall}
 use Rattle.object_calls.specs.Collected.{has_name, place_of, IsCallOf, AreCallsOf}
-use Rattle.object_calls.proofs.FirstPlaces.{place_within, place_passes, place_stays, place_pushed, missing_fails, missing_pushed, missing_before, missing_last, position-set, at_pushed, at_written}
+use Rattle.object_calls.proofs.FirstPlaces.{place_within, place_passes, place_stays, place_pushed, missing_fails, missing_pushed, missing_before, missing_last, position-set, at_written}
 
 -- ---- which operations have a name
 
@@ -174,20 +175,20 @@ module _ (names : List (List ℕ)) (calls : List NamedCall) (h : AreCallsOf name
     first_is_added is_k low_k =
         record {
           each = λ j e is_e.
-              elim (at_pushed calls (begun name k) j e is_e) [
-                | inl last ↦ subst (λ m. IsCallOf (names ++ name ∷ []) m) (sym last.1) (first_begins names name k is_k low_k (h.all name none))
-                | inr before ↦
+              elim (cases-more calls (begun name k) j e is_e) [
+                | inl before ↦
                     other_stays names name e (h.each j e before)
                     (false_from_ne_true (bytes_eq name e.name)
                     (λ same. none-some j (sym none ∙ ap (place_of calls) ((bytes_eq-Decides name e.name).0 same) ∙ h.once j e before)))
+                | inr last ↦ subst (λ m. IsCallOf (names ++ name ∷ []) m) last.1 (first_begins names name k is_k low_k (h.all name none))
               ];
           once = λ j e is_e.
-              elim (at_pushed calls (begun name k) j e is_e) [
-                | inl last ↦
-                    ap (λ (m : NamedCall). place_of (calls ++ begun name k ∷ []) m.name) last.1
+              elim (cases-more calls (begun name k) j e is_e) [
+                | inl before ↦ place_stays (λ m. bytes_eq m.name e.name) calls (begun name k) j (h.once j e before)
+                | inr last ↦
+                    ap (λ (m : NamedCall). place_of (calls ++ begun name k ∷ []) m.name) (sym last.1)
                     ∙ place_pushed (λ m. bytes_eq m.name name) calls (begun name k) none ((bytes_eq-Decides name name).1 refl)
                     ∙ ap Some (sym last.0)
-                | inr before ↦ place_stays (λ m. bytes_eq m.name e.name) calls (begun name k) j (h.once j e before)
               ];
           all = λ x missing.
               missing_pushed (λ other. bytes_eq other x) names name

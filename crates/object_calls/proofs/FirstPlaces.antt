@@ -3,7 +3,7 @@ use Rattle.std.proofs.Common.{◌≡◌, ℕ, ◌+◌, ◌<◌, Bool, true, fals
 use Rattle.std.specs.Prelude.{slice_get}
 use Rattle.std.specs.List.{position, position_or_len, find}
 use Rattle.std.proofs.lemmas.Bool.{false≢true, cases_Bool, cases_lt, cases_eq, ltb-true, lt-ltb, le-ltb, eq-eqb, ne_eqb, cond-true, cond-false}
-use Rattle.std.proofs.lemmas.List.{length_push, get_or_append_left, get_or_push}
+use Rattle.std.proofs.lemmas.List.{length_push}
 use Rattle.std.proofs.lemmas.List.Folds.{position_or_len_push, position_or_len-set, find_at}
 use Rattle.std.proofs.lemmas.List.Sums.{prefix_len-le-length, fails_before_first, passes_at_first}
 use Rattle.std.proofs.lemmas.Option.{cond_some, none-some, slice_get-get_or, slice_get_within, get_or_from_slice_get, slice_get_cases}
@@ -114,18 +114,7 @@ module _ {A : Type 0} (p : A → Bool) (xs : List A) (y : A) where
 pub position-set : {A : Type 0} (p : A → Bool) (xs : List A) (i : ℕ) (y : A) → p y ≡ p (get_or xs i y) → position p (set xs i y) ≡ position p xs
 position-set p xs i y same = rw (position_or_len-set p xs i y y same, length-set xs i y) refl
 
--- ---- what is at a place of a longer list, or of one that was written
-
--- the new element, or what was there
-pub at_pushed : {A : Type 0} (xs : List A) (y : A) (j : ℕ) (e : A) → slice_get (xs ++ y ∷ []) j ≡ Some e → ((j ≡ length xs) × (e ≡ y)) ⊎ (slice_get xs j ≡ Some e)
-at_pushed xs y j e at =
-    let read : get_or (xs ++ y ∷ []) j e ≡ e = get_or_from_slice_get (xs ++ y ∷ []) j e e at in
-    elim (cases_lt j (length xs)) [
-      | inl below ↦ inr (slice_get-get_or xs j e below ∙ ap Some (sym (get_or_append_left xs (y ∷ []) e j below) ∙ read))
-      | inr past ↦
-          let last : j ≡ length xs = omega (arith, past, slice_get_within (xs ++ y ∷ []) j e at, length_push xs y) in
-          inl (last, sym read ∙ get_or_push xs y e j (sym last))
-    ]
+-- ---- what is at a place of a list that was written
 
 -- the written element, or what was there
 pub at_written : {A : Type 0} (xs : List A) (i : ℕ) (y : A) (j : ℕ) (e : A) → slice_get (set xs i y) j ≡ Some e → ((j ≡ i) × (e ≡ y)) ⊎ ((j ≢ i) × (slice_get xs j ≡ Some e))

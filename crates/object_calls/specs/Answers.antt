@@ -26,10 +26,10 @@ abbrev pub refused : Meaning → ℕ → ℕ → Option ℕ → Answer
 refused m t c None = answer.None
 refused m t c (Some k) = busy_with (stopper m t k)
 
-abbrev pub answered : Meaning → ℕ → ℕ → Option ℕ → Answer
-answered m t c (Some k) = answer.Reply k
-answered m t c None = refused m t c (first_below (length m.checked.file.table.ops) (is_reply m t c))
+abbrev pub answer_of_first : Meaning → ℕ → ℕ → Option ℕ → Answer
+answer_of_first m t c (Some k) = answer.Reply k
+answer_of_first m t c None = refused m t c (first_below (length m.checked.file.table.ops) (is_reply m t c))
 
 -- the answer of the call c of t: the first of its operations, in table order, that is legal and free
 abbrev pub answer_of : Meaning → ℕ → ℕ → Answer
-answer_of m t c = answered m t c (first_below (length m.checked.file.table.ops) (is_free_reply m t c))
+answer_of m t c = answer_of_first m t c (first_below (length m.checked.file.table.ops) (is_free_reply m t c))

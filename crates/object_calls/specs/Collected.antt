@@ -1,4 +1,4 @@
--- The calls of operations that come one after another, told by the names of their calls in order.
+-- The calls of operations that come one after another, by the names of their calls in order.
 use Rattle.std.specs.Prelude.{◌≡◌, ℕ, ◌<◌, Bool, ◌&&◌, ◌==◌, nat_lt, List, [], length, Option, Some, None, slice_get, slice_index_or}
 use Rattle.std.specs.Int.{bit_at}
 use Rattle.std.specs.List.{position}

@@ -24,6 +24,6 @@ abbrev pub IsEnd : End → Meaning → ℕ → Meaning → Type 0
 IsEnd Commit = IsCommit
 IsEnd Abort = IsAbort
 
--- at each of these places t has so many operations to be struck
+-- at each of these places t has this many operations to be struck
 abbrev pub HasLast : ℕ → List ℕ → List Meaning → Type 0
 HasLast t places ms = (x : ℕ) (m : Meaning) → slice_get ms x ≡ Some m → count_at x places ≤ length (open_of t m.log)

@@ -74,7 +74,7 @@ intentions-applied along o base log t k sound legal free =
 
 -- ---- commit
 
--- open entries of two transactions commute forward, whichever stands first
+-- open entries of two transactions commute forward, whichever is first
 between : (o : Object) → Covers Intentions o.table o.set o.conflicts → (t u : ℕ) → eqb u t ≡ false → (a b : LogEntry) → IsLocked o a b →
     IsBetween (is_open_of t) (is_open_of u) (λ x y. CommuteForward o.table o.set x.op y.op) a b
 between o covers t u differ a b locked = record {
@@ -130,21 +130,21 @@ intentions-committed along forward o covers base log t new_base new_log sound co
 -- ---- strike
 
 -- the front of t's operations
-front_of : RunsAlong → (o : Object) (base : ℕ) (V : List LogEntry) (n : ℕ) → IsLegal o.table (Some base) (ops_of V) → IsLegal o.table (Some base) (ops_of (take n V))
-front_of along o base V n legal =
-    legal-front along o.table (Some base) (ops_of (take n V)) (ops_of (drop n V)) (rw (← ops-append (take n V) (drop n V), take-append-drop n V) legal)
+front_of : (o : Object) (base : ℕ) (V : List LogEntry) (n : ℕ) → IsLegal o.table (Some base) (ops_of V) → IsLegal o.table (Some base) (ops_of (take n V))
+front_of o base V n legal =
+    legal-front o.table (Some base) (ops_of (take n V)) (ops_of (drop n V)) (rw (← ops-append (take n V) (drop n V), take-append-drop n V) legal)
 
 -- deferred update stays sound by a strike
-pub intentions-struck : RunsAlong → KeepsFirst LogEntry → (o : Object) (base : ℕ) (log : List LogEntry) (t n new_base : ℕ) (new_log : List LogEntry) → IsSoundIntentions o base log →
+pub intentions-struck : KeepsFirst LogEntry → (o : Object) (base : ℕ) (log : List LogEntry) (t n new_base : ℕ) (new_log : List LogEntry) → IsSoundIntentions o base log →
     IsIntentionsStrike o base log t n new_base new_log → IsSoundIntentions o new_base new_log
-intentions-struck along keeps o base log t n new_base new_log sound strike =
+intentions-struck keeps o base log t n new_base new_log sound strike =
     rw (strike.same_base, strike.rest)
     (record {
       inside = sound.inside;
       all_open = each-keep_first (λ e. e.done ≡ false) (is_open_of t) n log sound.all_open;
       legal =
           λ u. elim (cases_Bool (eqb u t)) [
-            | inl same ↦ rw (eqb-true u t same, (keeps (is_open_of t) n log).0) (front_of along o base (open_of t log) n (sound.legal t))
+            | inl same ↦ rw (eqb-true u t same, (keeps (is_open_of t) n log).0) (front_of o base (open_of t log) n (sound.legal t))
             | inr other ↦ rw (filter-keep_first (is_open_of t) (is_open_of u) (open-apart t u other) n log) (sound.legal u)
           ];
       locked = pairs-keep_first (IsLocked o) (is_open_of t) n log sound.locked;

@@ -23,7 +23,7 @@ keeps-none = λ mine V. without_mine mine V
 
 -- ---- a list put together
 
--- the front leaves so many of the first n
+-- the front leaves this many of the first n
 keep_first-append : {E : Type 0} (mine : E → Bool) (n : ℕ) (V W : List E) → keep_first mine n (V ++ W) ≡ keep_first mine n V ++ keep_first mine (n - length (filter mine V)) W
 keep_first-append mine n [] W =
     let left : n ≡ n - 0 = omega arith in

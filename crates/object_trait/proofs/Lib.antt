@@ -3,8 +3,10 @@ pub mod Counting
 pub mod Escrow
 pub mod Intentions
 pub mod Kept
+pub mod Leaving
 pub mod Lists
 pub mod Meanings
+pub mod Rows
 pub mod Runs
 pub mod Sorting
 pub mod Striking

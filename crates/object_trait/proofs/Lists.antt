@@ -38,7 +38,7 @@ pub pairs-both : {E : Type 0} {P Q S : E → E → Type 0} → ((a b : E) → P 
 pairs-both f [] p q = tt
 pairs-both f (x ∷ V) p q = (each-both (f x) V p.0 q.0, pairs-both f V p.1 q.1)
 
--- of a list, and of each of its elements with one that stands behind them
+-- of a list, and of each of its elements with one that comes after them
 pub pairs-push : {E : Type 0} (R : E → E → Type 0) (V : List E) (e : E) → Pairs R V → AllByRecursion (λ a. R a e) V → Pairs R (V ++ (e ∷ []))
 pairs-push R [] e p last = (tt, tt)
 pairs-push R (x ∷ V) e p last = (each-push (R x) V e p.0 last.0, pairs-push R V e p.1 last.1)
@@ -64,7 +64,7 @@ pairs-filter R test (x ∷ V) p =
 
 -- ---- two kinds of elements
 
--- what is known of one of mine and one of theirs, whichever stands first
+-- what is known of one of mine and one of theirs, whichever is first
 pub record IsBetween {E : Type 0} (mine theirs : E → Bool) (R : E → E → Type 0) (a b : E) : Type 0 where
   pub mine_first : mine a ≡ true → theirs b ≡ true → R a b
   pub theirs_first : theirs a ≡ true → mine b ≡ true → R b a

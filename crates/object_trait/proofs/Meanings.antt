@@ -21,15 +21,15 @@ use Rattle.object_trait.proofs.Undo.{undo-applied, undo-committed, struck-legal,
 use Rattle.object_trait.proofs.Intentions.{intentions-applied, opens-commute, intentions-committed, intentions-struck}
 
 -- the struck log is legal: the kind is update in place
-struck_by : RunsAlong → PartsSort LogEntry → StruckPart LogEntry → SortsLook LogEntry → (kind : Kind) → kind ≡ Undo → (o : Object) → CoversBy kind o →
+struck_by : PartsSort LogEntry → StruckPart LogEntry → SortsLook LogEntry → (kind : Kind) → kind ≡ Undo → (o : Object) → CoversBy kind o →
     (base : ℕ) (log : List LogEntry) (t n : ℕ) → IsSoundBy kind o base log → IsLegal o.table (Some base) (ops_of (keep_first (is_open_of t) n log))
-struck_by along parts strike sorts Undo e o covers base log t n sound = struck-legal along parts strike sorts o covers base log t n sound
-struck_by along parts strike sorts Intentions e o covers base log t n sound = absurd (cc)
-struck_by along parts strike sorts Escrow e o covers base log t n sound = absurd (cc)
+struck_by parts strike sorts Undo e o covers base log t n sound = struck-legal parts strike sorts o covers base log t n sound
+struck_by parts strike sorts Intentions e o covers base log t n sound = absurd (cc)
+struck_by parts strike sorts Escrow e o covers base log t n sound = absurd (cc)
 
 -- the law of struck logs
-pub struck_log-legal : RunsAlong → PartsSort LogEntry → StruckPart LogEntry → SortsLook LogEntry → StruckLogIsLegal
-struck_log-legal along parts strike sorts = λ m t n covers undo sound. struck_by along parts strike sorts m.checked.kind undo (object m) covers m.base m.log t _ sound
+pub struck_log-legal : PartsSort LogEntry → StruckPart LogEntry → SortsLook LogEntry → StruckLogIsLegal
+struck_log-legal parts strike sorts = λ m t n covers undo sound. struck_by parts strike sorts m.checked.kind undo (object m) covers m.base m.log t _ sound
 
 -- two transactions' operations commute: the kind is deferred update
 opens_by : ListsForward → (kind : Kind) → kind ≡ Intentions → (o : Object) → CoversBy kind o → (base : ℕ) (log : List LogEntry) (t u : ℕ) → eqb u t ≡ false →
@@ -80,7 +80,7 @@ committed-sound along ends forward firm = λ old new t covers sound h.
 struck_sound_by : RunsAlong → EndsInside → PartsSort LogEntry → StruckPart LogEntry → SortsLook LogEntry → KeepsFirst LogEntry → FirmAfterStrike → (kind : Kind) (o : Object) → CoversBy kind o →
     (base : ℕ) (log : List LogEntry) (t n new_base : ℕ) (new_log : List LogEntry) → IsSoundBy kind o base log → IsStrikeBy kind o base log t n new_base new_log → IsSoundBy kind o new_base new_log
 struck_sound_by along ends parts strike sorts keeps firm Undo o covers base log t n new_base new_log sound h = undo-struck along ends parts strike sorts o covers base log t n new_base new_log sound h
-struck_sound_by along ends parts strike sorts keeps firm Intentions o covers base log t n new_base new_log sound h = intentions-struck along keeps o base log t n new_base new_log sound h
+struck_sound_by along ends parts strike sorts keeps firm Intentions o covers base log t n new_base new_log sound h = intentions-struck keeps o base log t n new_base new_log sound h
 struck_sound_by along ends parts strike sorts keeps firm Escrow o covers base log t n new_base new_log sound h = escrow-struck firm keeps o base log t n new_base new_log sound h
 
 -- the law of strikes and aborts

@@ -11,7 +11,7 @@ use Rattle.object_trait.specs.Laws.{PartsSort, SortsLook, SortsEqui}
 
 -- ---- two parts
 
--- an element moves behind a list whose elements it may pass
+-- an element moves to the end of a list whose elements it may pass
 sorts_behind : {E : Type 0} {free : E → E → Bool} (b : E) (A B : List E) → AllByRecursion (λ a. free b a ≡ true) A → Sorts free (b ∷ (A ++ B)) (A ++ (b ∷ B))
 sorts_behind b [] B each = same
 sorts_behind b (a ∷ A) B each = chain (swap each.0) (under (sorts_behind b A B each.1))

@@ -1,5 +1,5 @@
 -- What a strike keeps of a list, and what it takes out.
-use Rattle.std.proofs.Common.{◌≡◌, ℕ, zero, suc, Bool, true, false, not, cond, List, [], ◌∷◌, take, drop, refl, ap, inl, inr, length}
+use Rattle.std.proofs.Common.{◌≡◌, ℕ, zero, suc, ◌≤◌, Bool, true, false, not, cond, List, [], ◌∷◌, take, drop, refl, ap, inl, inr, length, arith}
 use Rattle.std.specs.List.{filter, AllByRecursion}
 use Rattle.std.proofs.lemmas.Bool.{cases_Bool}
 use Rattle.type_table.proofs.Elements.{each-weaker}
@@ -28,6 +28,14 @@ keep_first-all mine (e ∷ V) =
       | inr isnt ↦ rw isnt (ap (λ rest. e ∷ rest) (keep_first-all mine V))
     ]
 
+-- a strike leaves no more than there was
+pub keep_first-length : {E : Type 0} (mine : E → Bool) (n : ℕ) (V : List E) → length (keep_first mine n V) ≤ length V
+keep_first-length mine n [] = omega arith
+keep_first-length mine n (x ∷ V) =
+    keep_first-next (λ W. length W ≤ suc (length V)) mine n x V
+    (λ m. let rest = keep_first-length mine m V in omega (arith, rest))
+    (λ m. let rest = keep_first-length mine m V in omega (arith, rest))
+
 -- ---- a strike, entry by entry
 
 -- V is shuffled of K and S: K has the first n of mine and all others, and S has the others of mine
@@ -37,7 +45,7 @@ pub data Struck {E : Type 0} (mine : E → Bool) : ℕ → List E → List E →
   kept : {n : ℕ} {e : E} {V K S : List E} → mine e ≡ true → Struck mine n V K S → Struck mine (suc n) (e ∷ V) (e ∷ K) S
   struck : {e : E} {V K S : List E} → mine e ≡ true → Struck mine zero V K S → Struck mine zero (e ∷ V) K (e ∷ S)
 
--- `keep_first` keeps the one part, and behind the first n of mine stands the other
+-- `keep_first` keeps the one part, and the other has those of mine after the first n
 pub strike : {E : Type 0} (mine : E → Bool) (n : ℕ) (V : List E) → Struck mine n V (keep_first mine n V) (drop n (filter mine V))
 strike mine zero [] = ended
 strike mine (suc n) [] = ended
@@ -111,7 +119,7 @@ others_each P _ _ _ ended p = tt
 others_each P (e ∷ V) (_ ∷ K) S (other isnt s) p = (p.0 isnt, others_each P V K S s p.1)
 others_each P (e ∷ V) K (_ ∷ S) (struck is s) p = others_each P V K S s p.1
 
--- what is struck may move behind what is kept
+-- what is struck may move after what is kept
 strike_parts : {E : Type 0} {free : E → E → Bool} {mine : E → Bool} (n : ℕ) (V K S : List E) → Struck mine n V K S →
     Pairs (λ a b. mine a ≡ true → mine b ≡ false → free a b ≡ true) V → Parts free V K S
 strike_parts _ _ _ _ ended p = none

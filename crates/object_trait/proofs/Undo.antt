@@ -7,7 +7,7 @@ use Rattle.type_table.specs.Commute.{CommutesBackward, Covers}
 use Rattle.type_table.specs.Laws.{RunsAlong, EndsInside}
 use Rattle.type_table.specs.declared.table_kind.TableKind.TheVariants.{Undo}
 use Rattle.type_table.proofs.Elements.{each-weaker, differ_turned}
-use Rattle.type_table.proofs.Legal.{legal-front}
+use Rattle.type_table.proofs.Legal.{legal-front, legal-behind}
 use Rattle.object_trait.specs.Object.{Object}
 use Rattle.object_trait.specs.Strike.{keep_first}
 use Rattle.object_trait.specs.Meaning.{ops_of, is_open_of, run_log}
@@ -16,7 +16,7 @@ use Rattle.object_trait.specs.Steps.{IsOfAnotherOpen, IsSettled, marked}
 use Rattle.object_trait.specs.Laws.{PartsSort, StruckPart, SortsLook}
 use Rattle.object_trait.specs.declared.log_entry.LogEntry.{LogEntry}
 use Rattle.object_trait.proofs.Lists.{pairs-both, pairs-push, pairs-behind, pairs-map}
-use Rattle.object_trait.proofs.Runs.{ops-append, rest-legal, push-legal}
+use Rattle.object_trait.proofs.Runs.{ops-append, push-legal}
 use Rattle.object_trait.proofs.Striking.{pairs-keep_first}
 
 -- ---- a further operation
@@ -45,7 +45,7 @@ settled : RunsAlong → EndsInside → (o : Object) → Covers Undo o.table o.se
     IsSoundUndo o base log → IsSettled o base log new_base new_log → IsSoundUndo o new_base new_log
 settled along ends o covers base log new_base new_log sound s = record {
   inside = ends o.table o.set base new_base (ops_of s.moved) covers.closed sound.inside s.reached;
-  legal = rest-legal along o.table (Some base) (ops_of s.moved) (ops_of new_log) new_base (rw (s.front, ops-append s.moved new_log) at sound.legal) s.reached;
+  legal = legal-behind along o.table (Some base) (ops_of s.moved) (ops_of new_log) new_base s.reached (rw (s.front, ops-append s.moved new_log) at sound.legal);
   in_order = pairs-behind IsInOrder s.moved new_log (rw s.front at sound.in_order);
   locked = pairs-behind (IsLocked o) s.moved new_log (rw s.front at sound.locked);
 }
@@ -81,15 +81,15 @@ undo-committed along ends o covers base log t new_base new_log sound s = settled
 
 -- ---- strike
 
--- a, standing earlier, may move behind b
+-- a, which is earlier, may move after b
 abbrev passes : Object → LogEntry → LogEntry → Bool
 passes o a b = not (o.conflicts b.op a.op)
 
--- what may move behind another commutes backward with it, in a covered object
+-- what may move after another commutes backward with it, in a covered object
 passes-commute : (o : Object) → Covers Undo o.table o.set o.conflicts → (a b : LogEntry) → passes o a b ≡ true → CommutesBackward o.table o.set b.op a.op
 passes-commute o covers a b free = covers.commute b.op a.op (not-true (o.conflicts b.op a.op) free)
 
--- an open entry of t may move behind each later one that isn't an open entry of t: such a one is of another transaction
+-- an open entry of t may move after each later one that isn't an open entry of t: such a one is of another transaction
 mine-passes : (o : Object) (t : ℕ) (a b : LogEntry) → IsLocked o a b → IsInOrder a b → is_open_of t a ≡ true → is_open_of t b ≡ false → passes o a b ≡ true
 mine-passes o t a b locked order mine isnt =
     let parts = and_parts (eqb a.by t) (not a.done) mine in
@@ -100,15 +100,15 @@ mine-passes o t a b locked order mine isnt =
     ]
 
 -- a sound log of which only the first n open entries of t are left is legal: the others can be moved to its end
-pub struck-legal : RunsAlong → PartsSort LogEntry → StruckPart LogEntry → SortsLook LogEntry → (o : Object) → Covers Undo o.table o.set o.conflicts →
+pub struck-legal : PartsSort LogEntry → StruckPart LogEntry → SortsLook LogEntry → (o : Object) → Covers Undo o.table o.set o.conflicts →
     (base : ℕ) (log : List LogEntry) (t n : ℕ) → IsSoundUndo o base log → IsLegal o.table (Some base) (ops_of (keep_first (is_open_of t) n log))
-struck-legal along parts strike sorts o covers base log t n sound =
+struck-legal parts strike sorts o covers base log t n sound =
     let mine : LogEntry → Bool = is_open_of t in
     let left : List LogEntry = keep_first mine n log in
     let gone : List LogEntry = drop n (filter mine log) in
     let sorted = parts (passes o) log left gone (strike (passes o) mine n log (pairs-both (mine-passes o t) log sound.locked sound.in_order)) in
     let looks = sorts o.table o.set (λ e. e.op) (passes o) base log (left ++ gone) covers.closed sound.inside (passes-commute o covers) sorted sound.legal in
-    legal-front along o.table (Some base) (ops_of left) (ops_of gone) (rw (ops-append left gone) at looks.0)
+    legal-front o.table (Some base) (ops_of left) (ops_of gone) (rw (ops-append left gone) at looks.0)
 
 -- update in place stays sound by a strike
 pub undo-struck : RunsAlong → EndsInside → PartsSort LogEntry → StruckPart LogEntry → SortsLook LogEntry → (o : Object) → Covers Undo o.table o.set o.conflicts →
@@ -117,7 +117,7 @@ pub undo-struck : RunsAlong → EndsInside → PartsSort LogEntry → StruckPart
 undo-struck along ends parts strike sorts o covers base log t n new_base new_log sound s = settled along ends o covers base (keep_first (is_open_of t) n log) new_base new_log
     (record {
       inside = sound.inside;
-      legal = struck-legal along parts strike sorts o covers base log t n sound;
+      legal = struck-legal parts strike sorts o covers base log t n sound;
       in_order = pairs-keep_first IsInOrder (is_open_of t) n log sound.in_order;
       locked = pairs-keep_first (IsLocked o) (is_open_of t) n log sound.locked;
     })

@@ -40,7 +40,7 @@ down_on_up = counter_at Undo 0 (held 1 0 ∷ held 2 1 ∷ [])
 abbrev pub of_one_entry : Checked → Option LogEntry → Meaning
 of_one_entry checked entry = record { checked = checked; base = checked.file.table.initial; log = option_to_list entry }
 
--- an object of two states, in each of which the one operation idles: nothing tells the states apart
+-- an object of two states, in each of which the one operation idles: no operation distinguishes the states
 abbrev pub two_alike : Object
 two_alike = record {
   kind = way.Intentions;

@@ -17,7 +17,7 @@ use Rattle.object_trait.specs.declared.log_entry.LogEntry.{LogEntry}
 
 -- ---- exchanges of neighbours
 
--- in two parts of which one may move behind the other, it can be moved to the end, neighbour by neighbour
+-- in two parts of which one may move after the other, it can be moved to the end, neighbour by neighbour
 abbrev pub PartsSort : Type 0 → Type 0
 PartsSort E = (free : E → E → Bool) (V A B : List E) → Parts free V A B → Sorts free V (A ++ B)
 
@@ -41,7 +41,7 @@ KeepsOthers E =
     (mine other : E → Bool) (n : ℕ) (V : List E) → ((e : E) → other e ≡ true → mine e ≡ false)
     → filter other (keep_first mine n V) ≡ filter other V
 
--- where each of mine may move behind each later one that isn't mine, those that `keep_first` strikes can be moved to the end
+-- where each of mine may move after each later one that isn't mine, those that `keep_first` strikes can be moved to the end
 abbrev pub StruckPart : Type 0 → Type 0
 StruckPart E =
     (free : E → E → Bool) (mine : E → Bool) (n : ℕ) (V : List E) → Pairs (λ a b. mine a ≡ true → mine b ≡ false → free a b ≡ true) V

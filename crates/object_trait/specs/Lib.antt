@@ -1,4 +1,5 @@
 pub mod Orders
+pub mod Rows
 pub mod Strike
 pub mod Object
 pub mod Meaning

@@ -1,5 +1,5 @@
 -- What an object means, whatever its kind of recovery and whatever it keeps: a checked type, a state, and a log of operations.
-use Rattle.std.specs.Prelude.{ℕ, List, map, filter, Bool, not, ◌&&◌, ◌==◌, Option, Some}
+use Rattle.std.specs.Prelude.{◌≡◌, ℕ, List, map, filter, Bool, false, not, ◌&&◌, ◌==◌, Option, Some, All}
 use Rattle.type_table.specs.Run.{run}
 use Rattle.type_table.specs.declared.kind.Kind.{Kind}
 use Rattle.type_table.specs.declared.kind.Kind.TheVariants.{Undo, Intentions, Escrow}
@@ -23,6 +23,10 @@ ops_of log = map (λ e. e.op) log
 -- an entry of t that isn't done
 abbrev pub is_open_of : ℕ → LogEntry → Bool
 is_open_of t e = (e.by == t) && not e.done
+
+-- none is done
+abbrev pub AreOpen : List LogEntry → Type 0
+AreOpen log = All (λ (e : LogEntry). e.done ≡ false) log
 
 -- t's open entries
 abbrev pub open_of : ℕ → List LogEntry → List LogEntry

@@ -7,14 +7,14 @@ abbrev pub Pairs : {E : Type 0} → (E → E → Type 0) → List E → Type 0
 Pairs R [] = Unit {0}
 Pairs R (x ∷ xs) = AllByRecursion (R x) xs × Pairs R xs
 
--- W is V after exchanges of neighbours. `free a b` says that a, which comes before b, may move behind it
+-- W is V after exchanges of neighbours. `free a b` says that a, which comes before b, may move after it
 pub data Sorts {E : Type 0} (free : E → E → Bool) : List E → List E → Type 0 where
   same : {V : List E} → Sorts free V V
   swap : {a b : E} {V : List E} → free a b ≡ true → Sorts free (a ∷ b ∷ V) (b ∷ a ∷ V)
   under : {a : E} {V W : List E} → Sorts free V W → Sorts free (a ∷ V) (a ∷ W)
   chain : {U V W : List E} → Sorts free U V → Sorts free V W → Sorts free U W
 
--- V is two lists, shuffled: one whose elements stay, and one whose elements may each move behind those of the first that come behind it
+-- V is two lists, shuffled: one whose elements stay, and one whose elements may each move after those of the first that come after it
 pub data Parts {E : Type 0} (free : E → E → Bool) : List E → List E → List E → Type 0 where
   none : Parts free [] [] []
   stay : {a : E} {V A B : List E} → Parts free V A B → Parts free (a ∷ V) (a ∷ A) B

@@ -10,8 +10,8 @@ use escrow_laws::{
 use table_checker::{strong_yes_covers, yes_covers};
 use type_table::{ends_inside, equi_extends, lists_forward, looks_extends, runs_along};
 
-/// In a list of two parts, of which the elements of one may each move behind those of the other that
-/// come behind it, the first part can be moved to the end, neighbour by neighbour.
+/// In a list of two parts, of which the elements of one may each move after those of the other that
+/// come after it, the first part can be moved to the end, neighbour by neighbour.
 pub fn parts_sort<E>()
     ensures { PartsSort E }
 {}
@@ -36,7 +36,7 @@ pub fn keeps_others<E>()
     ensures { KeepsOthers E }
 {}
 
-/// Where each of mine may move behind each later one that isn't mine, those that a strike takes out
+/// Where each of mine may move after each later one that isn't mine, those that a strike takes out
 /// can be moved to the end.
 pub fn struck_part<E>()
     ensures { StruckPart E }
@@ -73,7 +73,6 @@ pub fn struck_log_is_legal()
     parts_sort::<LogEntry>();
     struck_part::<LogEntry>();
     sorts_look::<LogEntry>();
-    runs_along();
 }
 
 /// Deferred update: the open operations of two transactions, run in either order from base, are legal

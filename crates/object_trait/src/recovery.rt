@@ -25,7 +25,7 @@ pub trait Recovery: Send + Drop {
     /// The object's state: with update in place that after the whole log, with deferred update and in
     /// escrow that of the committed transactions alone. In escrow the latter is the state after their
     /// operations in commit order. With deferred update it is one that is equieffective to that, and
-    /// needn't be the same: of a type whose states 3 and 4 nothing tells apart, it may be 4 where that
+    /// needn't be the same: of a type whose states 3 and 4 no operation distinguishes, it may be 4 where that
     /// is 3. It has at most seven digits.
     fn state(&self) -> u32
         ensures exact { state_of (meaning self.now) ≡ Some result }

@@ -57,7 +57,7 @@ pub fn what_commutes_may_be_applied()
 {}
 
 /// A commit in place marks the entries, and may move done ones at the front of the log into the base.
-/// A done entry behind an open one stays.
+/// A done entry after an open one stays.
 pub fn a_commit_in_place_may_settle()
     ensures stays { IsCommit two_ups 1 (counter_at Kind.Undo 0 (past 1 0 ∷ held 2 0 ∷ [])) }
     ensures settles { IsCommit two_ups 1 (counter_at Kind.Undo 1 (held 2 0 ∷ [])) }
@@ -72,7 +72,7 @@ pub fn a_deferred_commit_runs_its_entries()
 {}
 
 /// The commit of a transaction without entries may move a done entry into the base, in place, which
-/// shows the same. Deferred it leaves the base, also for another state that nothing tells from it.
+/// shows the same. Deferred it leaves the base, also for another state that no operation distinguishes from it.
 pub fn a_commit_without_entries_shows_the_same()
     ensures in_place { IsCommit (counter_at Kind.Undo 0 (past 1 0 ∷ held 2 0 ∷ [])) 3 (counter_at Kind.Undo 1 (held 2 0 ∷ [])) }
     ensures the_same { ShowsTheSame (counter_at Kind.Undo 0 (past 1 0 ∷ held 2 0 ∷ [])) (counter_at Kind.Undo 1 (held 2 0 ∷ [])) }

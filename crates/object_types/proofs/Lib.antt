@@ -1,3 +1,4 @@
+pub mod CheckedTypes
 pub mod LookUps
 pub mod Objects
 pub mod Pairs

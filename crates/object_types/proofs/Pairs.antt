@@ -15,7 +15,7 @@ module _ {A B : Type 0} (P : A → B → Type 0) where
       let f : b ≡ y = cc in
       subst (λ (w : A). P w y) e (subst (λ (w : B). P a w) f here)
 
-  -- one more of each behind lists of one length
+  -- one more of each after lists of one length
   pub each_push : (xs : List A) (ys : List B) (a : A) (b : B) → length ys ≡ length xs → Each xs ys → P a b → Each (xs ++ a ∷ []) (ys ++ b ∷ [])
   each_push [] [] a b same each here zero x y first second = here_too a x b y here first second
   each_push [] [] a b same each here (suc k) x y first second = absurd cc

@@ -7,7 +7,7 @@ ghost use Rattle.object_types.specs.Examples.{two_files, at_place};
 
 use crate::object_fault::ObjectFault;
 
-/// One object's place is that of the second of two files, another's is behind them.
+/// One object's place is that of the second of two files, another's is after them.
 pub fn an_object_names_a_place()
     ensures place { HasPlace two_files (at_place 1) }
     ensures no_place { HasPlace two_files (at_place 2) → ⊥ }

@@ -1,12 +1,12 @@
 -- Words with the bits of held operations.
-use Rattle.std.proofs.Common.{◌≡◌, ℕ, ◌*◌, ◌^◌, ◌%◌, ◌<◌, Bool, false, not, eqb, List, [], ◌∷◌, ◌++◌, length, None, bit_and, bit_or, w64, refl, sym, ap, ◌∙◌, get_or, inl, inr, arith, All}
+use Rattle.std.proofs.Common.{◌≡◌, ℕ, ◌*◌, ◌^◌, ◌%◌, ◌<◌, Bool, not, eqb, List, [], ◌∷◌, ◌++◌, length, None, bit_and, bit_or, w64, sym, ap, ◌∙◌, get_or, inl, inr, All}
 use Rattle.std.specs.Int.{bit_at}
-use Rattle.std.specs.List.{find}
 use Rattle.std.specs.Option.{option_map}
 use Rattle.std.proofs.lemmas.Bool.{cases_eq, and_right}
-use Rattle.std.proofs.lemmas.List.Elements.{All-push, All-weaker, All-head, All-tail}
-use Rattle.std.proofs.lemmas.Nat.Bits.{bit_at_set_same, bit_at_set_other, bit_at_and, bit_at-zero}
+use Rattle.std.proofs.lemmas.List.Elements.{All-push, All-weaker}
+use Rattle.std.proofs.lemmas.Nat.Bits.{bit_at_set_same, bit_at_set_other}
 use Rattle.type_table.specs.ConflictTable.{conflicts}
+use Rattle.type_table.proofs.Elements.{find_none, bits_apart}
 use Rattle.op_locks.specs.Locks.{is_by, blocks, blocker, HasBits}
 use Rattle.op_locks.specs.declared.held.Held.{Held}
 
@@ -34,15 +34,6 @@ HasBits-push word held e below bits =
     All-push (IsMarked more) held e (All-weaker (IsMarked word) (IsMarked more) (λ x. IsMarked-with_bit word e.op x below) held bits)
     (below, bit_at_set_same w64 word e.op below)
 
--- what is in one of two words that have no bit in common isn't in the other
-unmarked : (row word k : ℕ) → bit_and row word ≡ 0 → bit_at word k ≡ 1 → bit_at row k ≡ 0
-unmarked row word k apart marked =
-    let e = sym (bit_at_and row word k) ∙ ap (λ n. bit_at n k) apart ∙ bit_at-zero k in omega (arith, e, marked)
-
-find_none : {X : Type 0} (p : X → Bool) (xs : List X) → All (λ x. p x ≡ false) xs → find p xs ≡ None
-find_none p [] none = refl
-find_none p (x ∷ xs) none = rw (All-head (λ y. p y ≡ false) x xs none) (find_none p xs (All-tail (λ y. p y ≡ false) x xs none))
-
 -- where the row of k and the word have no bit in common, nobody keeps another from k
 pub nobody_blocks : (rows : List (List Bool)) (t k row word : ℕ) (held : List Held) →
     ((q : ℕ) → q < length rows → eqb (bit_at row q) 1 ≡ conflicts rows k q) → bit_and row word ≡ 0 → All (λ e. e.op < length rows) held → HasBits word held → blocker rows t k held ≡ None
@@ -50,5 +41,5 @@ nobody_blocks rows t k row word held shows apart within bits =
     ap (option_map (λ e. e.by))
     (find_none (blocks rows t k) held
     (λ i d i_in. let e : Held = get_or held i d in
-    let clear = unmarked row word e.op apart (bits i d i_in).1 in
+    let clear = bits_apart row word e.op apart (bits i d i_in).1 in
     and_right (not (is_by t e)) (conflicts rows k e.op) (sym (shows e.op (within i d i_in)) ∙ ap (λ b. eqb b 1) clear)))

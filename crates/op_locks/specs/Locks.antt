@@ -32,7 +32,7 @@ count_of t held = length (filter (is_by t) held)
 abbrev pub without : ℕ → List Held → List Held
 without t held = filter (λ e. not (is_by t e)) held
 
--- an entry stays where so many of t's may
+-- an entry stays where this many of t's may
 abbrev pub stays : ℕ → ℕ → Held → Bool
 stays t left e = not (is_by t e) || nat_lt 0 left
 

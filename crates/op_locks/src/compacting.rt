@@ -14,7 +14,7 @@ pub struct Kept {
 }
 
 /// Moves what stays to the front, in its order: what others than t hold, and the first of what t
-/// holds, so many as `first` says.
+/// holds, as many as `first` says.
 pub fn compact(held: &mut [Held], t: u32, first: usize) -> Kept
     requires { All (λ e. e.op < 64) held.old }
     ensures within { result.count ≤ length held.old }
@@ -68,7 +68,7 @@ fn compact_others(held: &mut [Held], t: u32) -> Kept
     Kept { count, word }
 }
 
-/// Whether an entry stays, where so many of t's may.
+/// Whether an entry stays, where this many of t's may.
 fn stays(entry: Held, t: u32, left: usize) -> bool
     ensures { result ≡ stays t left entry }
 {

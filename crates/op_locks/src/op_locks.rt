@@ -103,7 +103,7 @@ impl OpLocks {
         self.keep(t, n as usize);
     }
 
-    // Takes out all that t holds but the first of it, so many as `first` says.
+    // Takes out all that t holds but the first of it, as many as `first` says.
     fn keep(&mut self, t: u32, first: usize)
         ensures list { self.new.held ≡ keep_first (is_by t) first self.old.held }
         ensures room { self.old.room ≤ self.new.room }

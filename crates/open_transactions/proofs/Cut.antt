@@ -1,4 +1,4 @@
--- Slots behind those that were cut off: t is open, and its place is t - cut.
+-- Slots after those that were cut off: t is open, and its place is t - cut.
 use Rattle.std.proofs.Common.{◌≡◌, ◌≢◌, ℕ, ◌+◌, ◌-◌, ◌<◌, ◌≤◌, List, ◌++◌, length, set, get_or, take, drop, replicate, append_assoc, sym, ap, ◌∙◌, subst, inl, inr, arith}
 use Rattle.std.proofs.lemmas.Bool.{cases_lt}
 use Rattle.std.proofs.lemmas.List.{get_or_append_left, get_or-append_right, get_or-replicate, set-append_right, length-append, length-replicate, length-set, replicate-append-replicate, take-append-drop}

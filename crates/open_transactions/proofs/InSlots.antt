@@ -113,7 +113,7 @@ module _ {S R : Type 0} {ended : ℕ} (number : S → ℕ) (shown : S → R) (sl
   pub ended-told : (t : ℕ) → slot_of ended index t ≡ ended → is_open rows t ≡ false
   ended-told t over = ap is_some (row-at t ∙ get_or_past (map row_of slots) (slot_of ended index t) None (omega (arith, over, placed.few, len-numbers, len-rows)))
 
-  -- so the slot tells
+  -- so the slot says it
   pub open-tested : (t k : ℕ) → k ≡ slot_of ended index t → not (eqb k ended) ≡ is_open rows t
   open-tested t k read =
       elim (cases_eq k ended) [

@@ -2,7 +2,7 @@
 use Rattle.std.specs.Prelude.{ℕ, Bool, List, [], ◌∷◌, ◌++◌, take, Option, None, Some, is_some, count_by, slice_index_or, slice_set}
 use Rattle.std.specs.Option.{option_map}
 
--- an open transaction: the worker that began it, and the places of its operations that live, in order of execution
+-- an open transaction: the worker that began it, and the places of its operations that survive, in order of execution
 pub record Row : Type 0 where
   pub worker : ℕ
   pub places : List ℕ

@@ -99,7 +99,7 @@ impl OpenTransactions {
         self.slots[slot].worker
     }
 
-    /// The places of the operations of t that live, in order of execution.
+    /// The places of the operations of t that survive, in order of execution.
     #[inline(always)]
     pub fn places(&self, t: u32) -> &[u8]
         requires { is_open self.now.rows t ≡ true }

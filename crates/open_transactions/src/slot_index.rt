@@ -72,7 +72,7 @@ impl SlotIndex {
     pub fn slot(&self, t: u32) -> u16
         ensures { result ≡ slice_index_or self.now.slots t 65535 }
     {
-        // of one that was cut off this wraps to a place behind the last
+        // of one that was cut off this wraps to a place after the last
         let place = t.wrapping_sub(self.cut) as usize;
         match self.slots.get(place) {
             Some(slot) => *slot,

@@ -7,7 +7,7 @@ use Rattle.std.proofs.lemmas.Bool.Decides.{nat_tests}
 use Rattle.std.specs.Io.KnownBytes.{Appends, Keeps, append_known}
 use Rattle.outputs.specs.Out.{fault_after}
 
--- a slice behind what is done is all of it
+-- a slice after what is done is all of it
 abbrev pub behind : List ℕ → ℕ → List ℕ
 behind piece done = take (length piece - done) (drop done piece)
 
@@ -15,7 +15,7 @@ behind piece done = take (length piece - done) (drop done piece)
 pub fault_after-taken : (n : ℕ) (piece : List ℕ) → (n ≡ 0 → ⊥) → fault_after (Ok n) piece ≡ None
 fault_after-taken n piece some = let test : (n == 0) ≡ false = grind (arith, nat_tests) in rw test
 
--- what was done, and a beginning of what is behind it
+-- what was done, and a beginning of what comes after it
 pub done_more : (a b c : Option (List ℕ)) (piece : List ℕ) (done n : ℕ) → Appends a b (take done piece) → Appends b c (take n (behind piece done))
     → Appends a c (take (done + n) piece)
 done_more a b c piece done n front more =

@@ -44,7 +44,7 @@ digits_9 n low high = one_more 8 n (omega arith) (omega arith) (digits_8 (n / 10
 pub digits_10 : (n : ℕ) → 1000000000 ≤ n → n < 4294967296 → length (decimal n) ≡ 10
 digits_10 n low high = one_more 9 n (omega arith) (omega arith) (digits_9 (n / 10) (omega arith) (omega arith))
 
--- ---- what stands in front of a place
+-- ---- what stays before a place
 
 -- two bytes that were written at a place
 pub two_set : (l : List ℕ) (i a b : ℕ) → i + 2 ≤ length l → take (i + 2) (set (set l i a) (i + 1) b) ≡ take i l ++ a ∷ b ∷ []
@@ -52,7 +52,7 @@ two_set l i a b room =
     take-set_at (set l i a) (i + 1) (i + 2) b (omega arith) (omega (arith, length-set l i a))
     ∙ ap (λ (f : List ℕ). f ++ b ∷ []) (take-set_at l i (i + 1) a refl (omega arith)) ∙ append_assoc (take i l) (a ∷ []) (b ∷ [])
 
--- what was spelled behind a place that stayed as it was
+-- what was spelled from a place on, with all before it as it was
 pub spelled : (old new text rest : List ℕ) (start end : ℕ) → take start new ≡ take start old → drop start new ≡ text ++ rest → start + length text ≡ end
     → take end new ≡ take start old ++ text
 spelled old new text rest start end before behind reaches =

@@ -66,7 +66,7 @@ Puts-exit_at {result = result} text xs i d inside so_far stop exit =
 
 -- ---- lines of words
 
--- a keyword, and a space before each word behind it
+-- a keyword, and a space before each word after it
 spaced-words : {X : Type 0} (now : X → List ℕ) (keyword : List ℕ) (words : List X)
     → join_with_byte 32 (keyword ∷ map now words) ≡ keyword ++ flat_map (λ w. 32 ∷ now w) words
 spaced-words now keyword [] = sym (append-nil keyword)

@@ -9,10 +9,10 @@ use crate::out::{Failed, Out, OutFault};
 use crate::spelling::{LONGEST, spell_line};
 use std::alloc::{AllocError, Global};
 
-/// A piece has at least so many bytes, but for the last.
+/// A piece has at least this many bytes, but for the last.
 const LEAST: usize = 65_536;
 
-/// So many bytes may wait, so that behind the least piece there is room for a line.
+/// This many bytes may wait, so that after the least piece there is room for a line.
 const MOST: usize = 131_072;
 
 /// An output over another, which is handed pieces of at least 65,536 bytes, and a last one by `flush`.
@@ -103,7 +103,7 @@ impl<W: Out> Gathered<W> {
         self.flush()
     }
 
-    /// Puts a beginning of a piece behind what is waiting, and tells how many bytes that is.
+    /// Puts a beginning of a piece after what is waiting, and returns how many bytes that is.
     fn gather(&mut self, piece: &[u8]) -> usize
         requires room { vec_len self.old.bytes < 65536 }
         requires some { 0 < length piece.now }
@@ -117,12 +117,12 @@ impl<W: Out> Gathered<W> {
         } else {
             room
         };
-        // there is room for so many
+        // there is room for these
         let _ = self.bytes.extend_from_slice(&piece[..count]);
         count
     }
 
-    /// Spells a line of a keyword and numbers behind what is waiting.
+    /// Spells a line of a keyword and numbers after what is waiting.
     #[inline(always)]
     fn gather_line(&mut self, keyword: &[u8], numbers: &[u32])
         requires room { vec_len self.old.bytes < 65536 }
@@ -131,7 +131,7 @@ impl<W: Out> Gathered<W> {
         ensures stays { under self.new ≡ under self.old }
     {
         let start = self.bytes.len();
-        // there is room for so many
+        // there is room for these
         let _ = self.bytes.extend_from_slice(&[0; LONGEST]);
         let end = spell_line(self.bytes.as_mut_slice(), start, keyword, numbers);
         self.bytes.truncate(end);
@@ -168,7 +168,7 @@ impl<W: Out> Out for Gathered<W> {
     }
 }
 
-/// Writes a whole piece, as `put` of `outputs`, and tells how many of its bytes were taken.
+/// Writes a whole piece, as `put` of `outputs`, and returns how many of its bytes were taken.
 fn hand_on<W: Out>(out: &mut W, piece: &[u8]) -> (usize, Result<(), OutFault>)
     requires { W.fault out.old ≡ None }
     ensures count { result.0 ≤ length piece.now }

@@ -25,7 +25,7 @@ pub struct Failed;
 
 /// An output, which takes bytes until a fault stops it.
 pub trait Out {
-    // The bytes taken so far, after those that the writer held before, where the writer tells them.
+    // The bytes taken so far, after those that the writer held before, where the writer says them.
     ghost taken: { Self → Option (List ℕ) };
 
     // What stopped it.
@@ -60,7 +60,7 @@ pub trait Out {
     }
 
     /// Writes a line of a keyword and numbers, with one space between two, as one piece. An output that
-    /// keeps its bytes may spell it where they lie.
+    /// keeps its bytes may spell it where they are.
     fn put_numbers(&mut self, keyword: &[u8], numbers: &[u32]) -> Result<(), OutFault>
         requires takes { fault self.old ≡ None }
         requires short { length keyword.now + 11 * length numbers.now < 64 }

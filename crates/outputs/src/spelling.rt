@@ -9,8 +9,8 @@ use itoa::write_digits;
 /// More than the bytes of a keyword and five numbers of 32 bits, with what is between them.
 pub const LONGEST: usize = 64;
 
-/// Writes a line of a keyword and numbers from a place of a buffer on, and tells where it ends. What is
-/// behind the line may be changed.
+/// Writes a line of a keyword and numbers from a place of a buffer on, and returns where it ends. What comes
+/// after the line may be changed.
 #[inline(always)]
 pub fn spell_line(buffer: &mut [u8], start: usize, keyword: &[u8], numbers: &[u32]) -> usize
     requires room { start + length keyword.now + 11 * length numbers.now < length buffer.old }
@@ -25,7 +25,7 @@ pub fn spell_line(buffer: &mut [u8], start: usize, keyword: &[u8], numbers: &[u3
     spell_word(buffer, end, b"\n")
 }
 
-/// Writes a word at a place, and tells where it ends.
+/// Writes a word at a place, and returns where it ends.
 #[inline(always)]
 fn spell_word(buffer: &mut [u8], start: usize, word: &[u8]) -> usize
     requires { start + length word.now ≤ length buffer.old }
@@ -38,7 +38,7 @@ fn spell_word(buffer: &mut [u8], start: usize, word: &[u8]) -> usize
     end
 }
 
-/// Writes a space and the digits of a number at a place, and tells where they end.
+/// Writes a space and the digits of a number at a place, and returns where they end.
 #[inline(always)]
 fn spell_number(buffer: &mut [u8], start: usize, n: u32) -> usize
     requires { start + 11 ≤ length buffer.old }
@@ -55,7 +55,7 @@ fn spell_number(buffer: &mut [u8], start: usize, n: u32) -> usize
     }
 }
 
-/// Writes the digits of a number that has several at a place, and tells where they end.
+/// Writes the digits of a number that has several at a place, and returns where they end.
 fn spell_digits(buffer: &mut [u8], start: usize, n: u32) -> usize
     requires room { start + 10 ≤ length buffer.old }
     requires several { 10 ≤ n }

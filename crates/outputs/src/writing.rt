@@ -27,7 +27,7 @@ pub fn put_all<W: Out>(out: &mut W, pieces: &[&[u8]]) -> Result<(), OutFault>
     Ok(())
 }
 
-/// Writes a line: a keyword and the words behind it, with one space between two, and a LF.
+/// Writes a line: a keyword and the words after it, with one space between two, and a LF.
 pub fn put_line<W: Out>(out: &mut W, keyword: &[u8], words: &[&[u8]]) -> Result<(), OutFault>
     requires { W.fault out.old ≡ None }
     ensures { Puts (W.taken out.old) (W.taken out.new) (W.fault out.new)

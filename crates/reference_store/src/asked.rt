@@ -30,7 +30,7 @@ pub enum Told {
 }
 
 /// An answer, as what comes of a call.
-pub fn answered(answer: Answer) -> Told {
+pub fn as_told(answer: Answer) -> Told {
     match answer {
         Answer::Reply(k) => Told::Reply(k),
         Answer::Busy(u) => Told::Busy(u),

@@ -1,4 +1,4 @@
-//! What a store, a run and a worker do, told slowly from lists of what happened: the tests compare with it.
+//! What a store, a run and a worker do, computed slowly from lists of what happened: the tests compare with it.
 #![tactic(auto)]
 
 pub mod asked;

@@ -1,4 +1,4 @@
-//! Who keeps a transaction from an operation of a number in escrow, told slowly from a list.
+//! Who keeps a transaction from an operation of a number in escrow, computed slowly from a list.
 
 use crate::living::{Living, run_at, stepped};
 use type_table::TypeTable;

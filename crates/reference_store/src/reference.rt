@@ -1,6 +1,6 @@
-//! What a store answers, told slowly from lists of what happened.
+//! What a store answers, computed slowly from lists of what happened.
 
-use crate::asked::{Ask, Told, answered};
+use crate::asked::{Ask, Told, as_told};
 use crate::living::{Living, run_at, stepped};
 use crate::numbers::Number;
 use object_trait::{Event, EventKind};
@@ -108,7 +108,7 @@ impl Reference {
         }
     }
 
-    /// The open transaction behind n others.
+    /// The open transaction after n others.
     pub fn open_at(&self, n: u32) -> Option<u32> {
         let mut left = n;
         for t in 0..self.count {
@@ -159,7 +159,7 @@ impl Reference {
         }
     }
 
-    /// The serial state of x; of update in place, the state after what lives in the order of execution.
+    /// The serial state of x; of update in place, the state after what survives in the order of execution.
     pub fn committed(&self, x: u32) -> Option<u16> {
         let checked = self.types.get(x as usize)?;
         match checked.kind() {
@@ -270,7 +270,7 @@ impl Reference {
             Answer::None => EventKind::None { t, x, c },
         };
         self.note(w, kind)?;
-        Ok(answered(answer))
+        Ok(as_told(answer))
     }
 
     fn begin(&mut self, w: u8) -> Result<Told, AllocError> {

@@ -1,4 +1,4 @@
-//! What a run writes, told by a slow fold over the lines of its script. A command that met a refused
+//! What a run writes, computed by a slow fold over the lines of its script. A command that met a refused
 //! allocation does nothing.
 
 use crate::asked::{Ask, Told};
@@ -12,7 +12,7 @@ use std::test::Fail;
 use table_checker::CheckedType;
 use type_table::Kind;
 
-/// What a run writes of its commands and its objects, and the lines of the audit behind that.
+/// What a run writes of its commands and its objects, and the lines of the audit after that.
 #[derive(Drop)]
 pub struct RunText {
     pub run: Vec<u8>,
@@ -70,7 +70,7 @@ fn ask_of(line: &'static str) -> Option<Ask> {
     }
 }
 
-/// The object of a line of a script, where it is one: the texts of the types stand in their order.
+/// The object of a line of a script, where it is one: the texts of the types are in their order.
 fn sort_of(line: &str, types: &[&'static str]) -> Option<Sort> {
     let mut words = line.split_whitespace();
     if words.next()? != "object" {
@@ -81,14 +81,14 @@ fn sort_of(line: &str, types: &[&'static str]) -> Option<Sort> {
     Some((kind, *types.get(place as usize)?))
 }
 
-/// Puts a line behind the others.
+/// Puts a line after the others.
 pub fn push_line(text: &mut Vec<u8>, line: &str) -> Result<(), AllocError> {
     text.extend_from_slice(line.as_bytes())?;
     text.extend_from_slice(b"\n")?;
     Ok(())
 }
 
-/// Puts the line of what comes of a command behind the others.
+/// Puts the line of what comes of a command after the others.
 fn push_told(
     alloc: Global,
     text: &mut Vec<u8>,
@@ -110,7 +110,7 @@ fn line_at(text: &[u8], place: usize) -> &[u8] {
     text.split(|b| *b == b'\n').nth(place).unwrap_or(b"")
 }
 
-/// Puts what a run writes of the lines of its script behind its limit. A command whose line in the text
+/// Puts what a run writes of the lines of its script after its limit. A command whose line in the text
 /// that was written says that it met a refused allocation does nothing.
 fn push_lines(
     alloc: Global,
@@ -133,7 +133,7 @@ fn push_lines(
     Ok(())
 }
 
-/// Puts the line of the state of object x behind the others, where it has one.
+/// Puts the line of the state of object x after the others, where it has one.
 fn push_state(
     alloc: Global,
     text: &mut Vec<u8>,
@@ -150,7 +150,7 @@ fn push_state(
     }
 }
 
-/// Puts the lines behind the commands.
+/// Puts the lines after the commands.
 pub fn push_end(alloc: Global, text: &mut Vec<u8>, fold: &mut Reference) -> Result<(), AllocError> {
     for t in 0..fold.count() {
         if fold.open_at(0) == Some(t) {
@@ -248,7 +248,7 @@ fn folded_once(
     Ok(RunText { run, audit })
 }
 
-/// What a run of a canonical script writes, where the text that was written tells which commands met
+/// What a run of a canonical script writes, where the text that was written says which commands met
 /// refused allocations. Where the fold itself meets one, the next try has it.
 pub fn folded(
     alloc: Global,

@@ -1,4 +1,4 @@
-//! What one worker does, told slowly over the lines of its jobs. Memory may be refused for one of its
+//! What one worker does, computed slowly over the lines of its jobs. Memory may be refused for one of its
 //! begins and calls: then the job is refused.
 
 use crate::asked::{Ask, Told};
@@ -46,7 +46,7 @@ pub const ONE_WORKER: OneWorker = OneWorker {
     tries: 2,
 };
 
-/// In front of how many of their begins and calls memory isn't refused, if it is: there are eight.
+/// Before how many of their begins and calls memory isn't refused, if it is: there are eight.
 pub static ROOMS: [Option<u32>; 9] = [
     None,
     Some(0),

@@ -1,32 +1,16 @@
 -- The digits of a number of at most ten.
-use Rattle.std.proofs.Common.{◌≡◌, ℕ, ◌+◌, ◌*◌, ◌^◌, ◌<◌, ◌≤◌, true, false, not, ◌&&◌, ◌||◌, eqb, leb, ltb, List, length, get_or, Some, None, add-one, inl, inr, arith}
+use Rattle.std.proofs.Common.{◌≡◌, ℕ, ◌+◌, ◌*◌, ◌^◌, ◌<◌, ◌≤◌, true, false, ◌&&◌, eqb, ltb, List, length, get_or, None, arith}
 use Rattle.std.specs.List.{list_all}
-use Rattle.std.proofs.lemmas.Bool.{and_parts, and_from, leb-true, le-leb, lt-ltb, eq-eqb, or_left, or_right, not_from_false, cases_eq, cond-true}
-use Rattle.std.proofs.Math.Nat.{pow-le-pow_right, pow-suc}
+use Rattle.std.proofs.lemmas.Bool.{cond-true}
+use Rattle.std.proofs.Math.Nat.{pow-le-pow_right}
 use Rattle.line_text.specs.Text.{is_digit, number_value}
+use Rattle.line_text.proofs.Numbers.{digits_pass, digit_more}
 use Rattle.request_text.specs.Numbers.{is_number, number_of, short_number}
-
--- a digit's byte
-pub digit_range : (b : ℕ) → is_digit b ≡ true → (48 ≤ b) × (b ≤ 57)
-digit_range b e =
-    let p = and_parts (leb 48 b) (leb b 57) e in
-    (leb-true 48 b p.0, leb-true b 57 p.1)
 
 -- digits without a leading zero are a number
 pub number_of-digits : (w : List ℕ) → 0 < length w → length w ≤ 10 → list_all is_digit w ≡ true → (ltb 1 (length w) && eqb (get_or w 0 0) 48) ≡ false → number_of w ≡ short_number (number_value w)
 number_of-digits w some short digits plain =
-    let no_zero : (eqb (length w) 1 || not (eqb (get_or w 0 0) 48)) ≡ true =
-    elim (cases_eq (length w) 1) [
-      | inl e ↦ or_left (eqb (length w) 1) (not (eqb (get_or w 0 0) 48)) (eq-eqb (length w) 1 e)
-      | inr e ↦
-          let more : ltb 1 (length w) ≡ true = lt-ltb 1 (length w) (omega arith) in
-          let other : eqb (get_or w 0 0) 48 ≡ false = rw more at plain in
-          or_right (eqb (length w) 1) (not (eqb (get_or w 0 0) 48)) (not_from_false (eqb (get_or w 0 0) 48) other)
-    ] in
-    let number : is_number w ≡ true =
-    and_from (leb 1 (length w) && leb (length w) 10 && list_all is_digit w) (eqb (length w) 1 || not (eqb (get_or w 0 0) 48))
-    (and_from (leb 1 (length w) && leb (length w) 10) (list_all is_digit w) (and_from (leb 1 (length w)) (leb (length w) 10) (le-leb 1 (length w) some) (le-leb (length w) 10 short)) digits)
-    no_zero in
+    let number : is_number w ≡ true = digits_pass 10 w some short digits plain in
     cond-true (is_number w) (short_number (number_value w)) None number
 
 -- one more digit, of at most ten, leaves the number below the next power of ten, and in 64 bits
@@ -35,4 +19,4 @@ digit_fits n i d len below within short small =
     let ten : 0 < 10 = omega arith in
     let few : i ≤ 9 = omega arith in
     let most : 10 ^ i ≤ 10 ^ 9 = pow-le-pow_right ten few in
-    (rw (add-one, pow-suc) (omega arith), omega arith)
+    (digit_more n i d below small, omega arith)

@@ -26,7 +26,7 @@ transaction (Some life) (Some number) = Some (record { life = life; number = num
 transaction (Some life) None = None
 transaction None number = None
 
--- what is in front of a point and what is behind it
+-- what comes before a point and what comes after it
 abbrev pub transaction_around : Option ℕ → List ℕ → Option TransactionName
 transaction_around None w = None
 transaction_around (Some at) w = transaction (number_of (take at w)) (number_of (drop (at + 1) w))

@@ -8,7 +8,7 @@ use Rattle.request_text.specs.declared.fault.RequestFault.TheVariants.{BadWords,
 use Rattle.request_text.specs.declared.request.TransactionName.{TransactionName}
 
 infixl 10 ◌>>=◌
--- a step behind one that may fail, as `?` makes it
+-- a step after one that may fail, as `?` makes it
 abbrev pub ◌>>=◌ : {A B : Type 0} → Result A RequestFault → (A → Result B RequestFault) → Result B RequestFault
 (Ok x) >>= f = f x
 (Err e) >>= f = Err e
@@ -17,7 +17,7 @@ abbrev pub ◌>>=◌ : {A B : Type 0} → Result A RequestFault → (A → Resul
 abbrev pub word : List (List ℕ) → ℕ → List ℕ
 word words place = slice_index_or words place []
 
--- there are so many words, the verb among them
+-- there are `count` words, the verb among them
 unfoldable pub exactly : List (List ℕ) → ℕ → Result (Unit {0}) RequestFault
 exactly words count = if length words == count then Ok tt else Err BadWords
 

@@ -12,9 +12,9 @@ pub enum RequestFault {
     BadTag,
     /// No request has this verb.
     UnknownVerb,
-    /// A wrong number of words, or a word that isn't the name that is wanted.
+    /// A wrong number of words, or a word that isn't the name that is asked for.
     BadWords,
-    /// A word that isn't the number or the transaction that is wanted.
+    /// A word that isn't the number or the transaction that is asked for.
     BadNumber,
 }
 

@@ -16,7 +16,7 @@ pub fn is_verb(words: &[&[u8]], verb: &str) -> bool
     word(words, 0) == verb.as_bytes()
 }
 
-/// That there are so many words, the verb among them; else `BadWords`.
+/// That there are this many words, the verb among them; else `BadWords`.
 #[tactic(auto, unfolding(crate::specs::Shapes::exactly))]
 pub fn exactly(words: &[&[u8]], count: usize) -> Result<(), RequestFault>
     ensures { result ≡ exactly (map (λ w. w.now) words.now) count }

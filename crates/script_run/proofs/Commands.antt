@@ -9,68 +9,68 @@ use Rattle.outputs.specs.declared.out.OutFault.{OutFault}
 use Rattle.serial_order.specs.declared.command.Command.{Command}
 use Rattle.store_laws.specs.Stored.{Stored, objects}
 use Rattle.script_run.specs.Turns.{history_after, command_turn, command_turns}
-use Rattle.script_run.specs.Running.{MayWant, Writes, RunsCommands}
+use Rattle.script_run.specs.Running.{MayRefuseMemory, Writes, RunsCommands}
 use Rattle.script_run.proofs.Turns.{join, stop, no_turns, history_now}
 
--- ---- places at which memory is wanted
+-- ---- places at which memory is refused
 
--- a first place, and the others behind it
+-- a first place, and the others after it
 first_and : Bool → (ℕ → Bool) → ℕ → Bool
 first_and b others zero = b
 first_and b others (suc place) = others place
 
--- the places of some commands, and those of the commands behind them
-wanting_both : {X : Type 0} → List X → (ℕ → Bool) → (ℕ → Bool) → ℕ → Bool
-wanting_both [] first second = second
-wanting_both (x ∷ xs) first second = first_and (first 0) (wanting_both xs (λ place. first (suc place)) second)
+-- the places of some commands, and those of the commands after them
+memory_refused_both : {X : Type 0} → List X → (ℕ → Bool) → (ℕ → Bool) → ℕ → Bool
+memory_refused_both [] first second = second
+memory_refused_both (x ∷ xs) first second = first_and (first 0) (memory_refused_both xs (λ place. first (suc place)) second)
 
 module _ (objects : List Object) (most : ℕ) where
   -- the turns of two lists of commands
   turns-join : (first second : ℕ → Bool) (H : List Event) (cs ds : List Command)
-      → command_turns objects most (wanting_both cs first second) H (cs ++ ds)
+      → command_turns objects most (memory_refused_both cs first second) H (cs ++ ds)
       ≡ command_turns objects most first H cs ++ command_turns objects most second (history_after H (command_turns objects most first H cs)) ds
-  unfolding wanting_both first_and
+  unfolding memory_refused_both first_and
   turns-join first second H [] ds = refl
   turns-join first second H (c ∷ cs) ds =
       let turn = command_turn objects most (first 0) H c in
       ap (λ l. turn ∷ l) (turns-join (λ place. first (suc place)) second turn.history cs ds)
 
-  -- memory may be wanted at these places of both lists
-  may_want-join : (first second : ℕ → Bool) (H : List Event) (cs ds : List Command) → MayWant objects most first H cs
-      → MayWant objects most second (history_after H (command_turns objects most first H cs)) ds → MayWant objects most (wanting_both cs first second) H (cs ++ ds)
-  unfolding wanting_both first_and
-  may_want-join first second H [] ds p q = q
-  may_want-join first second H (c ∷ cs) ds p q =
+  -- memory may be refused at these places of both lists
+  may_refuse_memory-join : (first second : ℕ → Bool) (H : List Event) (cs ds : List Command) → MayRefuseMemory objects most first H cs
+      → MayRefuseMemory objects most second (history_after H (command_turns objects most first H cs)) ds → MayRefuseMemory objects most (memory_refused_both cs first second) H (cs ++ ds)
+  unfolding memory_refused_both first_and
+  may_refuse_memory-join first second H [] ds p q = q
+  may_refuse_memory-join first second H (c ∷ cs) ds p q =
       let turn = command_turn objects most (first 0) H c in
-      (p.0, may_want-join (λ place. first (suc place)) second turn.history cs ds p.1 q)
+      (p.0, may_refuse_memory-join (λ place. first (suc place)) second turn.history cs ds p.1 q)
 
-  -- where it is wanted nowhere, that is right
-  pub never-wanted : (H : List Event) (cs : List Command) → MayWant objects most (λ place. false) H cs
-  never-wanted H [] = tt
-  never-wanted H (c ∷ cs) = (λ wanted. absurd (false≢true wanted), never-wanted (command_turn objects most false H c).history cs)
+  -- where it is refused nowhere, that is right
+  pub never-memory_refused : (H : List Event) (cs : List Command) → MayRefuseMemory objects most (λ place. false) H cs
+  never-memory_refused H [] = tt
+  never-memory_refused H (c ∷ cs) = (λ memory_refused. absurd (false≢true memory_refused), never-memory_refused (command_turn objects most false H c).history cs)
 
 -- ---- commands that are asked
 
 -- none
 pub no_commands : (s : Stored) (a : Option (List ℕ)) {f : Option OutFault} → f ≡ None → RunsCommands s [] a a f s (Ok tt)
-no_commands s a no_fault = record { wanting = λ place. false; may_want = tt; writes = no_turns s a no_fault }
+no_commands s a no_fault = record { memory_refused = λ place. false; may_refuse_memory = tt; writes = no_turns s a no_fault }
 
--- some, and others behind them
+-- some, and others after them
 pub commands-join : (s mid new : Stored) (cs ds : List Command) {a b c : Option (List ℕ)} {f g : Option OutFault} {result : Result (Unit {0}) OutFault}
     → RunsCommands s cs a b f mid (Ok tt) → RunsCommands mid ds b c g new result → RunsCommands s (cs ++ ds) a c g new result
 commands-join s mid new cs ds {b = b} {c = c} {g = g} {result = result} p q =
-    let K = history_after s.history (command_turns (objects s) s.max p.wanting s.history cs) in
-    let now = history_now s mid (command_turns (objects s) s.max p.wanting s.history cs) p.writes in
-    let wants : MayWant (objects s) s.max q.wanting K ds =
-    subst (λ (m : Stored). MayWant (objects m) m.max q.wanting m.history ds) now q.may_want
+    let K = history_after s.history (command_turns (objects s) s.max p.memory_refused s.history cs) in
+    let now = history_now s mid (command_turns (objects s) s.max p.memory_refused s.history cs) p.writes in
+    let memory : MayRefuseMemory (objects s) s.max q.memory_refused K ds =
+    subst (λ (m : Stored). MayRefuseMemory (objects m) m.max q.memory_refused m.history ds) now q.may_refuse_memory
     in
-    let written : Writes mid (command_turns (objects s) s.max q.wanting K ds) b c g new result =
-    subst (λ (m : Stored). Writes mid (command_turns (objects m) m.max q.wanting m.history ds) b c g new result) now q.writes
+    let written : Writes mid (command_turns (objects s) s.max q.memory_refused K ds) b c g new result =
+    subst (λ (m : Stored). Writes mid (command_turns (objects m) m.max q.memory_refused m.history ds) b c g new result) now q.writes
     in
     record {
-      wanting = wanting_both cs p.wanting q.wanting;
-      may_want = may_want-join (objects s) s.max p.wanting q.wanting s.history cs ds p.may_want wants;
-      writes = rw (turns-join (objects s) s.max p.wanting q.wanting s.history cs ds) (join s mid new _ _ p.writes written);
+      memory_refused = memory_refused_both cs p.memory_refused q.memory_refused;
+      may_refuse_memory = may_refuse_memory-join (objects s) s.max p.memory_refused q.memory_refused s.history cs ds p.may_refuse_memory memory;
+      writes = rw (turns-join (objects s) s.max p.memory_refused q.memory_refused s.history cs ds) (join s mid new _ _ p.writes written);
     }
 
 -- some at which the output stopped, and nothing of what would follow
@@ -78,9 +78,9 @@ pub commands-stop : (s new : Stored) (cs ds : List Command) {a b : Option (List 
     → RunsCommands s cs a b f new (Err e) → RunsCommands s (cs ++ ds) a b f new (Err e)
 commands-stop s new cs ds p =
     record {
-      wanting = wanting_both cs p.wanting (λ place. false);
-      may_want = may_want-join (objects s) s.max p.wanting (λ place. false) s.history cs ds p.may_want (never-wanted (objects s) s.max _ ds);
-      writes = rw (turns-join (objects s) s.max p.wanting (λ place. false) s.history cs ds) (stop s new _ _ p.writes);
+      memory_refused = memory_refused_both cs p.memory_refused (λ place. false);
+      may_refuse_memory = may_refuse_memory-join (objects s) s.max p.memory_refused (λ place. false) s.history cs ds p.may_refuse_memory (never-memory_refused (objects s) s.max _ ds);
+      writes = rw (turns-join (objects s) s.max p.memory_refused (λ place. false) s.history cs ds) (stop s new _ _ p.writes);
     }
 
 -- those before a place, and the one there

@@ -13,7 +13,7 @@ use Rattle.object_trait.specs.Object.{Object}
 use Rattle.object_trait.specs.declared.event.Event.{Event}
 use Rattle.object_trait.specs.declared.event.EventKind.{EventKind}
 use Rattle.object_trait.specs.declared.event.EventKind.TheVariants as kind
-use Rattle.serial_order.specs.History.{seen}
+use Rattle.serial_order.specs.History.{summary}
 use Rattle.serial_order.specs.Replay.{refusal, event_of}
 use Rattle.serial_order.specs.declared.command.Command.{Command}
 use Rattle.serial_order.specs.declared.refusal.Refusal.{Refusal}
@@ -87,16 +87,16 @@ answered-skip : (H : List Event) (reason : Option Refusal) (happened : Option Ev
 answered-skip H (Some r) happened = refused-skip H r
 answered-skip H None happened = accepted-skip H happened
 
-command-skip : (objects : List Object) (most : ℕ) (wanting : Bool) (H : List Event) (command : Command) → MaySkip (line (command_turn objects most wanting H command))
+command-skip : (objects : List Object) (most : ℕ) (memory_refused : Bool) (H : List Event) (command : Command) → MaySkip (line (command_turn objects most memory_refused H command))
 command-skip objects most true H command = refused-skip H NoMemory
-command-skip objects most false H command = answered-skip H (refusal objects most H command) (event_of objects (seen H) command)
+command-skip objects most false H command = answered-skip H (refusal objects most H command) (event_of objects (summary H) command)
 
-commands-skip : (objects : List Object) (most : ℕ) (wanting : ℕ → Bool) (H : List Event) (commands : List Command)
-    → MaySkipAll (command_turns objects most wanting H commands)
-commands-skip objects most wanting H [] = tt
-commands-skip objects most wanting H (c ∷ commands) = (
-  command-skip objects most (wanting 0) H c,
-  commands-skip objects most (λ place. wanting (suc place)) (command_turn objects most (wanting 0) H c).history commands,
+commands-skip : (objects : List Object) (most : ℕ) (memory_refused : ℕ → Bool) (H : List Event) (commands : List Command)
+    → MaySkipAll (command_turns objects most memory_refused H commands)
+commands-skip objects most memory_refused H [] = tt
+commands-skip objects most memory_refused H (c ∷ commands) = (
+  command-skip objects most (memory_refused 0) H c,
+  commands-skip objects most (λ place. memory_refused (suc place)) (command_turn objects most (memory_refused 0) H c).history commands,
 )
 
 -- ---- the other lines
@@ -118,15 +118,15 @@ kept-skip H x (s ∷ kept) few short = (
   kept-skip H (suc x) kept (omega (arith, few)) short.1,
 )
 
-turns-skip : (objects : List Object) (most : ℕ) (wanting : ℕ → Bool) (kept : List ℕ) (lines : List ObjectLine) (commands : List Command)
-    → length kept < 10 ^ 7 → AllByRecursion (λ state. state < 10 ^ 7) kept → MaySkipAll (script_turns objects most wanting kept [] lines commands)
-turns-skip objects most wanting kept lines commands few short =
-    let asked = command_turns objects most wanting [] commands in
+turns-skip : (objects : List Object) (most : ℕ) (memory_refused : ℕ → Bool) (kept : List ℕ) (lines : List ObjectLine) (commands : List Command)
+    → length kept < 10 ^ 7 → AllByRecursion (λ state. state < 10 ^ 7) kept → MaySkipAll (script_turns objects most memory_refused kept [] lines commands)
+turns-skip objects most memory_refused kept lines commands few short =
+    let asked = command_turns objects most memory_refused [] commands in
     let K = history_after [] asked in
     let closed = history_after K (closing_turns K) in
     let last = end_turn closed ∷ kept_turns closed 0 kept in
     skip-append (object_turns [] lines) (asked ++ (closing_turns K ++ last)) (objects-skip [] lines)
-    (skip-append asked (closing_turns K ++ last) (commands-skip objects most wanting [] commands)
+    (skip-append asked (closing_turns K ++ last) (commands-skip objects most memory_refused [] commands)
     (skip-append (closing_turns K) last (aborts-skip K _) (told_skips (line (end_turn closed)) refl, kept-skip closed 0 kept (omega (arith, few)) short)))
 
 -- ---- the text
@@ -145,8 +145,8 @@ told-lines [] = refl
 told-lines (t ∷ turns) = told-more (tells t) t turns (told-lines turns)
 
 pub script-read : CommentsAreSkipped → CanonicalIsRead → TextTellsHistory → ScriptIsRead
-script-read skipped canonical text_tells = λ objects most wanting kept lines commands behind fit few short are.
-    let turns = script_turns objects most wanting kept [] lines commands in
+script-read skipped canonical text_tells = λ objects most memory_refused kept lines commands behind fit few short are.
+    let turns = script_turns objects most memory_refused kept [] lines commands in
     let H = history_after [] turns in
     let all = lines_of_turns turns ++ behind in
     let told : filter tells_line all ≡ lines_of_turns (filter tells turns) =
@@ -154,13 +154,13 @@ script-read skipped canonical text_tells = λ objects most wanting kept lines co
     ∙ append-nil (filter tells_line (lines_of_turns turns)) ∙ told-lines turns
     in
     let alone : lines_text (filter tells_line all) ≡ canonical_text lines H =
-    ap lines_text told ∙ sym (lines-text (filter tells turns)) ∙ text_tells objects most wanting kept lines commands
+    ap lines_text told ∙ sym (lines-text (filter tells turns)) ∙ text_tells objects most memory_refused kept lines commands
     in
     let whole : text_of turns ++ lines_text behind ≡ lines_text all =
     ap (λ l. l ++ lines_text behind) (lines-text turns) ∙ sym (flat_map-append ended (lines_of_turns turns) behind)
     in
     let read = subst (λ t. outcome_of (store_rules events) t ≡ Ok (canonical_lines lines H)) (sym alone) (canonical lines H fit).read in
-    let may = skips_append (lines_of_turns turns) behind (turns-skip objects most wanting kept lines commands few short) (comments_skip behind are) in
+    let may = skips_append (lines_of_turns turns) behind (turns-skip objects most memory_refused kept lines commands few short) (comments_skip behind are) in
     subst (λ t. outcome_of (store_rules events) t ≡ Ok (canonical_lines lines H)) (sym whole) (skipped all (canonical_lines lines H) may read)
 
 -- ---- who did it
@@ -180,25 +180,25 @@ answered-mine : (H : List Event) (reason : Option Refusal) (happened : Option Ev
 answered-mine H (Some r) happened mine = mine
 answered-mine H None happened mine = accepted-mine H happened mine
 
-command-mine : (objects : List Object) (most : ℕ) (wanting : Bool) (H : List Event) (command : Command) → AreMine H
-    → AreMine (command_turn objects most wanting H command).history
+command-mine : (objects : List Object) (most : ℕ) (memory_refused : Bool) (H : List Event) (command : Command) → AreMine H
+    → AreMine (command_turn objects most memory_refused H command).history
 command-mine objects most true H command mine = mine
-command-mine objects most false H command mine = answered-mine H (refusal objects most H command) (event_of objects (seen H) command) mine
+command-mine objects most false H command mine = answered-mine H (refusal objects most H command) (event_of objects (summary H) command) mine
 
-commands-mine : (objects : List Object) (most : ℕ) (wanting : ℕ → Bool) (H : List Event) (commands : List Command) → AreMine H
-    → AreMine (history_after H (command_turns objects most wanting H commands))
-commands-mine objects most wanting H [] mine = mine
-commands-mine objects most wanting H (c ∷ commands) mine =
-    commands-mine objects most (λ place. wanting (suc place)) (command_turn objects most (wanting 0) H c).history commands (command-mine objects most (wanting 0) H c mine)
+commands-mine : (objects : List Object) (most : ℕ) (memory_refused : ℕ → Bool) (H : List Event) (commands : List Command) → AreMine H
+    → AreMine (history_after H (command_turns objects most memory_refused H commands))
+commands-mine objects most memory_refused H [] mine = mine
+commands-mine objects most memory_refused H (c ∷ commands) mine =
+    commands-mine objects most (λ place. memory_refused (suc place)) (command_turn objects most (memory_refused 0) H c).history commands (command-mine objects most (memory_refused 0) H c mine)
 
 aborts-mine : (H : List Event) (ts : List ℕ) → AreMine H → AreMine (history_after H (abort_turns H ts))
 aborts-mine H [] mine = mine
 aborts-mine H (t ∷ ts) mine = aborts-mine (H ++ by_script (kind.Abort t) ∷ []) ts (mine-more H (kind.Abort t) mine)
 
 pub script-mine : ScriptIsByOne
-script-mine = λ objects most wanting kept lines commands.
+script-mine = λ objects most memory_refused kept lines commands.
     let first = object_turns [] lines in
-    let asked = command_turns objects most wanting [] commands in
+    let asked = command_turns objects most memory_refused [] commands in
     let K = history_after [] asked in
     let closing = closing_turns K in
     let closed = history_after K closing in
@@ -207,4 +207,4 @@ script-mine = λ objects most wanting kept lines commands.
     history_after-append [] first (asked ++ (closing ++ behind)) ∙ ap (λ J. history_after J (asked ++ (closing ++ behind))) (objects-stay [] lines)
     ∙ history_after-append [] asked (closing ++ behind) ∙ history_after-append K closing behind ∙ kept-stays closed 0 kept
     in
-    subst AreMine (sym history) (aborts-mine K (open_in K) (commands-mine objects most wanting [] commands tt))
+    subst AreMine (sym history) (aborts-mine K (open_in K) (commands-mine objects most memory_refused [] commands tt))

@@ -8,7 +8,7 @@ use Rattle.object_trait.specs.Object.{Object}
 use Rattle.object_trait.specs.declared.event.Event.{Event}
 use Rattle.object_trait.specs.declared.event.EventKind.{EventKind}
 use Rattle.object_trait.specs.declared.event.EventKind.TheVariants as kind
-use Rattle.serial_order.specs.History.{seen}
+use Rattle.serial_order.specs.History.{summary}
 use Rattle.serial_order.specs.Laws.{CommandAppends}
 use Rattle.serial_order.specs.Replay.{refusal, event_of}
 use Rattle.serial_order.specs.declared.command.Command.{Command}
@@ -38,11 +38,11 @@ record AreTold (H : List Event) (turns : List Turn) : Type 0 where
 none_told : (H : List Event) → AreTold H []
 none_told H = record { happened = []; history = sym (append-nil H); text = refl }
 
--- the text of the turns that tell something, of two lists
+-- the text of the turns that say something, of two lists
 tells-append : (xs ys : List Turn) → text_of (filter tells (xs ++ ys)) ≡ text_of (filter tells xs) ++ text_of (filter tells ys)
 tells-append xs ys = ap text_of (filter-append tells xs ys) ∙ text_of-append (filter tells xs) (filter tells ys)
 
--- one list behind another
+-- one list after another
 told-join : (H : List Event) (xs ys : List Turn) → AreTold H xs → AreTold (history_after H xs) ys → AreTold H (xs ++ ys)
 told-join H xs ys p q =
     record {
@@ -79,24 +79,24 @@ refused-told H r = record { happened = []; history = sym (append-nil H); text = 
 
 module _ (appends : CommandAppends) (objects : List Object) (most : ℕ) where
   answered-told : (H : List Event) (command : Command) (reason : Option Refusal) → refusal objects most H command ≡ reason
-      → AreTold H (answered_turn H reason (event_of objects (seen H) command) ∷ [])
+      → AreTold H (answered_turn H reason (event_of objects (summary H) command) ∷ [])
   answered-told H command (Some r) e = refused-told H r
   answered-told H command None e =
       let its = appends objects most H 0 command e in
       rw its.is (event-told H its.happened)
 
-  command-told : (wanting : Bool) (H : List Event) (command : Command) → AreTold H (command_turn objects most wanting H command ∷ [])
+  command-told : (memory_refused : Bool) (H : List Event) (command : Command) → AreTold H (command_turn objects most memory_refused H command ∷ [])
   command-told true H command = refused-told H NoMemory
   command-told false H command = answered-told H command (refusal objects most H command) refl
 
-  commands-told : (wanting : ℕ → Bool) (H : List Event) (commands : List Command) → AreTold H (command_turns objects most wanting H commands)
-  commands-told wanting H [] = none_told H
-  commands-told wanting H (c ∷ commands) =
-      let turn = command_turn objects most (wanting 0) H c in
-      told-join H (turn ∷ []) (command_turns objects most (λ place. wanting (suc place)) turn.history commands) (command-told (wanting 0) H c)
-      (commands-told (λ place. wanting (suc place)) turn.history commands)
+  commands-told : (memory_refused : ℕ → Bool) (H : List Event) (commands : List Command) → AreTold H (command_turns objects most memory_refused H commands)
+  commands-told memory_refused H [] = none_told H
+  commands-told memory_refused H (c ∷ commands) =
+      let turn = command_turn objects most (memory_refused 0) H c in
+      told-join H (turn ∷ []) (command_turns objects most (λ place. memory_refused (suc place)) turn.history commands) (command-told (memory_refused 0) H c)
+      (commands-told (λ place. memory_refused (suc place)) turn.history commands)
 
--- ---- what comes behind them
+-- ---- what comes after them
 
 aborts-told : (H : List Event) (ts : List ℕ) → AreTold H (abort_turns H ts)
 aborts-told H [] = none_told H
@@ -122,7 +122,7 @@ pub objects-stay : (H : List Event) (lines : List ObjectLine) → history_after 
 objects-stay H [] = refl
 objects-stay H (o ∷ lines) = objects-stay H lines
 
--- `end`, and behind it nothing but comments
+-- `end`, and after it nothing but comments
 end-told : (H : List Event) (kept : List ℕ) → text_of (filter tells (end_turn H ∷ kept_turns H 0 kept)) ≡ text_of_lines words_of (End ∷ [])
 end-told H kept = ap (λ l. line_of (end_turn H) ++ l) (kept-told H 0 kept)
 
@@ -134,14 +134,14 @@ canonical-parts lines H =
     ∙ ap (λ l. text_of_lines words_of (map object_line lines) ++ l) (flat_map-append _ (map event_line H) (End ∷ []))
 
 pub text-tells : CommandAppends → TextTellsHistory
-text-tells appends = λ objects most wanting kept lines commands.
+text-tells appends = λ objects most memory_refused kept lines commands.
     let first = object_turns [] lines in
-    let asked = command_turns objects most wanting [] commands in
+    let asked = command_turns objects most memory_refused [] commands in
     let K = history_after [] asked in
     let closing = closing_turns K in
     let closed = history_after K closing in
     let behind = end_turn closed ∷ kept_turns closed 0 kept in
-    let both : AreTold [] (asked ++ closing) = told-join [] asked closing (commands-told appends objects most wanting [] commands) (aborts-told K (open_in K)) in
+    let both : AreTold [] (asked ++ closing) = told-join [] asked closing (commands-told appends objects most memory_refused [] commands) (aborts-told K (open_in K)) in
     let lines_text = text_of_lines words_of (map object_line lines) in
     let end_text = text_of_lines words_of (End ∷ []) in
     let history : history_after [] (first ++ (asked ++ (closing ++ behind))) ≡ both.happened =

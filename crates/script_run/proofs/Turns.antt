@@ -30,13 +30,13 @@ history_at H (x ∷ turns) (suc i) turn at = history_at x.history turns i turn a
 pub text_of-append : (xs ys : List Turn) → text_of (xs ++ ys) ≡ text_of xs ++ text_of ys
 text_of-append xs ys = flat_map-append line_of xs ys
 
--- a place in the second is one in both, so much further on
+-- a place in the second is one in both, further on by the length of the first
 pub there_second : {X : Type 0} (xs ys : List X) (n i : ℕ) → n ≡ length xs + i → slice_get (xs ++ ys) n ≡ slice_get ys i
 there_second [] ys n i e = ap (slice_get ys) (e ∙ zero-add i)
 there_second (x ∷ xs) ys zero i e = absurd (omega arith)
 there_second (x ∷ xs) ys (suc n) i e = there_second xs ys n i (omega arith)
 
--- what lies before that place
+-- what comes before that place
 take_second : {X : Type 0} (xs ys : List X) (n i : ℕ) → n ≡ length xs + i → take n (xs ++ ys) ≡ xs ++ take i ys
 take_second [] ys n i e = ap (λ k. take k ys) (e ∙ zero-add i)
 take_second (x ∷ xs) ys zero i e = absurd (omega arith)
@@ -91,7 +91,7 @@ one_turn s new turn {result = Err e} is p =
     let (n, short, bytes) = p.beginning in
     record { written = record { place = 0; turn = turn; there = refl; taken = n; short = short; bytes = bytes; store = is }; fault_is = p.fault_is }
 
--- some, and others behind them
+-- some, and others after them
 pub join : (s mid new : Stored) (xs ys : List Turn) {a b c : Option (List ℕ)} {f g : Option OutFault} {result : Result (Unit {0}) OutFault}
     → Writes s xs a b f mid (Ok tt) → Writes mid ys b c g new result → Writes s (xs ++ ys) a c g new result
 join s mid new xs ys {a = a} {b = b} {c = c} {result = Ok done} p q =

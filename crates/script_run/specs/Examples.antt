@@ -21,11 +21,11 @@ abbrev pub keeps_others : List Command
 keeps_others =
     Begin ∷ Begin ∷ Call 0 0 (codes "inc:1") ∷ Call 1 0 (codes "inc:1") ∷ Abort 0 ∷ Abort 0 ∷ Commit 1 ∷ Begin ∷ []
 
--- the text of that script with a limit of events, where memory is wanted at some places and the counter keeps a state
+-- the text of that script with a limit of events, where memory is refused at some places and the counter keeps a state
 abbrev pub counter_text : ℕ → (ℕ → Bool) → ℕ → List ℕ
-counter_text most wanting state = text_of (script_turns one_counter most wanting (state ∷ []) [] one_line keeps_others)
+counter_text most memory_refused state = text_of (script_turns one_counter most memory_refused (state ∷ []) [] one_line keeps_others)
 
--- memory is wanted nowhere, or at one place
+-- memory is refused nowhere, or at one place
 abbrev pub nowhere : ℕ → Bool
 nowhere place = false
 

@@ -8,7 +8,7 @@ use Rattle.line_text.specs.Spelling.{spaced}
 use Rattle.object_trait.specs.Object.{Object}
 use Rattle.object_trait.specs.declared.event.Event.{Event}
 use Rattle.object_trait.specs.declared.event.EventKind.TheVariants.{Abort}
-use Rattle.serial_order.specs.History.{seen, is_open}
+use Rattle.serial_order.specs.History.{summary, is_open}
 use Rattle.serial_order.specs.Machine.{IsRun}
 use Rattle.serial_order.specs.Replay.{replay}
 use Rattle.serial_order.specs.declared.command.Command.{Command}
@@ -21,21 +21,21 @@ use Rattle.script_run.specs.Turns.{Turn, text_of, history_after, command_turns, 
 -- the history after the commands' turns is that of their replay
 abbrev pub AllReplayed : Type 0
 AllReplayed =
-    (objects : List Object) (most : ℕ) (wanting : ℕ → Bool) (H : List Event) (commands : List Command)
-    → history_after H (command_turns objects most wanting H commands) ≡ replay objects most wanting H (map (λ command. (0, command)) commands)
+    (objects : List Object) (most : ℕ) (memory_refused : ℕ → Bool) (H : List Event) (commands : List Command)
+    → history_after H (command_turns objects most memory_refused H commands) ≡ replay objects most memory_refused H (map (λ command. (0, command)) commands)
 
 -- and that of each of them is the replay of the commands up to its own
 abbrev pub EachReplayed : Type 0
 EachReplayed =
-    (objects : List Object) (most : ℕ) (wanting : ℕ → Bool) (H : List Event) (commands : List Command) (i : ℕ) (turn : Turn)
-    → slice_get (command_turns objects most wanting H commands) i ≡ Some turn
-    → turn.history ≡ replay objects most wanting H (map (λ command. (0, command)) (take (suc i) commands))
+    (objects : List Object) (most : ℕ) (memory_refused : ℕ → Bool) (H : List Event) (commands : List Command) (i : ℕ) (turn : Turn)
+    → slice_get (command_turns objects most memory_refused H commands) i ≡ Some turn
+    → turn.history ≡ replay objects most memory_refused H (map (λ command. (0, command)) (take (suc i) commands))
 
 -- the closing turns append an abort of each open transaction, in ascending order
 abbrev pub AllAborted : Type 0
 AllAborted = (H : List Event) → history_after H (closing_turns H) ≡ H ++ map (λ t. by_script (Abort t)) (open_in H)
 
--- each of them its own, behind those before it
+-- each of them its own, after those before it
 abbrev pub EachAborted : Type 0
 EachAborted =
     (H : List Event) (i : ℕ) (turn : Turn) → slice_get (closing_turns H) i ≡ Some turn
@@ -44,7 +44,7 @@ EachAborted =
 -- after which none is open
 abbrev pub NoneStaysOpen : Type 0
 NoneStaysOpen =
-    (objects : List Object) (H : List Event) (t : ℕ) → IsRun objects H → is_open (seen (history_after H (closing_turns H))) t ≡ false
+    (objects : List Object) (H : List Event) (t : ℕ) → IsRun objects H → is_open (summary (history_after H (closing_turns H))) t ≡ false
 
 -- a turn whose line is no comment
 abbrev pub tells : Turn → Bool
@@ -53,15 +53,15 @@ tells turn = tells_line (spaced turn.words)
 -- a script's lines but for the comments are the canonical text of its history
 abbrev pub TextTellsHistory : Type 0
 TextTellsHistory =
-    (objects : List Object) (most : ℕ) (wanting : ℕ → Bool) (kept : List ℕ) (lines : List ObjectLine) (commands : List Command)
-    → let turns = script_turns objects most wanting kept [] lines commands in
+    (objects : List Object) (most : ℕ) (memory_refused : ℕ → Bool) (kept : List ℕ) (lines : List ObjectLine) (commands : List Command)
+    → let turns = script_turns objects most memory_refused kept [] lines commands in
     text_of (filter tells turns) ≡ canonical_text lines (history_after [] turns)
 
--- a script's lines, and comments behind them, are read as its history, where that is in range and kept states have at most seven digits
+-- a script's lines, and comments after them, are read as its history, where that is in range and kept states have at most seven digits
 abbrev pub ScriptIsRead : Type 0
 ScriptIsRead =
-    (objects : List Object) (most : ℕ) (wanting : ℕ → Bool) (kept : List ℕ) (lines : List ObjectLine) (commands : List Command) (behind : List (List ℕ))
-    → let turns = script_turns objects most wanting kept [] lines commands in
+    (objects : List Object) (most : ℕ) (memory_refused : ℕ → Bool) (kept : List ℕ) (lines : List ObjectLine) (commands : List Command) (behind : List (List ℕ))
+    → let turns = script_turns objects most memory_refused kept [] lines commands in
     let H = history_after [] turns in
     AreInRange lines H → length kept < 10 ^ 7 → AllByRecursion (λ state. state < 10 ^ 7) kept → AllByRecursion IsComment behind
     → outcome_of (store_rules events) (text_of turns ++ lines_text behind) ≡ Ok (canonical_lines lines H)
@@ -69,8 +69,8 @@ ScriptIsRead =
 -- its events are worker 0's
 abbrev pub ScriptIsByOne : Type 0
 ScriptIsByOne =
-    (objects : List Object) (most : ℕ) (wanting : ℕ → Bool) (kept : List ℕ) (lines : List ObjectLine) (commands : List Command)
-    → AllByRecursion (λ (e : Event). e.worker ≡ 0) (history_after [] (script_turns objects most wanting kept [] lines commands))
+    (objects : List Object) (most : ℕ) (memory_refused : ℕ → Bool) (kept : List ℕ) (lines : List ObjectLine) (commands : List Command)
+    → AllByRecursion (λ (e : Event). e.worker ≡ 0) (history_after [] (script_turns objects most memory_refused kept [] lines commands))
 
 -- what is known of the history of a run that a text may have: over objects of tables, each named by a line, by workers whose numbers
 -- a byte holds

@@ -11,7 +11,7 @@ use Rattle.serial_order.specs.declared.command.Command.{Command}
 use Rattle.serial_order.specs.declared.command.Command.TheVariants.{Begin, Call, Commit, Abort, Rollback}
 use Rattle.serial_order.specs.declared.refusal.Refusal.{Refusal}
 use Rattle.serial_order.specs.declared.refusal.Refusal.TheVariants.{NoMemory}
-use Rattle.store_laws.specs.Stored.{Stored, objects, refusal_of, after}
+use Rattle.store_laws.specs.Stored.{Stored, objects, refusal_of, stored_after}
 use Rattle.store.specs.KeptState.{IsKeptState}
 use Rattle.script_text.specs.declared.script.Script.{Script}
 use Rattle.script_run.specs.Turns.{Turn, line_of, text_of, history_after, command_turn, command_turns, kept_turn, kept_turns, script_turns}
@@ -45,7 +45,7 @@ pub record Writes (old : Stored) (turns : List Turn) (before after : Option (Lis
 
 -- ---- memory
 
--- whether a command may want memory: an end never does
+-- whether a command may take memory: an end never does
 abbrev pub takes_memory : Command → Bool
 takes_memory Begin = true
 takes_memory (Call t x name) = true
@@ -53,25 +53,25 @@ takes_memory (Rollback t n) = true
 takes_memory (Commit t) = false
 takes_memory (Abort t) = false
 
--- a command is asked as worker 0, and refused for this reason or not at all: it does what it is to do, or memory was wanted and nothing
+-- a command is asked as worker 0, and refused for this reason or not at all: it does what it is to do, or memory was refused and nothing
 -- has changed
 abbrev pub Asks : Stored → Command → Option Refusal → Stored → Type 0
 Asks old command reason new =
-    ((reason ≡ refusal_of old command) × (new ≡ after old 0 command))
+    ((reason ≡ refusal_of old command) × (new ≡ stored_after old 0 command))
     ⊎ ((takes_memory command ≡ true) × (refusal_of old command ≡ None) × (reason ≡ Some NoMemory) × (new ≡ old))
 
--- memory is wanted only by commands that may want it and aren't refused for another reason
-abbrev pub MayWant : List Object → ℕ → (ℕ → Bool) → List Event → List Command → Type 0
-MayWant objects most wanting H [] = Unit {0}
-MayWant objects most wanting H (command ∷ commands) =
-    (wanting 0 ≡ true → (takes_memory command ≡ true) × (refusal objects most H command ≡ None))
-    × MayWant objects most (λ place. wanting (suc place)) (command_turn objects most (wanting 0) H command).history commands
+-- memory is refused only to commands that may take it and aren't refused for another reason
+abbrev pub MayRefuseMemory : List Object → ℕ → (ℕ → Bool) → List Event → List Command → Type 0
+MayRefuseMemory objects most memory_refused H [] = Unit {0}
+MayRefuseMemory objects most memory_refused H (command ∷ commands) =
+    (memory_refused 0 ≡ true → (takes_memory command ≡ true) × (refusal objects most H command ≡ None))
+    × MayRefuseMemory objects most (λ place. memory_refused (suc place)) (command_turn objects most (memory_refused 0) H command).history commands
 
 -- commands are asked one after another, and their lines are written
 pub record RunsCommands (old : Stored) (commands : List Command) (before after : Option (List ℕ)) (fault : Option OutFault) (new : Stored) (result : Result (Unit {0}) OutFault) : Type 0 where
-  pub wanting : ℕ → Bool
-  pub may_want : MayWant (objects old) old.max wanting old.history commands
-  pub writes : Writes old (command_turns (objects old) old.max wanting old.history commands) before after fault new result
+  pub memory_refused : ℕ → Bool
+  pub may_refuse_memory : MayRefuseMemory (objects old) old.max memory_refused old.history commands
+  pub writes : Writes old (command_turns (objects old) old.max memory_refused old.history commands) before after fault new result
 
 -- ---- kept states
 
@@ -94,12 +94,12 @@ pub record WritesKept (s : Stored) (before after : Option (List ℕ)) (fault : O
 
 -- ---- a script
 
--- the script's turns are written, where memory may have been wanted at some places. The kept states are those of the store that comes
+-- the script's turns are written, where memory may have been refused at some places. The kept states are those of the store that comes
 -- back: of all objects at `Ok`, else of those to which it came
 pub record RunsScript (old : Stored) (script : Script) (before after : Option (List ℕ)) (fault : Option OutFault) (new : Stored) (result : Result (Unit {0}) OutFault) : Type 0 where
-  pub wanting : ℕ → Bool
-  pub may_want : MayWant (objects old) old.max wanting old.history script.commands
+  pub memory_refused : ℕ → Bool
+  pub may_refuse_memory : MayRefuseMemory (objects old) old.max memory_refused old.history script.commands
   pub kept : List ℕ
   pub are_kept : AreKept new kept
   pub all_kept : OnOk result (length kept ≡ length new.types)
-  pub writes : Writes old (script_turns (objects old) old.max wanting kept old.history script.objects.items script.commands) before after fault new result
+  pub writes : Writes old (script_turns (objects old) old.max memory_refused kept old.history script.objects.items script.commands) before after fault new result

@@ -6,7 +6,7 @@ use Rattle.object_trait.specs.Object.{Object}
 use Rattle.object_trait.specs.declared.event.Event.{Event}
 use Rattle.object_trait.specs.declared.event.EventKind.{EventKind}
 use Rattle.object_trait.specs.declared.event.EventKind.TheVariants.{Abort}
-use Rattle.serial_order.specs.History.{seen, is_open}
+use Rattle.serial_order.specs.History.{summary, is_open}
 use Rattle.serial_order.specs.Replay.{refusal, event_of}
 use Rattle.serial_order.specs.declared.command.Command.{Command}
 use Rattle.serial_order.specs.declared.refusal.Refusal.{Refusal}
@@ -40,7 +40,7 @@ history_after H (turn ∷ turns) = history_after turn.history turns
 abbrev pub by_script : EventKind → Event
 by_script happened = record { worker = 0; kind = happened }
 
--- an event behind a history, and its line
+-- an event after a history, and its line
 abbrev pub event_turn : List Event → EventKind → Turn
 event_turn H happened = record { words = event_words (by_script happened); history = H ++ by_script happened ∷ [] }
 
@@ -53,16 +53,16 @@ abbrev pub accepted_turn : List Event → Option EventKind → Turn
 accepted_turn H (Some happened) = event_turn H happened
 accepted_turn H None = record { words = []; history = H }
 
--- where memory isn't wanted, a command is refused for the first reason that holds, or its event happens
+-- where memory isn't refused, a command is refused for the first reason that holds, or its event happens
 abbrev pub answered_turn : List Event → Option Refusal → Option EventKind → Turn
 answered_turn H (Some r) happened = refused_turn H r
 answered_turn H None happened = accepted_turn H happened
 
--- the turn of a command, at which memory is wanted or isn't
+-- the turn of a command, at which memory is refused or isn't
 abbrev pub command_turn : List Object → ℕ → Bool → List Event → Command → Turn
-command_turn objects most wanting H command =
-    if wanting then refused_turn H NoMemory
-    else answered_turn H (refusal objects most H command) (event_of objects (seen H) command)
+command_turn objects most memory_refused H command =
+    if memory_refused then refused_turn H NoMemory
+    else answered_turn H (refusal objects most H command) (event_of objects (summary H) command)
 
 -- ---- all of them
 
@@ -73,17 +73,17 @@ object_turn H o = record { words = object_words o; history = H }
 abbrev pub object_turns : List Event → List ObjectLine → List Turn
 object_turns H objects = map (object_turn H) objects
 
--- the commands one after another, each from the history of the one before. `wanting` tells the places, counted from these commands'
--- first, at which memory is wanted
+-- the commands one after another, each from the history of the one before. `memory_refused` says the places, counted from these commands'
+-- first, at which memory is refused
 abbrev pub command_turns : List Object → ℕ → (ℕ → Bool) → List Event → List Command → List Turn
-command_turns objects most wanting H [] = []
-command_turns objects most wanting H (command ∷ commands) =
-    let turn = command_turn objects most (wanting 0) H command in
-    turn ∷ command_turns objects most (λ place. wanting (suc place)) turn.history commands
+command_turns objects most memory_refused H [] = []
+command_turns objects most memory_refused H (command ∷ commands) =
+    let turn = command_turn objects most (memory_refused 0) H command in
+    turn ∷ command_turns objects most (λ place. memory_refused (suc place)) turn.history commands
 
 -- the open transactions in ascending order
 abbrev pub open_in : List Event → List ℕ
-open_in H = filter (is_open (seen H)) (range_with_len 0 (seen H).begun)
+open_in H = filter (is_open (summary H)) (range_with_len 0 (summary H).begun)
 
 -- an abort of each of these transactions, one after another
 abbrev pub abort_turns : List Event → List ℕ → List Turn
@@ -106,7 +106,7 @@ abbrev pub kept_turns : List Event → ℕ → List ℕ → List Turn
 kept_turns H x [] = []
 kept_turns H x (state ∷ states) = kept_turn H x state ∷ kept_turns H (suc x) states
 
--- what comes behind the commands: the open transactions are aborted, `end`, and the kept states
+-- what comes after the commands: the open transactions are aborted, `end`, and the kept states
 abbrev pub last_turns : List Event → List ℕ → List Turn
 last_turns H kept =
     let closed = history_after H (closing_turns H) in
@@ -114,6 +114,6 @@ last_turns H kept =
 
 -- a script of these objects and commands, from the history H on
 abbrev pub script_turns : List Object → ℕ → (ℕ → Bool) → List ℕ → List Event → List ObjectLine → List Command → List Turn
-script_turns objects most wanting kept H lines commands =
-    let asked = command_turns objects most wanting H commands in
+script_turns objects most memory_refused kept H lines commands =
+    let asked = command_turns objects most memory_refused H commands in
     object_turns H lines ++ (asked ++ last_turns (history_after H asked) kept)

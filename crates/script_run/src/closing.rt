@@ -1,14 +1,14 @@
 //! The aborts at the end of a running script.
 
 ghost use Rattle.std.specs.Prelude.{◌≡◌, ℕ, ◌<◌, ◌∷◌, [], filter, None};
-ghost use Rattle.serial_order.specs.History.{seen, is_open};
+ghost use Rattle.serial_order.specs.History.{summary, is_open};
 ghost use Rattle.script_run.specs.Turns.{abort_turns, closing_turns};
 ghost use Rattle.script_run.specs.Running.{Writes};
 
 use crate::asking::{known, write_last};
 use object_trait::Recovery;
 use outputs::{Out, OutFault};
-use serial_order::{opens_after, seen_after, transactions_in_run};
+use serial_order::{opens_after, summary_after, transactions_in_run};
 use store::Store;
 
 /// Aborts each open transaction as worker 0, in ascending order, and writes the line of each abort
@@ -24,7 +24,7 @@ pub(crate) fn abort_all<R: Recovery, W: Out>(
     requires { W.fault out.old ≡ None }
     ensures { Writes store.old (closing_turns store.old.history) (W.taken out.old) (W.taken out.new) (W.fault out.new) store.new result }
 {
-    seen_after();
+    summary_after();
     transactions_in_run();
     opens_after();
     for t in 0..store.begun() {
@@ -41,7 +41,7 @@ fn abort_open<R: Recovery, W: Out>(
     out: &mut W,
 ) -> Result<(), OutFault>
     requires { W.fault out.old ≡ None }
-    ensures { Writes store.old (abort_turns store.old.history (filter (is_open (seen store.old.history)) (t ∷ [])))
+    ensures { Writes store.old (abort_turns store.old.history (filter (is_open (summary store.old.history)) (t ∷ [])))
         (W.taken out.old) (W.taken out.new) (W.fault out.new) store.new result }
 {
     known(store);

@@ -5,7 +5,7 @@ ghost use Rattle.script_run.specs.Laws.{AllReplayed, EachReplayed, AllAborted, E
 
 use history_text::{canonical_is_read, comments_tell_nothing};
 use serial_order::{
-    command_appends, numbers_in_run, opens_after, run_goes_on, seen_after, transactions_in_run,
+    command_appends, numbers_in_run, opens_after, run_goes_on, summary_after, transactions_in_run,
 };
 
 /// The turns of the commands have the histories that `serial_order` defines: after all of them the
@@ -15,19 +15,19 @@ pub fn commands_replay()
     ensures each { EachReplayed }
 {}
 
-/// The turns behind the commands append an abort of each open transaction, in ascending order, one at
+/// The turns after the commands append an abort of each open transaction, in ascending order, one at
 /// each turn.
 pub fn closing_aborts()
     ensures all { AllAborted }
     ensures each { EachAborted }
 {}
 
-/// After the turns behind the commands no transaction is open.
+/// When the turns after the commands are done, no transaction is open.
 pub fn closing_ends()
     ensures { NoneStaysOpen }
 {
     run_goes_on();
-    seen_after();
+    summary_after();
     transactions_in_run();
     opens_after();
 }
@@ -40,7 +40,7 @@ pub fn text_tells_history()
     command_appends();
 }
 
-/// The lines of a script are read as its history, with comments between them and behind them.
+/// The lines of a script are read as its history, with comments between them and after them.
 pub fn script_is_read()
     ensures { ScriptIsRead }
 {

@@ -4,15 +4,15 @@
 ghost use Rattle.std.specs.Prelude.{◌≡◌, [], ◌∷◌, codes};
 ghost use Rattle.script_run.specs.Examples.{counter_text, nowhere, at_place, ended};
 
-/// A refused command is a comment, and a transaction that stays open is aborted behind the commands.
+/// A refused command is a comment, and a transaction that stays open is aborted after the commands.
 pub fn an_abort_keeps_others()
     ensures { counter_text 20 nowhere 1 ≡ ended
         (codes "object undo 0" ∷ codes "begin 0 0" ∷ codes "begin 0 1" ∷ codes "op 0 0 0 0" ∷ codes "op 0 1 0 0" ∷ codes "abort 0 0"
         ∷ codes "# refused 1 NotOpen" ∷ codes "commit 0 1" ∷ codes "begin 0 2" ∷ codes "abort 0 2" ∷ codes "end" ∷ codes "# kept 0 1" ∷ []) }
 {}
 
-/// Where memory is wanted, the command is refused, and what comes behind it goes on without it.
-pub fn memory_is_wanted_at_a_place()
+/// Where memory is refused, the command is refused, and what comes after it goes on without it.
+pub fn memory_is_refused_at_a_place()
     ensures { counter_text 20 (at_place 1) 0 ≡ ended
         (codes "object undo 0" ∷ codes "begin 0 0" ∷ codes "# refused 6 NoMemory" ∷ codes "op 0 0 0 0" ∷ codes "# refused 1 NotOpen" ∷ codes "abort 0 0"
         ∷ codes "# refused 1 NotOpen" ∷ codes "# refused 1 NotOpen" ∷ codes "begin 0 1" ∷ codes "abort 0 1" ∷ codes "end" ∷ codes "# kept 0 0" ∷ []) }

@@ -1,4 +1,4 @@
--- What is kept of commands says them, whatever names come behind.
+-- What is kept of commands says them, whatever names come after.
 use Rattle.std.proofs.Common.{◌≡◌, ℕ, List, [], ◌∷◌, ◌++◌, length, map, Some, refl, sym, ap, ◌∙◌, arith}
 use Rattle.std.specs.Prelude.{slice_get}
 use Rattle.std.specs.List.{AllByRecursion}
@@ -50,7 +50,7 @@ module _ {old new : List (List ℕ)} {command : Command} {k : KeptCommand} (keep
   pub named_before : AllByRecursion (HasName (length new)) ks
   named_before = rw keeps.names (all_named_beside old keeps.more ks known)
 
-  -- and it is behind them
+  -- and it is after them
   pub is_behind : map (said_by new) (ks ++ k ∷ []) ≡ map (said_by old) ks ++ command ∷ []
   is_behind = map-append (said_by new) ks (k ∷ []) ∙ rw (as_before, keeps.says) refl
 

@@ -13,12 +13,12 @@ said_by names (kept.Commit t) = Commit t
 said_by names (kept.Abort t) = Abort t
 said_by names (kept.Rollback t n) = Rollback t n
 
--- its name is one of so many
+-- its name is one of this many
 abbrev pub HasName : ℕ → KeptCommand → Type 0
 HasName count (kept.Call t x name) = name < count
 HasName count _ = Unit {0}
 
--- a command is kept so, for which a name may have come behind the others
+-- a command is kept so, for which a name may have come after the others
 pub record Keeps (old new : List (List ℕ)) (command : Command) (k : KeptCommand) : Type 0 where
   pub more : List (List ℕ)
   pub names : new ≡ old ++ more

@@ -75,7 +75,7 @@ impl CommandList {
         }
     }
 
-    /// Puts a command behind the others.
+    /// Puts a command after the others.
     ///
     /// # Errors
     ///
@@ -90,7 +90,7 @@ impl CommandList {
         Ok(())
     }
 
-    /// Puts a command behind the others, where there is room for it without more memory.
+    /// Puts a command after the others, where there is room for it without more memory.
     #[inline]
     pub(crate) fn put(&mut self, command: Command) -> Option<()>
         ensures { MatchOption result (self.new ≡ self.old) (λ _. self.new ≡ self.old ++ command ∷ []) }

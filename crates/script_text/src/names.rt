@@ -61,7 +61,7 @@ impl Names {
         if name == bytes { Some(place) } else { None }
     }
 
-    /// What is kept of a command. A name that isn't found is put behind the others.
+    /// What is kept of a command. A name that isn't found is put after the others.
     ///
     /// # Errors
     ///
@@ -85,13 +85,13 @@ impl Names {
         }
     }
 
-    /// Puts a name behind the others, and gives its place.
+    /// Puts a name after the others, and gives its place.
     fn add(&mut self, name: Name) -> Result<u32, AllocError>
         ensures { MatchResult result
             (λ place. (place ≡ length self.old) × (self.new ≡ self.old ++ name ∷ []))
             (λ _. self.new ≡ self.old) }
     {
-        // more names have no number, and no memory has so many
+        // more names have no number, and no memory has room for them
         let Ok(place) = u32::try_from(self.names.len()) else {
             return Err(AllocError);
         };

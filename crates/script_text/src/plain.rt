@@ -11,7 +11,7 @@ use line_text::{bytes_before, names_are_words, number_before};
 use serial_order::Command;
 
 /// Keeps the command of a text's first line, where that is a plain one and there is room for it, and gives
-/// what is behind it.
+/// what comes after it.
 #[inline]
 pub fn keep_plain<'a>(kept: &mut CommandList, text: &'a [u8]) -> Option<&'a [u8]>
     ensures { MatchOption result

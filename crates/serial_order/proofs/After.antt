@@ -9,16 +9,16 @@ use Rattle.object_trait.specs.declared.event.EventKind.{EventKind}
 use Rattle.object_trait.specs.declared.event.EventKind.TheVariants as kind
 use Rattle.object_trait.specs.declared.event.EventKind.TheVariants.{Begin, Op, Busy, Commit, Abort, Rollback}
 use Rattle.serial_order.specs.Operations.{is_among}
-use Rattle.serial_order.specs.History.{Seen, is_open, MayStand}
+use Rattle.serial_order.specs.History.{Summary, is_open, ContinuesHistory}
 use Rattle.serial_order.specs.Machine.{May}
-use Rattle.serial_order.specs.After.{after, SeenAfter, AreInRun, TransactionsInRun, is_open_after, HistoryOpensAfter}
-use Rattle.serial_order.proofs.Events.{seen_after, seen-snoc}
+use Rattle.serial_order.specs.After.{summary_next, SummaryAfter, AreInRun, TransactionsInRun, is_open_after, HistoryOpensAfter}
+use Rattle.serial_order.proofs.Events.{summary_after, summary-snoc}
 use Rattle.serial_order.proofs.Lists.{is_among-snoc}
-use Rattle.serial_order.proofs.MayStand.{may_stand}
+use Rattle.serial_order.proofs.ContinuesHistory.{continues_history}
 use Rattle.serial_order.proofs.Runs.{after_event, transactions_in_run}
 
--- what is seen after an event is told by its kind
-of_kind : (s : Seen) (happened : EventKind) → seen_after s happened ≡ after s happened
+-- the kind of an event says what is seen after it
+of_kind : (s : Summary) (happened : EventKind) → summary_after s happened ≡ summary_next s happened
 of_kind s (Begin t) = rw (append-nil s.committed, append-nil s.aborted) refl
 of_kind s (Op t x k) = rw (append-nil s.committed, append-nil s.aborted) refl
 of_kind s (Busy c t x u) = rw (append-nil s.committed, append-nil s.aborted) refl
@@ -27,8 +27,8 @@ of_kind s (Commit t) = rw (append-nil s.aborted) refl
 of_kind s (Abort t) = rw (append-nil s.committed) refl
 of_kind s (Rollback t n) = rw (append-nil s.committed, append-nil s.aborted) refl
 
-pub seen_after_one : SeenAfter
-seen_after_one = λ H e. seen-snoc H e ∙ of_kind _ e.kind
+pub seen_after_one : SummaryAfter
+seen_after_one = λ H e. summary-snoc H e ∙ of_kind _ e.kind
 
 pub are_in_run : TransactionsInRun
 are_in_run = transactions_in_run
@@ -44,7 +44,7 @@ fresh_among ts n less =
     ]
 
 -- a begin
-open-begin : (s : Seen) (u : ℕ) → AreInRun s → is_open (record s { begun = suc s.begun }) u ≡ (u == s.begun || is_open s u)
+open-begin : (s : Summary) (u : ℕ) → AreInRun s → is_open (record s { begun = suc s.begun }) u ≡ (u == s.begun || is_open s u)
 open-begin s u known =
     elim (cases_Bool (u == s.begun)) [
       | inl is ↦
@@ -78,28 +78,28 @@ pick-second false b c true = refl
 pick-second false b c false = refl
 
 -- a commit
-open-commit : (s : Seen) (t u : ℕ) → is_open (record s { committed = s.committed ++ t ∷ [] }) u ≡ (not (u == t) && is_open s u)
+open-commit : (s : Summary) (t u : ℕ) → is_open (record s { committed = s.committed ++ t ∷ [] }) u ≡ (not (u == t) && is_open s u)
 open-commit s t u =
     rw (is_among-snoc s.committed t u, eqb-sym t u) (pick-first (nat_lt u s.begun) (is_among s.committed u) (is_among s.aborted u) (u == t))
 
 -- an abort
-open-abort : (s : Seen) (t u : ℕ) → is_open (after s (Abort t)) u ≡ (not (u == t) && is_open s u)
+open-abort : (s : Summary) (t u : ℕ) → is_open (summary_next s (Abort t)) u ≡ (not (u == t) && is_open s u)
 open-abort s t u =
     rw (is_among-snoc s.aborted t u, eqb-sym t u) (pick-second (nat_lt u s.begun) (is_among s.committed u) (is_among s.aborted u) (u == t))
 
--- any event that may stand
-open-stands : (tables : List Table) (s : Seen) (happened : EventKind) → AreInRun s → MayStand tables s happened → (u : ℕ) → is_open (after s happened) u ≡ is_open_after s happened u
-open-stands tables s (Begin t) known may u = rw may (open-begin s u known)
-open-stands tables s (Op t x k) known may u = refl
-open-stands tables s (Busy c t x v) known may u = refl
-open-stands tables s (kind.None t x c) known may u = refl
-open-stands tables s (Commit t) known may u = open-commit s t u
-open-stands tables s (Abort t) known may u = open-abort s t u
-open-stands tables s (Rollback t n) known may u = refl
+-- any event that continues the history
+open-continues : (tables : List Table) (s : Summary) (happened : EventKind) → AreInRun s → ContinuesHistory tables s happened → (u : ℕ) → is_open (summary_next s happened) u ≡ is_open_after s happened u
+open-continues tables s (Begin t) known may u = rw may (open-begin s u known)
+open-continues tables s (Op t x k) known may u = refl
+open-continues tables s (Busy c t x v) known may u = refl
+open-continues tables s (kind.None t x c) known may u = refl
+open-continues tables s (Commit t) known may u = open-commit s t u
+open-continues tables s (Abort t) known may u = open-abort s t u
+open-continues tables s (Rollback t n) known may u = refl
 
 -- any event that the machine allows
-pub open-after : (objects : List Object) (s : Seen) (happened : EventKind) → AreInRun s → May objects s happened → (u : ℕ) → is_open (after s happened) u ≡ is_open_after s happened u
-open-after objects s happened known may = open-stands (map (λ (o : Object). o.table) objects) s happened known (may_stand objects s happened may)
+pub open-after : (objects : List Object) (s : Summary) (happened : EventKind) → AreInRun s → May objects s happened → (u : ℕ) → is_open (summary_next s happened) u ≡ is_open_after s happened u
+open-after objects s happened known may = open-continues (map (λ (o : Object). o.table) objects) s happened known (continues_history objects s happened may)
 
 pub history_opens_after : HistoryOpensAfter
-history_opens_after = λ tables s happened known may. (rw (sym (of_kind s happened)) (after_event tables s happened may known), open-stands tables s happened known may)
+history_opens_after = λ tables s happened known may. (rw (sym (of_kind s happened)) (after_event tables s happened may known), open-continues tables s happened known may)

@@ -6,11 +6,11 @@ use Rattle.std.proofs.lemmas.Bool.{cases_eq, false≢true, true≢false, and_par
 use Rattle.object_trait.specs.Object.{Object}
 use Rattle.type_table.specs.Table.{is_same_call}
 use Rattle.serial_order.specs.Operations.{at_object}
-use Rattle.serial_order.specs.History.{Seen, seen, is_open}
+use Rattle.serial_order.specs.History.{Summary, summary, is_open}
 use Rattle.serial_order.specs.View.{is_legal_for, conflicts_with, is_of_call}
 use Rattle.serial_order.specs.Machine.{IsFirstOfCall, IsBlocked, IsFirstLegal, MayDo, MayBeBusy, May}
 use Rattle.type_table.specs.Least.{found_or, first_below}
-use Rattle.serial_order.specs.Answer.{earliest, blocker, is_reply, is_free_reply, busy_with, refused, answered, event_of_call}
+use Rattle.serial_order.specs.Answer.{earliest, blocker, is_reply, is_free_reply, busy_with, refused, event_of_first, event_of_call}
 use Rattle.serial_order.specs.Laws.{AnswerMayFollow}
 use Rattle.serial_order.specs.declared.entry.Entry.{Entry}
 
@@ -61,18 +61,18 @@ earliest-found test (e ∷ V) = found_with test e V (test e) (earliest test V) r
 
 -- ---- answers
 
-module _ (o : Object) (s : Seen) (x t c : ℕ) where
+module _ (o : Object) (s : Summary) (x t c : ℕ) where
   -- the operation conflicts with none at x
   abbrev IsUnblocked : ℕ → Type 0
-  IsUnblocked k = AllByRecursion (λ e. conflicts_with o s x t k e ≡ false) (at_object x s.stands)
+  IsUnblocked k = AllByRecursion (λ e. conflicts_with o s x t k e ≡ false) (at_object x s.survives)
 
   -- what was found as the blocker of k
   abbrev BlockerIs : ℕ → Option Entry → Type 0
-  BlockerIs k found = MatchOption found (IsUnblocked k) (IsFound (conflicts_with o s x t k) (at_object x s.stands))
+  BlockerIs k found = MatchOption found (IsUnblocked k) (IsFound (conflicts_with o s x t k) (at_object x s.survives))
 
   -- the blocker of an operation blocks it, and where there is none, it conflicts with none
   blocker_found : (k : ℕ) → BlockerIs k (blocker o s x t k)
-  blocker_found k = earliest-found (conflicts_with o s x t k) (at_object x s.stands)
+  blocker_found k = earliest-found (conflicts_with o s x t k) (at_object x s.survives)
 
   -- no blocker
   unblocked : (k : ℕ) (found : Option Entry) → BlockerIs k found → is_some found ≡ false → IsUnblocked k
@@ -121,14 +121,14 @@ module _ (o : Object) (s : Seen) (x t c : ℕ) where
 
   -- with a blocker of the first legal operation, the call may be busy
   busy : IsFirstOfCall o c → NoneBelow (is_free_reply o s x t c) (length o.table.ops) → (k : ℕ) → IsFirstBelow (is_reply o s x t c) (length o.table.ops) k →
-      (held : Entry) → IsFound (conflicts_with o s x t k) (at_object x s.stands) held → MayBeBusy (Some o) s x t c held.by
+      (held : Entry) → IsFound (conflicts_with o s x t k) (at_object x s.survives) held → MayBeBusy (Some o) s x t c held.by
   busy least none k found held conflicting = record {
     least = least;
     all_blocked = λ j of_call legal. blocked j (blocker o s x t j) (blocker_found j) (none_free none j (and_from (is_of_call o c j) (is_legal_for o s x t j) of_call legal));
     k = k;
     first = first_legal k found;
     held = held;
-    stands = conflicting.contained;
+    survives = conflicting.contained;
     conflicts = conflicting.passes;
     holder = refl;
   }
@@ -150,7 +150,7 @@ module _ (o : Object) (s : Seen) (x t c : ℕ) where
     -- the answer to a call
     answered_follows : (found : Option ℕ) →
         MatchOption found (NoneBelow (is_free_reply o s x t c) (length o.table.ops)) (IsFirstBelow (is_free_reply o s x t c) (length o.table.ops)) →
-        May objects s (answered o s x t c found)
+        May objects s (event_of_first o s x t c found)
     answered_follows (Some k) free = (is_there, rw there (free_may_do k free.passes))
     answered_follows None none = refused_follows none (first_below (length o.table.ops) (is_reply o s x t c)) (first_below-least (is_reply o s x t c) (length o.table.ops))
 
@@ -160,4 +160,4 @@ module _ (o : Object) (s : Seen) (x t c : ℕ) where
 
 -- the answer of a call is one that the machine allows
 pub answer_may_follow : AnswerMayFollow
-answer_may_follow = λ objects H x o w t c there is_there least. event_follows o (seen H) x t c objects there is_there least
+answer_may_follow = λ objects H x o w t c there is_there least. event_follows o (summary H) x t c objects there is_there least

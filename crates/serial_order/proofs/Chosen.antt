@@ -13,7 +13,7 @@ pub record IsFrom {E : Type 0} (op : E → ℕ) (test : E → Bool) (V : List E)
 from_more : {E : Type 0} (op : E → ℕ) (test : E → Bool) (e : E) (V : List E) (p : ℕ) → IsFrom op test V p → IsFrom op test (e ∷ V) p
 from_more op test e V p h = record { element = h.element; inside = (suc h.inside.0, omega (arith, h.inside.1), h.inside.2); passes = h.passes; is = h.is }
 
--- a number of a chosen element, or of those behind it, comes from one of these
+-- a number of a chosen element, or of those after it, comes from one of these
 from_head : {E : Type 0} (op : E → ℕ) (test : E → Bool) (e : E) (V : List E) (p : ℕ) → (Contains (map op (filter test V)) p → IsFrom op test V p) →
     test e ≡ true → Contains (op e ∷ map op (filter test V)) p → IsFrom op test (e ∷ V) p
 from_head op test e V p behind chosen (zero, below, is) = record { element = e; inside = (0, omega arith, refl); passes = chosen; is = is }

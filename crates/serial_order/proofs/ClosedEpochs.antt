@@ -12,7 +12,7 @@ use Rattle.object_trait.specs.Laws.{CheckedIsCovered}
 use Rattle.object_trait.specs.Meaning.{Meaning, object, ops_of, state_by}
 use Rattle.object_trait.specs.Sound.{IsSoundBy}
 use Rattle.object_trait.specs.declared.log_entry.LogEntry.{LogEntry}
-use Rattle.serial_order.specs.Stand.{KeptAgreesBy}
+use Rattle.serial_order.specs.Represent.{KeptAgreesBy}
 use Rattle.serial_order.specs.Laws.{CheckedHeadline}
 use Rattle.serial_order.specs.Epochs.{IsKeptAt, ClosedIsEpoch, StatesAreInside}
 use Rattle.serial_order.proofs.Idle.{none-idle}

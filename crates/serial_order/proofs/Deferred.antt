@@ -8,7 +8,7 @@ use Rattle.type_table.specs.declared.table_kind.TableKind.TheVariants.{Intention
 use Rattle.type_table.specs.declared.kind.Kind.TheVariants as way
 use Rattle.type_table.specs.Lists.{ListsForward}
 use Rattle.type_table.proofs.Elements.{eqb-sym}
-use Rattle.type_table.proofs.Legal.{legal-front, forward-turned}
+use Rattle.type_table.proofs.Legal.{legal-front, legal-behind, legal-after, forward-turned}
 use Rattle.object_trait.specs.Object.{Object, IsCovered}
 use Rattle.object_trait.specs.Orders.{Pairs}
 use Rattle.object_trait.specs.Strike.{keep_first}
@@ -21,7 +21,6 @@ use Rattle.serial_order.proofs.Facts.{IsHeldFree, IsLegalAt, held_free-commit, D
 use Rattle.serial_order.proofs.Lists.{is_one-apart, is_among-neither, ops-append, serial-snoc, serial-apart, of-apart, of-more, serial-strike}
 use Rattle.serial_order.proofs.Pairs.{pairs-at}
 use Rattle.serial_order.proofs.Chosen.{from_chosen}
-use Rattle.serial_order.proofs.Legal.{legal-behind, legal-after}
 
 -- ---- views
 
@@ -58,11 +57,11 @@ deferred_op = λ o C V e covered kind fresh legal facts. record {
 -- ---- a strike
 
 -- what the transaction that is struck sees is a front of what it saw, and legal
-struck_view : RunsAlong → (o : Object) (C : List ℕ) (V : List Entry) (t n : ℕ) → is_among C t ≡ false →
+struck_view : (o : Object) (C : List ℕ) (V : List Entry) (t n : ℕ) → is_among C t ≡ false →
     IsLegalAt o (ops (serial C V ++ of t V)) → IsLegalAt o (ops (serial C (keep_first (is_by t) n V) ++ of t (keep_first (is_by t) n V)))
-struck_view along o C V t n uncommitted legal =
+struck_view o C V t n uncommitted legal =
     rw (serial-strike C t n V uncommitted, keep_first-mine (is_by t) n V)
-    (legal-front along o.table (Some o.table.initial) (ops (serial C V ++ take n (of t V))) (ops (drop n (of t V))) (rw (ops-front (serial C V) (of t V) n) at legal))
+    (legal-front o.table (Some o.table.initial) (ops (serial C V ++ take n (of t V))) (ops (drop n (of t V))) (rw (ops-front (serial C V) (of t V) n) at legal))
 
 -- what another sees is what it saw
 other_view : (o : Object) (C : List ℕ) (V : List Entry) (t u n : ℕ) → is_among C t ≡ false → (t == u) ≡ false →
@@ -71,12 +70,12 @@ other_view o C V t u n uncommitted apart legal =
     rw (serial-strike C t n V uncommitted, keep_first-others (is_by u) (is_by t) n V (λ e mine. is_one-apart e.by t u apart mine)) legal
 
 -- by a strike
-pub deferred_strike : RunsAlong → DeferredStrike
-deferred_strike along = λ o C V t n covered kind uncommitted facts. record {
+pub deferred_strike : DeferredStrike
+deferred_strike = λ o C V t n covered kind uncommitted facts. record {
   locked = pairs-keep_first (IsHeldFree o C) (is_by t) n V facts.locked;
   serial_legal = rw (serial-strike C t n V uncommitted) facts.serial_legal;
   views_legal = λ u pending. elim (cases_Bool (t == u)) [
-    | inl same ↦ rw (sym (eqb-true t u same)) (struck_view along o C V t n uncommitted (facts.views_legal t uncommitted))
+    | inl same ↦ rw (sym (eqb-true t u same)) (struck_view o C V t n uncommitted (facts.views_legal t uncommitted))
     | inr apart ↦ other_view o C V t u n uncommitted apart (facts.views_legal u pending)
   ];
 }

@@ -1,7 +1,7 @@
 -- Epochs are serial, one after another.
-use Rattle.std.proofs.Common.{◌≡◌, ℕ, zero, suc, List, [], ◌∷◌, ◌++◌, map, Option, Some, slice_get, refl, sym, ap, subst, ◌∙◌}
+use Rattle.std.proofs.Common.{◌≡◌, ℕ, List, [], ◌∷◌, ◌++◌, map, Option, Some, slice_get, refl, sym, ap, subst, ◌∙◌}
 use Rattle.std.specs.Option.{option_map}
-use Rattle.std.proofs.lemmas.Option.{none-some, same_Some, slice_get-map}
+use Rattle.std.proofs.lemmas.Option.{same_Some, slice_get-map}
 use Rattle.type_table.specs.Table.{Table, table_at}
 use Rattle.type_table.specs.Run.{run, IsLegal, Looks, AreEqui}
 use Rattle.type_table.specs.Laws.{RunsAlike, RunsAlong, LooksExtends, EquiExtends, IsExtended}
@@ -15,28 +15,13 @@ use Rattle.object_trait.specs.declared.event.Event.{Event}
 use Rattle.serial_order.specs.Operations.{ops}
 use Rattle.serial_order.specs.Machine.{IsRun}
 use Rattle.serial_order.specs.Serial.{serial_at, serial_state}
-use Rattle.serial_order.specs.Stand.{KeptAgreesBy}
+use Rattle.serial_order.specs.Represent.{KeptAgreesBy}
 use Rattle.serial_order.specs.Laws.{AreChecked, CheckedHeadline}
 use Rattle.serial_order.specs.Epochs.{Epoch, types_at, IsKeptAt, IsEpoch, AreEpochs, types_after, serial_over, EpochsAreSerial, EpochsGoOn}
+use Rattle.serial_order.proofs.EpochTypes.{is-at}
 use Rattle.serial_order.proofs.EpochStarts.{legal-from, looks-from, looks-to, equi-from, equi-to}
 
 -- ---- types at kept states
-
--- a type at a kept state is that of a type and a kept state
-pub record IsAt (types : List Checked) (kept : List ℕ) (x : ℕ) (d : Checked) : Type 0 where
-  pub c : Checked
-  pub s : ℕ
-  pub type : slice_get types x ≡ Some c
-  pub state : slice_get kept x ≡ Some s
-  pub is : checked_at c s ≡ d
-
-is-at : (types : List Checked) (kept : List ℕ) (x : ℕ) (d : Checked) → slice_get (types_at types kept) x ≡ Some d → IsAt types kept x d
-is-at [] kept x d there = absurd (none-some d there)
-is-at (c ∷ types) [] x d there = absurd (none-some d there)
-is-at (c ∷ types) (s ∷ kept) zero d there = record { c = c; s = s; type = refl; state = refl; is = same_Some (checked_at c s) d there }
-is-at (c ∷ types) (s ∷ kept) (suc x) d there =
-    let rest = is-at types kept x d there in
-    record { c = rest.c; s = rest.s; type = rest.type; state = rest.state; is = rest.is }
 
 -- they are checked
 at-checked : AtIsChecked → (types : List Checked) (e : Epoch) → AreChecked types → IsEpoch types e → AreChecked (types_at types e.kept)

@@ -1,5 +1,5 @@
 -- Escrow: the serial state, and that what each open transaction did is legal whatever the others do; and that both stay so.
-use Rattle.std.proofs.Common.{◌≡◌, ℕ, suc, ◌+◌, ◌<◌, ◌≤◌, true, false, not, ◌==◌, List, [], ◌∷◌, ◌++◌, take, drop, filter, ◌⊎◌, Some, IsSome, refl, sym, ap, ◌∙◌, inl, inr, arith, append-nil, append_assoc}
+use Rattle.std.proofs.Common.{◌≡◌, ℕ, ◌+◌, ◌<◌, ◌≤◌, true, false, not, ◌==◌, List, [], ◌∷◌, ◌++◌, take, drop, filter, ◌⊎◌, Some, refl, sym, ap, ◌∙◌, inl, inr, arith, append-nil, append_assoc}
 use Rattle.std.specs.Prelude.{unwrap_or}
 use Rattle.std.specs.List.{AllByRecursion}
 use Rattle.std.proofs.lemmas.Bool.{cases_Bool, eqb-true, eq-eqb, ne_eqb}
@@ -7,6 +7,7 @@ use Rattle.std.proofs.lemmas.List.{take-append-drop}
 use Rattle.type_table.specs.Run.{run, IsLegal}
 use Rattle.type_table.specs.Laws.{RunsAlong, LegalEnds}
 use Rattle.type_table.proofs.Elements.{eqb-sym}
+use Rattle.type_table.proofs.Legal.{legal-behind}
 use Rattle.escrow_laws.specs.Amounts.{IsNumeric}
 use Rattle.table_checker.specs.Laws.{CoversNumbers}
 use Rattle.escrow_laws.specs.Firm.{IsFirm, with_op, keeps}
@@ -15,12 +16,12 @@ use Rattle.type_table.specs.declared.kind.Kind.TheVariants.{Escrow}
 use Rattle.object_trait.specs.Object.{Object, IsCovered}
 use Rattle.object_trait.specs.Strike.{keep_first}
 use Rattle.serial_order.specs.Operations.{is_among, is_by, ops, of, serial, pending}
-use Rattle.serial_order.specs.View.{above_at, own_at, number_at, stops_at}
+use Rattle.serial_order.specs.View.{above_at, own_at, number_at}
 use Rattle.serial_order.specs.declared.entry.Entry.{Entry}
 use Rattle.serial_order.proofs.Strikes.{keep_first-others, keep_first-mine}
 use Rattle.serial_order.proofs.Facts.{IsLegalAt, IsAdmitted}
 use Rattle.serial_order.proofs.Lists.{is_one-apart, ops-append, serial-snoc, pending-snoc, serial-apart, pending-more, of-apart, of-more, of-pending, serial-strike, pending-strike}
-use Rattle.serial_order.proofs.Legal.{legal-behind, run-append}
+use Rattle.serial_order.proofs.Legal.{run-append}
 
 -- escrow
 pub record EscrowFacts (o : Object) (C : List ℕ) (V : List Entry) : Type 0 where

@@ -5,7 +5,7 @@ use Rattle.std.proofs.lemmas.List.Elements.{filter-append}
 use Rattle.std.proofs.lemmas.List.Sums.{fold-append}
 use Rattle.object_trait.specs.declared.event.Event.{Event}
 use Rattle.object_trait.specs.declared.event.EventKind.{EventKind}
-use Rattle.serial_order.specs.History.{is_begin, committed_by, aborted_by, stand_after, begins, commits, aborts, standing, Seen, seen}
+use Rattle.serial_order.specs.History.{is_begin, committed_by, aborted_by, survive_after, begins, commits, aborts, surviving, Summary, summary}
 
 -- how many transactions began after one more event
 abbrev pub begun_after : ℕ → Bool → ℕ
@@ -13,12 +13,12 @@ begun_after n true = suc n
 begun_after n false = n
 
 -- what a history says after one more event
-abbrev pub seen_after : Seen → EventKind → Seen
-seen_after s happened = record {
+abbrev pub summary_after : Summary → EventKind → Summary
+summary_after s happened = record {
   begun = begun_after s.begun (is_begin happened);
   committed = s.committed ++ committed_by happened;
   aborted = s.aborted ++ aborted_by happened;
-  stands = stand_after s.stands happened;
+  survives = survive_after s.survives happened;
 }
 
 -- a begin is one more begin
@@ -40,10 +40,10 @@ commits-snoc H e = flat_map-append (λ (f : Event). committed_by f.kind) H (e �
 pub aborts-snoc : (H : List Event) (e : Event) → aborts (H ++ e ∷ []) ≡ aborts H ++ aborted_by e.kind
 aborts-snoc H e = flat_map-append (λ (f : Event). aborted_by f.kind) H (e ∷ []) ∙ ap (λ rest. aborts H ++ rest) (append-nil (aborted_by e.kind))
 
--- what stands is what stood, after the event
-pub standing-snoc : (H : List Event) (e : Event) → standing (H ++ e ∷ []) ≡ stand_after (standing H) e.kind
-standing-snoc H e = fold-append (λ V (f : Event). stand_after V f.kind) [] H (e ∷ [])
+-- what survives is what survived, after the event
+pub surviving-snoc : (H : List Event) (e : Event) → surviving (H ++ e ∷ []) ≡ survive_after (surviving H) e.kind
+surviving-snoc H e = fold-append (λ V (f : Event). survive_after V f.kind) [] H (e ∷ [])
 
 -- what a history says after one more event is what it said before, after the event
-pub seen-snoc : (H : List Event) (e : Event) → seen (H ++ e ∷ []) ≡ seen_after (seen H) e.kind
-seen-snoc H e = rw (begins-snoc H e, commits-snoc H e, aborts-snoc H e, standing-snoc H e) refl
+pub summary-snoc : (H : List Event) (e : Event) → summary (H ++ e ∷ []) ≡ summary_after (summary H) e.kind
+summary-snoc H e = rw (begins-snoc H e, commits-snoc H e, aborts-snoc H e, surviving-snoc H e) refl

@@ -1,4 +1,4 @@
--- What is so at one object, where C committed and V stands, and the three moves of C and V: an operation, a strike, a commit.
+-- What is so at one object, where C committed and V survives, and the three moves of C and V: an operation, a strike, a commit.
 use Rattle.std.proofs.Common.{◌≡◌, ℕ, false, ◌==◌, List, [], ◌∷◌, ◌++◌, Some}
 use Rattle.std.specs.List.{AllByRecursion}
 use Rattle.type_table.specs.Run.{IsLegal}

@@ -1,25 +1,15 @@
--- Runs from a state: what is legal behind a list, and what stays so of their ends.
-use Rattle.std.proofs.Common.{◌≡◌, ℕ, List, ◌++◌, Option, Some, ap, ◌∙◌}
+-- Runs along two lists, and what stays so of their ends.
+use Rattle.std.proofs.Common.{◌≡◌, ℕ, List, ◌++◌, Option, ap, ◌∙◌}
 use Rattle.type_table.specs.Table.{Table}
-use Rattle.type_table.specs.Run.{run, IsLegal, Looks, AreEqui}
+use Rattle.type_table.specs.Run.{run, Looks, AreEqui}
 use Rattle.type_table.specs.Laws.{RunsAlong}
 use Rattle.serial_order.specs.Operations.{ops}
 use Rattle.serial_order.specs.declared.entry.Entry.{Entry}
 use Rattle.serial_order.proofs.Lists.{ops-append}
 
--- ---- what is legal
-
--- what is legal behind a list is legal from the state after it
-pub legal-behind : RunsAlong → (T : Table) (from : Option ℕ) (v w : List ℕ) (s : ℕ) → run T from v ≡ Some s → IsLegal T from (v ++ w) → IsLegal T (Some s) w
-legal-behind along T from v w s reached legal = rw (along T from v w, reached) at legal
-
--- and the converse
-pub legal-after : RunsAlong → (T : Table) (from : Option ℕ) (v w : List ℕ) (s : ℕ) → run T from v ≡ Some s → IsLegal T (Some s) w → IsLegal T from (v ++ w)
-legal-after along T from v w s reached legal = rw (along T from v w, reached) legal
-
 -- ---- two lists
 
--- a run along two lists of operations that stand
+-- a run along two lists of operations that survive
 pub run-append : RunsAlong → (T : Table) (from : Option ℕ) (V W : List Entry) → run T from (ops (V ++ W)) ≡ run T (run T from (ops V)) (ops W)
 run-append along T from V W = ap (run T from) (ops-append V W) ∙ along T from (ops V) (ops W)
 

@@ -9,14 +9,14 @@ use Rattle.object_trait.specs.declared.event.EventKind.{EventKind}
 use Rattle.object_trait.specs.declared.event.EventKind.TheVariants as kind
 use Rattle.object_trait.specs.declared.event.EventKind.TheVariants.{Begin, Op, Busy, Commit, Abort, Rollback}
 use Rattle.serial_order.specs.Operations.{is_by}
-use Rattle.serial_order.specs.History.{Seen, seen, is_begin, standing}
+use Rattle.serial_order.specs.History.{Summary, summary, is_begin, surviving}
 use Rattle.serial_order.specs.Machine.{May, MayDo, MayBeBusy, MayHaveNone, IsRun, MayFollow}
 use Rattle.serial_order.specs.After.{AreInRun, AreBelow, NumbersInRun}
 use Rattle.serial_order.specs.declared.entry.Entry.{Entry}
-use Rattle.serial_order.proofs.Events.{begun_after, begins-snoc, standing-snoc}
+use Rattle.serial_order.proofs.Events.{begun_after, begins-snoc, surviving-snoc}
 use Rattle.serial_order.proofs.Pairs.{each-at}
 use Rattle.serial_order.proofs.Runs.{in_run, of_open, transactions_in_run}
-use Rattle.serial_order.proofs.StandCounts.{after-length}
+use Rattle.serial_order.proofs.Living.{after-length}
 
 -- bounds may be raised
 below-more : (objects ops n : ℕ) (happened : EventKind) → AreBelow objects ops n happened → AreBelow objects ops (n + 1) happened
@@ -33,26 +33,26 @@ module _ (objects : List Object) (ops : ℕ) (few : (x : ℕ) (o : Object) → s
   Below n happened = AreBelow (length objects) ops n happened
 
   -- what is asked of an object's operation is asked of one that is there
-  op-below : (s : Seen) (x t k : ℕ) (o : Option Object) → slice_get objects x ≡ o → MayDo o s x t k → (x < length objects) × (k < ops)
+  op-below : (s : Summary) (x t k : ℕ) (o : Option Object) → slice_get objects x ≡ o → MayDo o s x t k → (x < length objects) × (k < ops)
   op-below s x t k None at may = absurd may
   op-below s x t k (Some o) at may = let most = few x o at in (slice_get_within objects x o at, omega (arith, most, may.0))
 
-  none-below : (s : Seen) (x t c : ℕ) (o : Option Object) → slice_get objects x ≡ o → MayHaveNone o s x t c → (x < length objects) × (c < ops)
+  none-below : (s : Summary) (x t c : ℕ) (o : Option Object) → slice_get objects x ≡ o → MayHaveNone o s x t c → (x < length objects) × (c < ops)
   none-below s x t c None at may = absurd may
   none-below s x t c (Some o) at may = let most = few x o at in (slice_get_within objects x o at, omega (arith, most, may.0.0))
 
-  -- the holder has an operation that lives, so it began
-  busy-below : (s : Seen) (x t c u : ℕ) (o : Option Object) → AreInRun s → slice_get objects x ≡ o → MayBeBusy o s x t c u
+  -- the holder has an operation that survives, so it began
+  busy-below : (s : Summary) (x t c u : ℕ) (o : Option Object) → AreInRun s → slice_get objects x ≡ o → MayBeBusy o s x t c u
       → (x < length objects) × (c < ops) × (u < s.begun)
   busy-below s x t c u None known at may = absurd may
   busy-below s x t c u (Some o) known at may =
       let most = few x o at in
-      let lives = each-filter _ (λ (e : Entry). e.at == x) s.stands known.stand in
-      let began = each-at _ _ may.held lives may.stands in
+      let lives = each-filter _ (λ (e : Entry). e.at == x) s.survives known.survive in
+      let began = each-at _ _ may.held lives may.survives in
       (slice_get_within objects x o at, omega (arith, most, may.least.0), subst (λ v. v < s.begun) may.holder began.0)
 
-  -- an event that may come next, where no more transactions began and no more operations live than there are events
-  next-below : (s : Seen) (n : ℕ) (happened : EventKind) → AreInRun s → s.begun ≤ n → length s.stands ≤ n → May objects s happened → Below (n + 1) happened
+  -- an event that may come next, where no more transactions began and no more operations survive than there are events
+  next-below : (s : Summary) (n : ℕ) (happened : EventKind) → AreInRun s → s.begun ≤ n → length s.survives ≤ n → May objects s happened → Below (n + 1) happened
   next-below s n (Begin t) known begun lives may = omega (arith, begun, may)
   next-below s n (Op t x k) known begun lives may =
       let there = op-below s x t k (slice_get objects x) refl may.1 in
@@ -66,13 +66,13 @@ module _ (objects : List Object) (ops : ℕ) (few : (x : ℕ) (o : Object) → s
   next-below s n (Commit t) known begun lives may = omega (arith, (of_open s t may).began, begun)
   next-below s n (Abort t) known begun lives may = omega (arith, (of_open s t may).began, begun)
   next-below s n (Rollback t m) known begun lives may =
-      (omega (arith, (of_open s t may.0).began, begun), may.1, omega (arith, may.2, filter-length (is_by t) s.stands, lives))
+      (omega (arith, (of_open s t may.0).began, begun), may.1, omega (arith, may.2, filter-length (is_by t) s.survives, lives))
 
-  -- of a history: its events' numbers, how many transactions began, and how many operations live
+  -- of a history: its events' numbers, how many transactions began, and how many operations survive
   record IsNumbered (H : List Event) : Type 0 where
     pub below : AllByRecursion (λ (e : Event). Below (length H) e.kind) H
-    pub begun : (seen H).begun ≤ length H
-    pub lives : length (standing H) ≤ length H
+    pub begun : (summary H).begun ≤ length H
+    pub lives : length (surviving H) ≤ length H
 
   one-more : (H : List Event) (e : Event) → length (H ++ e ∷ []) ≡ length H + 1
   one-more H e = length-append H (e ∷ [])
@@ -86,11 +86,11 @@ module _ (objects : List Object) (ops : ℕ) (few : (x : ℕ) (o : Object) → s
       let more = one-more H e in
       let P : ℕ → Event → Type 0 = λ n f. Below n f.kind in
       let old = each-weaker (λ (f : Event) h. below-more (length objects) ops (length H) f.kind h) H known.below in
-      let new = next-below (seen H) (length H) e.kind (transactions_in_run objects H run) known.begun known.lives may in
+      let new = next-below (summary H) (length H) e.kind (transactions_in_run objects H run) known.begun known.lives may in
       record {
         below = subst (λ n. AllByRecursion (P n) (H ++ e ∷ [])) (sym more) (each-append (P (length H + 1)) H (e ∷ []) old (new, tt));
-        begun = rw (begins-snoc H e) (omega (arith, more, known.begun, begun-more (seen H).begun (is_begin e.kind)));
-        lives = rw (standing-snoc H e) (omega (arith, more, known.lives, after-length (standing H) e.kind));
+        begun = rw (begins-snoc H e) (omega (arith, more, known.begun, begun-more (summary H).begun (is_begin e.kind)));
+        lives = rw (surviving-snoc H e) (omega (arith, more, known.lives, after-length (surviving H) e.kind));
       }
 
   pub numbers-each : (H : List Event) → IsRun objects H → AllByRecursion (λ (e : Event). Below (length H) e.kind) H

@@ -13,14 +13,14 @@ use Rattle.object_trait.specs.declared.event.EventKind.TheVariants as kind
 use Rattle.object_trait.specs.declared.event.EventKind.TheVariants.{Begin, Op, Busy, Commit, Abort, Rollback}
 use Rattle.object_trait.proofs.Striking.{each-keep_first}
 use Rattle.serial_order.specs.Operations.{is_by, of}
-use Rattle.serial_order.specs.History.{Seen, seen, is_open, is_begin, begins, IsOperation, stand_after, standing}
+use Rattle.serial_order.specs.History.{Summary, summary, is_open, is_begin, begins, IsOperation, survive_after, surviving}
 use Rattle.serial_order.specs.Machine.{May}
 use Rattle.serial_order.specs.Replay.{open_count}
-use Rattle.serial_order.specs.After.{after, AreInRun, CountsTo, OpensAfter, beginner, beginners, BeginnersAfter, OperationsInRun}
+use Rattle.serial_order.specs.After.{summary_next, AreInRun, CountsTo, OpensAfter, beginner, beginners, BeginnersAfter, OperationsInRun}
 use Rattle.serial_order.specs.declared.entry.Entry.{Entry}
 use Rattle.serial_order.proofs.After.{open-after}
-use Rattle.serial_order.proofs.Events.{standing-snoc}
-use Rattle.serial_order.proofs.MayStand.{may_stand}
+use Rattle.serial_order.proofs.Events.{surviving-snoc}
+use Rattle.serial_order.proofs.ContinuesHistory.{continues_history}
 use Rattle.serial_order.proofs.Runs.{in_run, of_open}
 
 -- ---- numbers that pass a test
@@ -79,7 +79,7 @@ passing-without p t (suc n) less passes =
 -- ---- how many are open
 
 -- after the end of an open transaction
-ended-count : (s : Seen) (now : ℕ → Bool) (t : ℕ) → is_open s t ≡ true → ((u : ℕ) → now u ≡ (not (u == t) && is_open s u)) →
+ended-count : (s : Summary) (now : ℕ → Bool) (t : ℕ) → is_open s t ≡ true → ((u : ℕ) → now u ≡ (not (u == t) && is_open s u)) →
     suc (length (filter now (range_with_len 0 s.begun))) ≡ open_count s
 ended-count s now t open_now same =
     ap suc (filter-passing now s.begun ∙ passing-agree now (λ u. not (u == t) && is_open s u) s.begun (λ i low. same i))
@@ -87,7 +87,7 @@ ended-count s now t open_now same =
     ∙ sym (filter-passing (is_open s) s.begun)
 
 -- after the begin of the next one
-begun-count : (s : Seen) (now : ℕ → Bool) → ((u : ℕ) → now u ≡ (u == s.begun || is_open s u)) → length (filter now (range_with_len 0 (suc s.begun))) ≡ suc (open_count s)
+begun-count : (s : Summary) (now : ℕ → Bool) → ((u : ℕ) → now u ≡ (u == s.begun || is_open s u)) → length (filter now (range_with_len 0 (suc s.begun))) ≡ suc (open_count s)
 begun-count s now same =
     let old : passing now s.begun ≡ passing (is_open s) s.begun = passing-agree now (is_open s) s.begun (λ i low. same i ∙ rw (older i low) refl) in
     let last : now s.begun ≡ true = same s.begun ∙ rw (eq-eqb s.begun s.begun refl) refl in
@@ -97,13 +97,13 @@ begun-count s now same =
     older i low = grind (arith, nat_tests, low)
 
 -- after any event that may come next
-counts-after : (objects : List Object) (s : Seen) (happened : EventKind) → AreInRun s → May objects s happened → CountsTo happened (open_count s) (open_count (after s happened))
-counts-after objects s (Begin t) known may = begun-count s (is_open (after s (Begin t))) (λ u. open-after objects s (Begin t) known may u ∙ ap (λ n. u == n || is_open s u) may)
+counts-after : (objects : List Object) (s : Summary) (happened : EventKind) → AreInRun s → May objects s happened → CountsTo happened (open_count s) (open_count (summary_next s happened))
+counts-after objects s (Begin t) known may = begun-count s (is_open (summary_next s (Begin t))) (λ u. open-after objects s (Begin t) known may u ∙ ap (λ n. u == n || is_open s u) may)
 counts-after objects s (Op t x k) known may = refl
 counts-after objects s (Busy c t x v) known may = refl
 counts-after objects s (kind.None t x c) known may = refl
-counts-after objects s (Commit t) known may = ended-count s (is_open (after s (Commit t))) t may (open-after objects s (Commit t) known may)
-counts-after objects s (Abort t) known may = ended-count s (is_open (after s (Abort t))) t may (open-after objects s (Abort t) known may)
+counts-after objects s (Commit t) known may = ended-count s (is_open (summary_next s (Commit t))) t may (open-after objects s (Commit t) known may)
+counts-after objects s (Abort t) known may = ended-count s (is_open (summary_next s (Abort t))) t may (open-after objects s (Abort t) known may)
 counts-after objects s (Rollback t n) known may = refl
 
 pub opens_after : OpensAfter
@@ -111,7 +111,7 @@ opens_after = λ objects s happened known may. (open-after objects s happened kn
 
 -- ---- who began each
 
--- so many as began
+-- as many as began
 begun-by : (H : List Event) → length (beginners H) ≡ begins H
 begun-by [] = refl
 begun-by (e ∷ H) =
@@ -140,16 +140,16 @@ module _ (objects : List Object) where
   IsThere e = IsOperation (slice_get (map (λ (o : Object). o.table) objects) e.at) e.op
 
   -- by each event that may come next
-  there-after : (s : Seen) (happened : EventKind) → May objects s happened → AllByRecursion IsThere s.stands → AllByRecursion IsThere (stand_after s.stands happened)
+  there-after : (s : Summary) (happened : EventKind) → May objects s happened → AllByRecursion IsThere s.survives → AllByRecursion IsThere (survive_after s.survives happened)
   there-after s (Begin t) may known = known
-  there-after s (Op t x k) may known = each-append IsThere s.stands ((record { by = t; at = x; op = k }) ∷ []) known ((may_stand objects s (Op t x k) may).1, tt)
+  there-after s (Op t x k) may known = each-append IsThere s.survives ((record { by = t; at = x; op = k }) ∷ []) known ((continues_history objects s (Op t x k) may).1, tt)
   there-after s (Busy c t x u) may known = known
   there-after s (kind.None t x c) may known = known
   there-after s (Commit t) may known = known
-  there-after s (Abort t) may known = each-keep_first IsThere (is_by t) 0 s.stands known
-  there-after s (Rollback t n) may known = each-keep_first IsThere (is_by t) (length (of t s.stands) - n) s.stands known
+  there-after s (Abort t) may known = each-keep_first IsThere (is_by t) 0 s.survives known
+  there-after s (Rollback t n) may known = each-keep_first IsThere (is_by t) (length (of t s.survives) - n) s.survives known
 
 pub operations_in_run : OperationsInRun
 operations_in_run = λ objects H run.
-    in_run objects (λ K. AllByRecursion (IsThere objects) (standing K)) tt
-    (λ K e on may known. rw (standing-snoc K e) (there-after objects (seen K) e.kind may known)) H run
+    in_run objects (λ K. AllByRecursion (IsThere objects) (surviving K)) tt
+    (λ K e on may known. rw (surviving-snoc K e) (there-after objects (summary K) e.kind may known)) H run

@@ -11,7 +11,7 @@ use Rattle.serial_order.specs.Readings.{is_op_of, taken_back, executed, rolled_b
 abbrev pub op_count : ℕ → EventKind → ℕ
 op_count t happened = cond (is_op_of t happened) 1 0
 
--- how many operations of t from before these events are struck by them, and by a rollback of n that stands behind them
+-- how many operations of t from before these events are struck by them, and by a rollback of n that comes after them
 abbrev pub reach : ℕ → List Event → ℕ → ℕ
 reach t [] n = n
 reach t (e ∷ K) n = (taken_back t e.kind + reach t K n) - op_count t e.kind
@@ -37,7 +37,7 @@ any-agree test other same (i ∷ V) = rw (same i, any-agree test other same V) r
 abbrev is_over : ℕ → ℕ → ℕ → List Event → Bool
 is_over t d r K = list_any (λ n. nat_lt (d + executed t (take n K)) (r + rolled_back t (take n K))) (range_with_len 0 (suc (length K)))
 
--- the operations executed in one event and those behind it
+-- the operations executed in one event and those after it
 executed-next : (t i : ℕ) (e : Event) (K : List Event) → executed t (take (i + 1) (e ∷ K)) ≡ op_count t e.kind + executed t (take i K)
 executed-next t i e K = rw add-one (sum_by-cons (λ (f : Event). op_count t f.kind) e (take i K))
 
@@ -64,7 +64,7 @@ over-reach t d r (e ∷ K) =
     ∙ over-reach t (d + op_count t e.kind) (r + taken_back t e.kind) K)
     ∙ over-step d r (op_count t e.kind) (taken_back t e.kind) (reach t K 0) (op_count-single t e.kind)
 
--- so an operation is struck by a rollback behind it where the rollbacks reach back to it
+-- so an operation is struck by a rollback after it where the rollbacks reach back to it
 pub rolled_back-reach : (t : ℕ) (K : List Event) → is_rolled_back t K ≡ nat_lt 0 (reach t K 0)
 rolled_back-reach t K =
     any-agree (λ n. nat_lt (executed t (take n K)) (rolled_back t (take n K))) (λ n. nat_lt (0 + executed t (take n K)) (0 + rolled_back t (take n K)))

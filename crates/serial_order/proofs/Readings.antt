@@ -1,4 +1,4 @@
--- What stands is what stays by the events behind it.
+-- What survives is what stays by the events after it.
 use Rattle.std.proofs.Common.{◌≡◌, ℕ, zero, suc, ◌+◌, ◌-◌, Bool, true, false, not, cond, ◌&&◌, ◌||◌, ◌==◌, nat_lt, List, [], ◌∷◌, ◌++◌, filter, fold, length, refl, sym, ap, subst, ◌∙◌, inl, inr, arith, append-nil, append_assoc, length-append, zero-add}
 use Rattle.std.specs.Prelude.{if◌then◌else◌}
 use Rattle.std.proofs.lemmas.Bool.{cases_Bool, cases_lt, or_parts, eqb-true, eq-eqb}
@@ -12,9 +12,9 @@ use Rattle.object_trait.specs.declared.event.EventKind.{EventKind}
 use Rattle.object_trait.specs.declared.event.EventKind.TheVariants as kind
 use Rattle.object_trait.specs.declared.event.EventKind.TheVariants.{Begin, Op, Busy, Commit, Abort, Rollback}
 use Rattle.serial_order.specs.Operations.{is_among, is_by, of}
-use Rattle.serial_order.specs.History.{aborts, aborted_by, stand_after}
-use Rattle.serial_order.specs.Readings.{taken_back, stays, staying_op, staying}
-use Rattle.serial_order.specs.Laws.{StandsAsRead}
+use Rattle.serial_order.specs.History.{aborts, aborted_by, survive_after}
+use Rattle.serial_order.specs.Readings.{taken_back, stays, survivor_op, survivors}
+use Rattle.serial_order.specs.Laws.{SurvivesAsRead}
 use Rattle.serial_order.specs.declared.entry.Entry.{Entry}
 use Rattle.serial_order.proofs.Strikes.{keep_first-none}
 use Rattle.serial_order.proofs.Events.{aborts-snoc}
@@ -39,11 +39,11 @@ stays-same t K e none zeroth = rw (stays-snoc t K e, none, zeroth, append-nil (a
 -- where t doesn't abort, a further rollback of n reaches as much further back as it takes back more operations of t than stay
 module _ (t n : ℕ) where
   -- of the operations of another transaction none is of t
-  of_other : (u x k : ℕ) (K : List Event) → (u == t) ≡ false → length (of t (staying_op (Op u x k) K)) ≡ 0
+  of_other : (u x k : ℕ) (K : List Event) → (u == t) ≡ false → length (of t (survivor_op (Op u x k) K)) ≡ 0
   of_other u x k K other = elim (cases_Bool (stays u K)) [ inl is ↦ simp (is, other) refl | inr isnt ↦ rw isnt refl ]
 
   -- one of its own counts where it stays
-  of_own : (x k : ℕ) (K : List Event) → is_among (aborts K) t ≡ false → length (of t (staying_op (Op t x k) K)) ≡ cond (not (nat_lt 0 (reach t K 0))) 1 0
+  of_own : (x k : ℕ) (K : List Event) → is_among (aborts K) t ≡ false → length (of t (survivor_op (Op t x k) K)) ≡ cond (not (nat_lt 0 (reach t K 0))) 1 0
   of_own x k K none = rw (stays-reach t K, none) (by_reach (nat_lt 0 (reach t K 0)))
     where
       by_reach : (far : Bool) → length (of t (if not far then (record { by = t; at = x; op = k }) ∷ [] else [])) ≡ cond (not far) 1 0
@@ -54,14 +54,14 @@ module _ (t n : ℕ) where
   abbrev Further : EventKind → List Event → Type 0
   Further happened K =
       (taken_back t happened + reach t K n) - op_count t happened
-      ≡ ((taken_back t happened + reach t K 0) - op_count t happened) + (n - (length (of t (staying_op happened K)) + length (of t (staying K))))
+      ≡ ((taken_back t happened + reach t K 0) - op_count t happened) + (n - (length (of t (survivor_op happened K)) + length (of t (survivors K))))
 
   -- an operation of t
-  own-step : (x k : ℕ) (K : List Event) → is_among (aborts K) t ≡ false → reach t K n ≡ reach t K 0 + (n - length (of t (staying K))) → Further (Op t x k) K
+  own-step : (x k : ℕ) (K : List Event) → is_among (aborts K) t ≡ false → reach t K n ≡ reach t K 0 + (n - length (of t (survivors K))) → Further (Op t x k) K
   own-step x k K none known = rw (of_own x k K none, eq-eqb t t refl) grind (arith, nat_tests, known)
 
   -- each event
-  reach-step : (happened : EventKind) (K : List Event) → is_among (aborts K) t ≡ false → reach t K n ≡ reach t K 0 + (n - length (of t (staying K))) → Further happened K
+  reach-step : (happened : EventKind) (K : List Event) → is_among (aborts K) t ≡ false → reach t K n ≡ reach t K 0 + (n - length (of t (survivors K))) → Further happened K
   reach-step (Op u x k) K none known =
       elim (cases_Bool (u == t)) [
         | inl same ↦ subst (λ v. Further (Op v x k) K) (sym (eqb-true u t same)) (own-step x k K none known)
@@ -75,17 +75,17 @@ module _ (t n : ℕ) where
   reach-step (Abort u) K none known = grind (arith, known)
 
   -- so for all events
-  reach-further : (K : List Event) → is_among (aborts K) t ≡ false → reach t K n ≡ reach t K 0 + (n - length (of t (staying K)))
+  reach-further : (K : List Event) → is_among (aborts K) t ≡ false → reach t K n ≡ reach t K 0 + (n - length (of t (survivors K)))
   reach-further [] none = grind arith
   reach-further (e ∷ K) none =
       let rest = (or_parts (is_among (aborted_by e.kind) t) (is_among (aborts K) t) (sym (list_any-append (λ u. u == t) (aborted_by e.kind) (aborts K)) ∙ none)).1 in
-      rw (filter-append (is_by t) (staying_op e.kind K) (staying K), length-append) (reach-step e.kind K rest (reach-further K rest))
+      rw (filter-append (is_by t) (survivor_op e.kind K) (survivors K), length-append) (reach-step e.kind K rest (reach-further K rest))
 
 -- ---- what stays with one more event
 
 -- where it leaves what stays, its own operation is one more
 module _ (e : Event) (same : (t : ℕ) (K : List Event) → stays t (K ++ e ∷ []) ≡ stays t K) where
-  op-same : (happened : EventKind) (K : List Event) → staying_op happened (K ++ e ∷ []) ≡ staying_op happened K
+  op-same : (happened : EventKind) (K : List Event) → survivor_op happened (K ++ e ∷ []) ≡ survivor_op happened K
   op-same (Op t x k) K = rw (same t K) refl
   op-same (Begin t) K = refl
   op-same (Busy c t x u) K = refl
@@ -94,13 +94,13 @@ module _ (e : Event) (same : (t : ℕ) (K : List Event) → stays t (K ++ e ∷ 
   op-same (Abort t) K = refl
   op-same (Rollback t n) K = refl
 
-  staying-same : (H : List Event) → staying (H ++ e ∷ []) ≡ staying H ++ staying_op e.kind []
-  staying-same [] = append-nil (staying_op e.kind [])
-  staying-same (f ∷ H) = rw (op-same f.kind H, staying-same H) (sym (append_assoc (staying_op f.kind H) (staying H) (staying_op e.kind [])))
+  survivors-same : (H : List Event) → survivors (H ++ e ∷ []) ≡ survivors H ++ survivor_op e.kind []
+  survivors-same [] = append-nil (survivor_op e.kind [])
+  survivors-same (f ∷ H) = rw (op-same f.kind H, survivors-same H) (sym (append_assoc (survivor_op f.kind H) (survivors H) (survivor_op e.kind [])))
 
 -- after an abort what is of other transactions
 op-abort : (w t : ℕ) (happened : EventKind) (K : List Event) →
-    staying_op happened (K ++ (record { worker = w; kind = Abort t }) ∷ []) ≡ filter (λ e. not (is_by t e)) (staying_op happened K)
+    survivor_op happened (K ++ (record { worker = w; kind = Abort t }) ∷ []) ≡ filter (λ e. not (is_by t e)) (survivor_op happened K)
 op-abort w t (Op u x k) K = rw (stays-snoc u K (record { worker = w; kind = Abort t }), is_among-snoc (aborts K) t u, eqb-sym t u, stays-reach u K)
     (by_tests (is_among (aborts K) u) (nat_lt 0 (reach u K 0)) (u == t) refl)
   where
@@ -119,10 +119,10 @@ op-abort w t (Commit u) K = refl
 op-abort w t (Abort u) K = refl
 op-abort w t (Rollback u n) K = refl
 
-staying-abort : (w t : ℕ) (H : List Event) → staying (H ++ (record { worker = w; kind = Abort t }) ∷ []) ≡ filter (λ e. not (is_by t e)) (staying H)
-staying-abort w t [] = refl
-staying-abort w t (f ∷ H) =
-    rw (op-abort w t f.kind H, staying-abort w t H) (sym (filter-append (λ e. not (is_by t e)) (staying_op f.kind H) (staying H)))
+survivors-abort : (w t : ℕ) (H : List Event) → survivors (H ++ (record { worker = w; kind = Abort t }) ∷ []) ≡ filter (λ e. not (is_by t e)) (survivors H)
+survivors-abort w t [] = refl
+survivors-abort w t (f ∷ H) =
+    rw (op-abort w t f.kind H, survivors-abort w t H) (sym (filter-append (λ e. not (is_by t e)) (survivor_op f.kind H) (survivors H)))
 
 -- ---- a rollback
 
@@ -135,7 +135,7 @@ keep_mine : (t m : ℕ) (e : Entry) (V : List Entry) → is_by t e ≡ true → 
 keep_mine t zero e V mine = rw mine refl
 keep_mine t (suc m) e V mine = rw mine refl
 
--- of one of mine and later ones, all but the last n of mine: it is left where n are behind it
+-- of one of mine and later ones, all but the last n of mine: it is left where n are after it
 last_mine : (t n : ℕ) (e : Entry) (V : List Entry) → is_by t e ≡ true →
     (if not (nat_lt 0 (n - length (of t V))) then e ∷ [] else []) ++ keep_first (is_by t) (length (of t V) - n) V ≡ keep_first (is_by t) (length (of t (e ∷ V)) - n) (e ∷ V)
 last_mine t n e V mine =
@@ -164,10 +164,10 @@ last_other t n e V other = rw other refl
 -- after a rollback of n all but the last n of its transaction
 abbrev IsRolledBack : ℕ → ℕ → ℕ → EventKind → List Event → Type 0
 IsRolledBack w t n happened K =
-    staying_op happened (K ++ (record { worker = w; kind = Rollback t n }) ∷ []) ++ keep_first (is_by t) (length (of t (staying K)) - n) (staying K)
-    ≡ keep_first (is_by t) (length (of t (staying_op happened K ++ staying K)) - n) (staying_op happened K ++ staying K)
+    survivor_op happened (K ++ (record { worker = w; kind = Rollback t n }) ∷ []) ++ keep_first (is_by t) (length (of t (survivors K)) - n) (survivors K)
+    ≡ keep_first (is_by t) (length (of t (survivor_op happened K ++ survivors K)) - n) (survivor_op happened K ++ survivors K)
 
--- behind an operation of another transaction
+-- after an operation of another transaction
 other-rollback : (w t n u x k : ℕ) (K : List Event) → (u == t) ≡ false → IsRolledBack w t n (Op u x k) K
 other-rollback w t n u x k K other =
     let e : Event = record { worker = w; kind = Rollback t n } in
@@ -177,12 +177,12 @@ other-rollback w t n u x k K other =
     entry : Entry
     entry = record { by = u; at = x; op = k }
 
-    by_stay : (b : Bool) → (if b then entry ∷ [] else []) ++ keep_first (is_by t) (length (of t (staying K)) - n) (staying K)
-        ≡ keep_first (is_by t) (length (of t ((if b then entry ∷ [] else []) ++ staying K)) - n) ((if b then entry ∷ [] else []) ++ staying K)
-    by_stay true = last_other t n (record { by = u; at = x; op = k }) (staying K) other
+    by_stay : (b : Bool) → (if b then entry ∷ [] else []) ++ keep_first (is_by t) (length (of t (survivors K)) - n) (survivors K)
+        ≡ keep_first (is_by t) (length (of t ((if b then entry ∷ [] else []) ++ survivors K)) - n) ((if b then entry ∷ [] else []) ++ survivors K)
+    by_stay true = last_other t n (record { by = u; at = x; op = k }) (survivors K) other
     by_stay false = refl
 
--- behind one of its own
+-- after one of its own
 own-rollback : (w t n x k : ℕ) (K : List Event) → IsRolledBack w t n (Op t x k) K
 own-rollback w t n x k K =
     let e : Event = record { worker = w; kind = Rollback t n } in
@@ -195,15 +195,15 @@ own-rollback w t n x k K =
     entry : Entry
     entry = record { by = t; at = x; op = k }
 
-    by_reach : (r : ℕ) → (if not (nat_lt 0 (r + (n - length (of t (staying K))))) then entry ∷ [] else []) ++ keep_first (is_by t) (length (of t (staying K)) - n) (staying K)
-        ≡ keep_first (is_by t) (length (of t ((if not (nat_lt 0 r) then entry ∷ [] else []) ++ staying K)) - n) ((if not (nat_lt 0 r) then entry ∷ [] else []) ++ staying K)
-    by_reach zero = rw zero-add (last_mine t n entry (staying K) (eq-eqb t t refl))
+    by_reach : (r : ℕ) → (if not (nat_lt 0 (r + (n - length (of t (survivors K))))) then entry ∷ [] else []) ++ keep_first (is_by t) (length (of t (survivors K)) - n) (survivors K)
+        ≡ keep_first (is_by t) (length (of t ((if not (nat_lt 0 r) then entry ∷ [] else []) ++ survivors K)) - n) ((if not (nat_lt 0 r) then entry ∷ [] else []) ++ survivors K)
+    by_reach zero = rw zero-add (last_mine t n entry (survivors K) (eq-eqb t t refl))
     by_reach (suc r) =
-        let far : nat_lt 0 (suc r + (n - length (of t (staying K)))) ≡ true = grind (arith, nat_tests) in
+        let far : nat_lt 0 (suc r + (n - length (of t (survivors K)))) ≡ true = grind (arith, nat_tests) in
         let near : nat_lt 0 (suc r) ≡ true = grind (arith, nat_tests) in
         rw (far, near) refl
 
--- behind each event
+-- after each event
 op-rollback : (w t n : ℕ) (happened : EventKind) (K : List Event) → IsRolledBack w t n happened K
 op-rollback w t n (Op u x k) K =
     elim (cases_Bool (u == t)) [
@@ -217,27 +217,27 @@ op-rollback w t n (Commit u) K = refl
 op-rollback w t n (Abort u) K = refl
 op-rollback w t n (Rollback u m) K = refl
 
-staying-rollback : (w t n : ℕ) (H : List Event) →
-    staying (H ++ (record { worker = w; kind = Rollback t n }) ∷ []) ≡ keep_first (is_by t) (length (of t (staying H)) - n) (staying H)
-staying-rollback w t n [] = refl
-staying-rollback w t n (f ∷ H) = rw (staying-rollback w t n H) (op-rollback w t n f.kind H)
+survivors-rollback : (w t n : ℕ) (H : List Event) →
+    survivors (H ++ (record { worker = w; kind = Rollback t n }) ∷ []) ≡ keep_first (is_by t) (length (of t (survivors H)) - n) (survivors H)
+survivors-rollback w t n [] = refl
+survivors-rollback w t n (f ∷ H) = rw (survivors-rollback w t n H) (op-rollback w t n f.kind H)
 
--- so one more event does to what stays what it does to what stands
-one_more : (H : List Event) (w : ℕ) (happened : EventKind) → staying (H ++ (record { worker = w; kind = happened }) ∷ []) ≡ stand_after (staying H) happened
-one_more H w (Op t x k) = staying-same (record { worker = w; kind = Op t x k }) (λ u K. stays-same u K (record { worker = w; kind = Op t x k }) refl (grind (arith))) H
-one_more H w (Begin t) = staying-same (record { worker = w; kind = Begin t }) (λ u K. stays-same u K _ refl refl) H ∙ append-nil (staying H)
-one_more H w (Busy c t x u) = staying-same (record { worker = w; kind = Busy c t x u }) (λ v K. stays-same v K _ refl refl) H ∙ append-nil (staying H)
-one_more H w (kind.None t x c) = staying-same (record { worker = w; kind = kind.None t x c }) (λ u K. stays-same u K _ refl refl) H ∙ append-nil (staying H)
-one_more H w (Commit t) = staying-same (record { worker = w; kind = Commit t }) (λ u K. stays-same u K _ refl refl) H ∙ append-nil (staying H)
-one_more H w (Abort t) = staying-abort w t H ∙ sym (keep_first-none (is_by t) (staying H))
-one_more H w (Rollback t n) = staying-rollback w t n H
+-- so one more event does to what stays what it does to what survives
+one_more : (H : List Event) (w : ℕ) (happened : EventKind) → survivors (H ++ (record { worker = w; kind = happened }) ∷ []) ≡ survive_after (survivors H) happened
+one_more H w (Op t x k) = survivors-same (record { worker = w; kind = Op t x k }) (λ u K. stays-same u K (record { worker = w; kind = Op t x k }) refl (grind (arith))) H
+one_more H w (Begin t) = survivors-same (record { worker = w; kind = Begin t }) (λ u K. stays-same u K _ refl refl) H ∙ append-nil (survivors H)
+one_more H w (Busy c t x u) = survivors-same (record { worker = w; kind = Busy c t x u }) (λ v K. stays-same v K _ refl refl) H ∙ append-nil (survivors H)
+one_more H w (kind.None t x c) = survivors-same (record { worker = w; kind = kind.None t x c }) (λ u K. stays-same u K _ refl refl) H ∙ append-nil (survivors H)
+one_more H w (Commit t) = survivors-same (record { worker = w; kind = Commit t }) (λ u K. stays-same u K _ refl refl) H ∙ append-nil (survivors H)
+one_more H w (Abort t) = survivors-abort w t H ∙ sym (keep_first-none (is_by t) (survivors H))
+one_more H w (Rollback t n) = survivors-rollback w t n H
 
 -- and each event from a history on
-from_on : (G H : List Event) → fold (λ V e. stand_after V e.kind) (staying G) H ≡ staying (G ++ H)
-from_on G [] = ap staying (sym (append-nil G))
+from_on : (G H : List Event) → fold (λ V e. survive_after V e.kind) (survivors G) H ≡ survivors (G ++ H)
+from_on G [] = ap survivors (sym (append-nil G))
 from_on G (e ∷ H) =
-    ap (λ V. fold (λ V e. stand_after V e.kind) V H) (sym (one_more G e.worker e.kind)) ∙ from_on (G ++ e ∷ []) H ∙ ap staying (append_assoc G (e ∷ []) H)
+    ap (λ V. fold (λ V e. survive_after V e.kind) V H) (sym (one_more G e.worker e.kind)) ∙ from_on (G ++ e ∷ []) H ∙ ap survivors (append_assoc G (e ∷ []) H)
 
--- what stands is what stays by the events behind it
-pub stands_as_read : StandsAsRead
-stands_as_read = λ H. from_on [] H
+-- what survives is what stays by the events after it
+pub survives_as_read : SurvivesAsRead
+survives_as_read = λ H. from_on [] H

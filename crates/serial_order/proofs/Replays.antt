@@ -13,7 +13,7 @@ use Rattle.object_trait.specs.declared.event.Event.{Event}
 use Rattle.object_trait.specs.declared.event.EventKind.{EventKind}
 use Rattle.object_trait.specs.declared.event.EventKind.TheVariants as kind
 use Rattle.serial_order.specs.Operations.{of}
-use Rattle.serial_order.specs.History.{seen, is_open}
+use Rattle.serial_order.specs.History.{summary, is_open}
 use Rattle.serial_order.specs.Machine.{May, IsRun}
 use Rattle.serial_order.specs.Replay.{call_at, refusal, call_event, event_of, after_command, replay_from, replay}
 use Rattle.serial_order.specs.Laws.{FirstOpIsLeast, RunGoesOn, ReplayRuns, CommandAppends, RefusedAppendsNothing, ReplaysJoin}
@@ -42,7 +42,7 @@ first_op_is_least = λ o name c found.
 
 -- ---- commands that aren't refused
 
--- where a reason isn't given, it doesn't hold, and none behind it is given
+-- where a reason isn't given, it doesn't hold, and none after it is given
 passed : {E : Type 0} (reason : Bool) (e : E) (rest : Option E) → is_some (if reason then Some e else rest) ≡ false → (reason ≡ false) × (is_some rest ≡ false)
 passed true e rest fine = absurd (true≢false fine)
 passed false e rest fine = (refl, fine)
@@ -55,17 +55,17 @@ passed_open is_open_now e rest fine = let h = passed (not is_open_now) e rest fi
 pub record Comes (objects : List Object) (H : List Event) (event : Option EventKind) : Type 0 where
   pub happened : EventKind
   pub is : event ≡ Some happened
-  pub follows : May objects (seen H) happened
+  pub follows : May objects (summary H) happened
 
 -- of a call of an open transaction at an object that is there, by a name that one of its operations has
-call_follows : (objects : List Object) (H : List Event) (t x : ℕ) (name : List ℕ) → is_open (seen H) t ≡ true →
+call_follows : (objects : List Object) (H : List Event) (t x : ℕ) (name : List ℕ) → is_open (summary H) t ≡ true →
     (there : Option Object) → slice_get objects x ≡ there → is_some there ≡ true →
     (first : Option ℕ) → call_at there name ≡ first → is_some first ≡ true →
-    Comes objects H (call_event there (seen H) x t first)
+    Comes objects H (call_event there (summary H) x t first)
 call_follows objects H t x name open_now None at_x some first finds named = absurd (false≢true some)
 call_follows objects H t x name open_now (Some o) at_x some None finds named = absurd (false≢true named)
 call_follows objects H t x name open_now (Some o) at_x some (Some c) finds named =
-    record { happened = event_of_call o (seen H) x t c; is = refl; follows = answer_may_follow objects H x o 0 t c at_x open_now (first_op_is_least o name c finds) }
+    record { happened = event_of_call o (summary H) x t c; is = refl; follows = answer_may_follow objects H x o 0 t c at_x open_now (first_op_is_least o name c finds) }
 
 -- a rollback of some operations, and of no more than there are
 rollback_range : (n most : ℕ) → (n == 0 || nat_lt most n) ≡ false → (0 < n) × (n ≤ most)
@@ -75,19 +75,19 @@ rollback_range n most fine =
 
 -- of a command that isn't refused
 event_follows : (objects : List Object) (most : ℕ) (H : List Event) (command : Command) → is_some (refusal objects most H command) ≡ false →
-    Comes objects H (event_of objects (seen H) command)
-event_follows objects most H Begin fine = record { happened = kind.Begin (seen H).begun; is = refl; follows = refl }
+    Comes objects H (event_of objects (summary H) command)
+event_follows objects most H Begin fine = record { happened = kind.Begin (summary H).begun; is = refl; follows = refl }
 event_follows objects most H (Call t x name) fine =
-    let a = passed_open (is_open (seen H) t) NotOpen _ fine in
+    let a = passed_open (is_open (summary H) t) NotOpen _ fine in
     let b = passed_open (is_some (slice_get objects x)) NoObject _ a.1 in
     let c = passed_open (is_some (call_at (slice_get objects x) name)) NoCall _ b.1 in
     call_follows objects H t x name a.0 (slice_get objects x) refl b.0 (call_at (slice_get objects x) name) refl c.0
-event_follows objects most H (Commit t) fine = record { happened = kind.Commit t; is = refl; follows = (passed_open (is_open (seen H) t) NotOpen _ fine).0 }
-event_follows objects most H (Abort t) fine = record { happened = kind.Abort t; is = refl; follows = (passed_open (is_open (seen H) t) NotOpen _ fine).0 }
+event_follows objects most H (Commit t) fine = record { happened = kind.Commit t; is = refl; follows = (passed_open (is_open (summary H) t) NotOpen _ fine).0 }
+event_follows objects most H (Abort t) fine = record { happened = kind.Abort t; is = refl; follows = (passed_open (is_open (summary H) t) NotOpen _ fine).0 }
 event_follows objects most H (Rollback t n) fine =
-    let a = passed_open (is_open (seen H) t) NotOpen _ fine in
-    let b = passed (n == 0 || nat_lt (length (of t (seen H).stands)) n) BadRollback _ a.1 in
-    let range = rollback_range n (length (of t (seen H).stands)) b.0 in
+    let a = passed_open (is_open (summary H) t) NotOpen _ fine in
+    let b = passed (n == 0 || nat_lt (length (of t (summary H).survives)) n) BadRollback _ a.1 in
+    let range = rollback_range n (length (of t (summary H).survives)) b.0 in
     record { happened = kind.Rollback t n; is = refl; follows = (a.0, range.0, range.1) }
 
 -- ---- the history after commands
@@ -120,41 +120,41 @@ either_runs objects true H K first second = first
 either_runs objects false H K first second = second
 
 -- so the history after commands from a place on
-commands_run : RunGoesOn → (objects : List Object) (most : ℕ) (wanting : ℕ → Bool) (place : ℕ) (H : List Event) (commands : List (ℕ × Command)) →
-    IsRun objects H → IsRun objects (replay_from objects most wanting place H commands)
-commands_run goes_on objects most wanting place H [] runs = runs
-commands_run goes_on objects most wanting place H (c ∷ commands) runs =
+commands_run : RunGoesOn → (objects : List Object) (most : ℕ) (memory_refused : ℕ → Bool) (place : ℕ) (H : List Event) (commands : List (ℕ × Command)) →
+    IsRun objects H → IsRun objects (replay_from objects most memory_refused place H commands)
+commands_run goes_on objects most memory_refused place H [] runs = runs
+commands_run goes_on objects most memory_refused place H (c ∷ commands) runs =
     let after = after_command objects most H (c.0) (c.1) in
-    commands_run goes_on objects most wanting (suc place) (if wanting place then H else after) commands
-    (either_runs objects (wanting place) H after runs (command_runs goes_on objects most H (c.0) (c.1) runs))
+    commands_run goes_on objects most memory_refused (suc place) (if memory_refused place then H else after) commands
+    (either_runs objects (memory_refused place) H after runs (command_runs goes_on objects most H (c.0) (c.1) runs))
 
 -- the history after any commands is a run
 pub replay_runs : RunGoesOn → ReplayRuns
-replay_runs goes_on = λ objects most wanting H commands runs. commands_run goes_on objects most wanting 0 H commands runs
+replay_runs goes_on = λ objects most memory_refused H commands runs. commands_run goes_on objects most memory_refused 0 H commands runs
 
 -- ---- one list of commands after another
 
--- where memory is wanted at the same places from two places on, the history after commands is the same
-same_wanting : (objects : List Object) (most : ℕ) (wanting other : ℕ → Bool) (place from : ℕ) → ((i : ℕ) → wanting (place + i) ≡ other (from + i)) →
-    (H : List Event) (commands : List (ℕ × Command)) → replay_from objects most wanting place H commands ≡ replay_from objects most other from H commands
-same_wanting objects most wanting other place from same H [] = refl
-same_wanting objects most wanting other place from same H (c ∷ commands) =
-    let here : wanting place ≡ other from = rw (add-zero place, add-zero from) at (same 0) in
-    let later : (i : ℕ) → wanting (suc place + i) ≡ other (suc from + i) = λ i. rw (suc-add place i, suc-add from i, ← (add-suc place i), ← (add-suc from i)) (same (suc i)) in
-    rw here (same_wanting objects most wanting other (suc place) (suc from) later
+-- where memory is refused at the same places from two places on, the history after commands is the same
+same_memory_refused : (objects : List Object) (most : ℕ) (memory_refused other : ℕ → Bool) (place from : ℕ) → ((i : ℕ) → memory_refused (place + i) ≡ other (from + i)) →
+    (H : List Event) (commands : List (ℕ × Command)) → replay_from objects most memory_refused place H commands ≡ replay_from objects most other from H commands
+same_memory_refused objects most memory_refused other place from same H [] = refl
+same_memory_refused objects most memory_refused other place from same H (c ∷ commands) =
+    let here : memory_refused place ≡ other from = rw (add-zero place, add-zero from) at (same 0) in
+    let later : (i : ℕ) → memory_refused (suc place + i) ≡ other (suc from + i) = λ i. rw (suc-add place i, suc-add from i, ← (add-suc place i), ← (add-suc from i)) (same (suc i)) in
+    rw here (same_memory_refused objects most memory_refused other (suc place) (suc from) later
     (if other from then H else after_command objects most H (c.0) (c.1)) commands)
 
 -- the history after two lists from a place on
-joined_from : (objects : List Object) (most : ℕ) (wanting : ℕ → Bool) (place : ℕ) (H : List Event) (first second : List (ℕ × Command)) →
-    replay_from objects most wanting place H (first ++ second) ≡ replay_from objects most wanting (place + length first) (replay_from objects most wanting place H first) second
-joined_from objects most wanting place H [] second = rw add-zero refl
-joined_from objects most wanting place H (c ∷ first) second =
+joined_from : (objects : List Object) (most : ℕ) (memory_refused : ℕ → Bool) (place : ℕ) (H : List Event) (first second : List (ℕ × Command)) →
+    replay_from objects most memory_refused place H (first ++ second) ≡ replay_from objects most memory_refused (place + length first) (replay_from objects most memory_refused place H first) second
+joined_from objects most memory_refused place H [] second = rw add-zero refl
+joined_from objects most memory_refused place H (c ∷ first) second =
     rw (add-suc place (length first), ← (suc-add place (length first)))
-    (joined_from objects most wanting (suc place) (if wanting place then H else after_command objects most H (c.0) (c.1)) first second)
+    (joined_from objects most memory_refused (suc place) (if memory_refused place then H else after_command objects most H (c.0) (c.1)) first second)
 
 -- the replay of two lists
 pub replays_join : ReplaysJoin
-replays_join = λ objects most wanting H first second.
-    joined_from objects most wanting 0 H first second
-    ∙ same_wanting objects most wanting (λ i. wanting (length first + i)) (0 + length first) 0 (λ i. rw (zero-add (length first), zero-add i) refl)
-    (replay objects most wanting H first) second
+replays_join = λ objects most memory_refused H first second.
+    joined_from objects most memory_refused 0 H first second
+    ∙ same_memory_refused objects most memory_refused (λ i. memory_refused (length first + i)) (0 + length first) 0 (λ i. rw (zero-add (length first), zero-add i) refl)
+    (replay objects most memory_refused H first) second

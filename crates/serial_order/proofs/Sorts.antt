@@ -14,7 +14,7 @@ sorts-append _ _ X (swap {a} {b} {V} passes) = swap passes
 sorts-append _ _ X (under {a} {V} {W} s) = under (sorts-append V W X s)
 sorts-append _ _ X (chain {U} {V} {W} s r) = chain (sorts-append U V X s) (sorts-append V W X r)
 
--- and may stand behind another list
+-- and may follow another list
 pub sorts-behind : {E : Type 0} {free : E → E → Bool} (U V W : List E) → Sorts free V W → Sorts free (U ++ V) (U ++ W)
 sorts-behind [] V W s = s
 sorts-behind (x ∷ U) V W s = under (sorts-behind U V W s)
@@ -41,7 +41,7 @@ swap-keep_first mine (suc n) a b V passes apart =
       ]
     ]
 
--- an element stays in front of both lists after a strike, or is struck from both
+-- an element stays at the front of both lists after a strike, or is struck from both
 under-keep_first : {E : Type 0} {free : E → E → Bool} (mine : E → Bool) (n : ℕ) (a : E) (V W : List E) →
     ((m : ℕ) → Sorts free (keep_first mine m V) (keep_first mine m W)) → Sorts free (keep_first mine n (a ∷ V)) (keep_first mine n (a ∷ W))
 under-keep_first mine zero a V W rest =
@@ -65,7 +65,7 @@ sorts-keep_first mine apart n _ _ (chain {U} {V} {W} s r) = chain (sorts-keep_fi
 
 -- ---- two parts
 
--- where each that isn't mine may move behind each later one of mine, the list is mine, which stay, and the others
+-- where each that isn't mine may move after each later one of mine, the list is mine, which stay, and the others
 pub parts-mine : {E : Type 0} (free : E → E → Bool) (mine : E → Bool) (V : List E) → Pairs (λ a b. mine a ≡ false → mine b ≡ true → free a b ≡ true) V →
     Parts free V (filter mine V) (filter (λ x. not (mine x)) V)
 parts-mine free mine [] p = none

@@ -1,5 +1,5 @@
--- Who keeps a transaction from an operation is told by the log of an object that stands for a history.
-use Rattle.std.proofs.Common.{◌≡◌, ℕ, ◌<◌, Bool, true, false, not, cond, ◌&&◌, ◌==◌, List, [], ◌∷◌, ◌++◌, map, filter, Option, Some, None, refl, sym, ap, ◌∙◌, inl, inr}
+-- The log of an object that represents a history says who keeps a transaction from an operation.
+use Rattle.std.proofs.Common.{◌≡◌, ℕ, ◌<◌, Bool, true, false, not, ◌&&◌, ◌==◌, List, [], ◌∷◌, ◌++◌, map, filter, refl, sym, ap, ◌∙◌, inl, inr}
 use Rattle.std.specs.List.{find, AllByRecursion}
 use Rattle.std.specs.Option.{option_map}
 use Rattle.std.proofs.lemmas.Bool.{cases_Bool, both_ways}
@@ -11,11 +11,12 @@ use Rattle.object_trait.specs.Object.{Object}
 use Rattle.object_trait.specs.Meaning.{object}
 use Rattle.object_trait.specs.Steps.{stops_by}
 use Rattle.object_trait.specs.declared.log_entry.LogEntry.{LogEntry}
+use Rattle.object_trait.proofs.Runs.{open-all}
 use Rattle.serial_order.specs.Operations.{is_among, at_object, pending}
-use Rattle.serial_order.specs.History.{Seen, seen, is_open}
+use Rattle.serial_order.specs.History.{Summary, summary, is_open}
 use Rattle.serial_order.specs.View.{stops_at, conflicts_with}
 use Rattle.serial_order.specs.Answer.{earliest}
-use Rattle.serial_order.specs.Stand.{plain, StandsBy}
+use Rattle.serial_order.specs.Represent.{plain, RepresentsBy}
 use Rattle.serial_order.specs.After.{AreInRun}
 use Rattle.serial_order.specs.Laws.{StopperIsBlocker}
 use Rattle.serial_order.specs.declared.entry.Entry.{Entry}
@@ -28,8 +29,8 @@ earliest-alike : (first second : Entry → Bool) (V : List Entry) → AllByRecur
 earliest-alike first second [] same = refl
 earliest-alike first second (e ∷ V) same = rw (same.0, earliest-alike first second V same.1) refl
 
--- in a run a transaction whose operation lives is open where it didn't commit
-open_alike : (s : Seen) (t : ℕ) → t < s.begun → is_among s.aborted t ≡ false → is_open s t ≡ not (is_among s.committed t)
+-- in a run a transaction whose operation survives is open where it didn't commit
+open_alike : (s : Summary) (t : ℕ) → t < s.begun → is_among s.aborted t ≡ false → is_open s t ≡ not (is_among s.committed t)
 open_alike s t began kept =
     elim (cases_Bool (is_among s.committed t)) [
       | inl past ↦ closed past
@@ -43,14 +44,14 @@ open_alike s t began kept =
     ]
 
 -- what blocks is among the pending operations
-blocker-pending : (o : Object) (s : Seen) (x t k : ℕ) → AreInRun s →
-    earliest (conflicts_with o s x t k) (at_object x s.stands) ≡ earliest (λ e. not (e.by == t) && stops_at o.kind o s.committed (at_object x s.stands) t k e) (pending s.committed (at_object x s.stands))
+blocker-pending : (o : Object) (s : Summary) (x t k : ℕ) → AreInRun s →
+    earliest (conflicts_with o s x t k) (at_object x s.survives) ≡ earliest (λ e. not (e.by == t) && stops_at o.kind o s.committed (at_object x s.survives) t k e) (pending s.committed (at_object x s.survives))
 blocker-pending o s x t k known =
-    let rest : Entry → Bool = λ e. not (e.by == t) && stops_at o.kind o s.committed (at_object x s.stands) t k e in
-    let here = each-filter (λ e. (e.by < s.begun) × (is_among s.aborted e.by ≡ false)) (λ e. e.at == x) s.stands known.stand in
-    earliest-alike (conflicts_with o s x t k) (λ e. not (is_among s.committed e.by) && rest e) (at_object x s.stands)
-    (each-weaker (λ e known_e. ap (λ b. b && rest e) (open_alike s e.by known_e.0 known_e.1)) (at_object x s.stands) here)
-    ∙ earliest-filter (λ e. not (is_among s.committed e.by)) rest (at_object x s.stands)
+    let rest : Entry → Bool = λ e. not (e.by == t) && stops_at o.kind o s.committed (at_object x s.survives) t k e in
+    let here = each-filter (λ e. (e.by < s.begun) × (is_among s.aborted e.by ≡ false)) (λ e. e.at == x) s.survives known.survive in
+    earliest-alike (conflicts_with o s x t k) (λ e. not (is_among s.committed e.by) && rest e) (at_object x s.survives)
+    (each-weaker (λ e known_e. ap (λ b. b && rest e) (open_alike s e.by known_e.0 known_e.1)) (at_object x s.survives) here)
+    ∙ earliest-filter (λ e. not (is_among s.committed e.by)) rest (at_object x s.survives)
 
 -- ---- in the log
 
@@ -63,22 +64,16 @@ undo-pending C x (e ∷ log) flags =
       | inr undone ↦ let now : is_among C e.by ≡ false = sym flags.0 ∙ undone in rw (undone, now) (ap (λ rest. plain x e ∷ rest) (undo-pending C x log flags.1))
     ]
 
--- all are open
-all-open : (log : List LogEntry) → AllByRecursion (λ e. e.done ≡ false) log → filter (λ e. not e.done) log ≡ log
-all-open [] flags = refl
-all-open (e ∷ log) flags =
-    ap (λ done. cond (not done) (e ∷ filter (λ e. not e.done) log) (filter (λ e. not e.done) log)) flags.0 ∙ ap (λ rest. e ∷ rest) (all-open log flags.1)
+pending-log : (recovery : Kind) (o : Object) (base : ℕ) (log : List LogEntry) (x : ℕ) (C : List ℕ) (V : List Entry) → RepresentsBy recovery o base log x C V → pending C V ≡ map (plain x) (filter (λ e. not e.done) log)
+pending-log Undo o base log x C V represents =
+    ap (pending C) (sym represents.whole)
+    ∙ filter-append (λ (e : Entry). not (is_among C e.by)) represents.past (map (plain x) log)
+    ∙ ap (λ W. W ++ pending C (map (plain x) log)) (filter-none (λ (e : Entry). not (is_among C e.by)) represents.past (each-weaker (λ e is. ap not is) represents.past represents.ended))
+    ∙ undo-pending C x log represents.flags
+pending-log Intentions o base log x C V represents = sym represents.whole ∙ ap (map (plain x)) (sym (open-all log represents.flags))
+pending-log Escrow o base log x C V represents = sym represents.whole ∙ ap (map (plain x)) (sym (open-all log represents.flags))
 
-pending-log : (recovery : Kind) (o : Object) (base : ℕ) (log : List LogEntry) (x : ℕ) (C : List ℕ) (V : List Entry) → StandsBy recovery o base log x C V → pending C V ≡ map (plain x) (filter (λ e. not e.done) log)
-pending-log Undo o base log x C V stands =
-    ap (pending C) (sym stands.whole)
-    ∙ filter-append (λ (e : Entry). not (is_among C e.by)) stands.past (map (plain x) log)
-    ∙ ap (λ W. W ++ pending C (map (plain x) log)) (filter-none (λ (e : Entry). not (is_among C e.by)) stands.past (each-weaker (λ e is. ap not is) stands.past stands.ended))
-    ∙ undo-pending C x log stands.flags
-pending-log Intentions o base log x C V stands = sym stands.whole ∙ ap (map (plain x)) (sym (all-open log stands.flags))
-pending-log Escrow o base log x C V stands = sym stands.whole ∙ ap (map (plain x)) (sym (all-open log stands.flags))
-
--- the earliest of the entries as they live is the first of the entries
+-- the earliest of a log's operations is that of its first entry
 found-alike : (test : Entry → Bool) (own : LogEntry → Bool) (x : ℕ) (log : List LogEntry) → ((e : LogEntry) → test (plain x e) ≡ own e) →
     option_map (λ e. e.by) (earliest test (map (plain x) log)) ≡ option_map (λ e. e.by) (find own log)
 found-alike test own x [] same = refl
@@ -88,13 +83,13 @@ found-alike test own x (e ∷ log) same =
       | inr fails ↦ let there : test (plain x e) ≡ false = same e ∙ fails in rw (there, fails) (found-alike test own x log same)
     ]
 
-stops-in_log : (recovery : Kind) (o : Object) → o.kind ≡ recovery → (base : ℕ) (log : List LogEntry) (x : ℕ) (s : Seen) (t k : ℕ) → AreInRun s → StandsBy recovery o base log x s.committed (at_object x s.stands) →
-    option_map (λ e. e.by) (earliest (conflicts_with o s x t k) (at_object x s.stands)) ≡ option_map (λ e. e.by) (find (λ e. not (e.by == t) && stops_by recovery o base log t k e) (filter (λ e. not e.done) log))
-stops-in_log recovery o kind base log x s t k known stands =
-    let V : List Entry = at_object x s.stands in
-    ap (option_map (λ (e : Entry). e.by)) (blocker-pending o s x t k known ∙ ap (earliest (λ e. not (e.by == t) && stops_at o.kind o s.committed V t k e)) (pending-log recovery o base log x s.committed V stands))
+stops-in_log : (recovery : Kind) (o : Object) → o.kind ≡ recovery → (base : ℕ) (log : List LogEntry) (x : ℕ) (s : Summary) (t k : ℕ) → AreInRun s → RepresentsBy recovery o base log x s.committed (at_object x s.survives) →
+    option_map (λ e. e.by) (earliest (conflicts_with o s x t k) (at_object x s.survives)) ≡ option_map (λ e. e.by) (find (λ e. not (e.by == t) && stops_by recovery o base log t k e) (filter (λ e. not e.done) log))
+stops-in_log recovery o kind base log x s t k known represents =
+    let V : List Entry = at_object x s.survives in
+    ap (option_map (λ (e : Entry). e.by)) (blocker-pending o s x t k known ∙ ap (earliest (λ e. not (e.by == t) && stops_at o.kind o s.committed V t k e)) (pending-log recovery o base log x s.committed V represents))
     ∙ found-alike (λ e. not (e.by == t) && stops_at o.kind o s.committed V t k e) (λ e. not (e.by == t) && stops_by recovery o base log t k e) x (filter (λ e. not e.done) log)
-    (λ e. ap (λ b. not (e.by == t) && b) (ap (λ way. stops_at way o s.committed V t k (plain x e)) kind ∙ stops_alike recovery o base log x s.committed V t k e stands))
+    (λ e. ap (λ b. not (e.by == t) && b) (ap (λ way. stops_at way o s.committed V t k (plain x e)) kind ∙ stops_alike recovery o base log x s.committed V t k e represents))
 
 pub stopper_blocks : StopperIsBlocker
-stopper_blocks = λ objects H x t k m run stands. stops-in_log m.checked.kind (object m) refl m.base m.log x (seen H) t k (transactions_in_run objects H run) stands
+stopper_blocks = λ objects H x t k m run represents. stops-in_log m.checked.kind (object m) refl m.base m.log x (summary H) t k (transactions_in_run objects H run) represents

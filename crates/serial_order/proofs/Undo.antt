@@ -1,10 +1,9 @@
--- Update in place: what stands is legal, locked, and sorts into commit order; and stays so.
+-- Update in place: what survives is legal, locked, and sorts into commit order; and stays so.
 use Rattle.std.proofs.Common.{◌≡◌, ℕ, true, false, not, ◌==◌, List, [], ◌∷◌, ◌++◌, filter, drop, Some, ◌∙◌}
 use Rattle.std.specs.List.{AllByRecursion}
 use Rattle.std.proofs.lemmas.Bool.{not-true, not_from_false, and_parts, and_from, or_parts, eqb-true}
 use Rattle.std.proofs.lemmas.List.{append_assoc}
 use Rattle.type_table.specs.Commute.{Covers, CommutesBackward}
-use Rattle.type_table.specs.Laws.{RunsAlong}
 use Rattle.type_table.specs.declared.table_kind.TableKind.TheVariants.{Undo}
 use Rattle.type_table.proofs.Elements.{each-append, each-passes, eqb-sym}
 use Rattle.type_table.proofs.Legal.{legal-front}
@@ -49,7 +48,7 @@ passes-commute o covers a b passes = covers.commute b.op a.op (passes_parts o a 
 
 -- ---- an operation
 
--- what stands sorts into commit order after an operation of no committed transaction
+-- what survives sorts into commit order after an operation of no committed transaction
 sorts-op : (o : Object) (C : List ℕ) (V : List Entry) (e : Entry) → is_among C e.by ≡ false → Sorts (may_pass o) V (serial C V ++ pending C V) →
     Sorts (may_pass o) (V ++ e ∷ []) (serial C (V ++ e ∷ []) ++ pending C (V ++ e ∷ []))
 sorts-op o C V e uncommitted sorts =
@@ -73,15 +72,15 @@ mine-passes o C t uncommitted a b free mine other =
     let apart : (b.by == a.by) ≡ false = rw by other in
     passes_from o a b apart (free (rw by uncommitted) apart)
 
--- what stands is legal without the last operations of t
-struck-legal : RunsAlong → PartsSort Entry → StruckPart Entry → SortsLook Entry → (o : Object) (C : List ℕ) (V : List Entry) (t n : ℕ) → Covers Undo o.table o.set o.conflicts →
+-- what survives is legal without the last operations of t
+struck-legal : PartsSort Entry → StruckPart Entry → SortsLook Entry → (o : Object) (C : List ℕ) (V : List Entry) (t n : ℕ) → Covers Undo o.table o.set o.conflicts →
     is_among C t ≡ false → Pairs (IsHeldFree o C) V → IsLegalAt o (ops V) → IsLegalAt o (ops (keep_first (is_by t) n V))
-struck-legal along parts strike sorts o C V t n covers uncommitted locked legal =
+struck-legal parts strike sorts o C V t n covers uncommitted locked legal =
     let left : List Entry = keep_first (is_by t) n V in
     let gone : List Entry = drop n (of t V) in
     let sorted = parts (may_pass o) V left gone (strike (may_pass o) (is_by t) n V (pairs-weaker (mine-passes o C t uncommitted) V locked)) in
     let looks = sorts o.table o.set (λ e. e.op) (may_pass o) o.table.initial V (left ++ gone) covers.closed covers.begins_inside (passes-commute o covers) sorted legal in
-    legal-front along o.table (Some o.table.initial) (ops left) (ops gone) (rw (ops-append left gone) at looks.0)
+    legal-front o.table (Some o.table.initial) (ops left) (ops gone) (rw (ops-append left gone) at looks.0)
 
 -- no operation of the serial order is of a transaction that isn't committed
 serial-others : (C : List ℕ) (t : ℕ) (V : List Entry) → is_among C t ≡ false → AllByRecursion (λ e. is_by t e ≡ false) (serial C V)
@@ -95,7 +94,7 @@ serial-others (u ∷ C) t V uncommitted =
 exchanged-apart : (o : Object) (t : ℕ) (a b : Entry) → may_pass o a b ≡ true → is_by t a ≡ true → is_by t b ≡ false
 exchanged-apart o t a b passes mine = rw (eqb-true a.by t mine) at (passes_parts o a b passes).0
 
--- what stands sorts into commit order after a strike of a transaction that isn't committed
+-- what survives sorts into commit order after a strike of a transaction that isn't committed
 sorts-strike : (o : Object) (C : List ℕ) (V : List Entry) (t n : ℕ) → is_among C t ≡ false → Sorts (may_pass o) V (serial C V ++ pending C V) →
     Sorts (may_pass o) (keep_first (is_by t) n V) (serial C (keep_first (is_by t) n V) ++ pending C (keep_first (is_by t) n V))
 sorts-strike o C V t n uncommitted sorts =
@@ -103,10 +102,10 @@ sorts-strike o C V t n uncommitted sorts =
     (sorts-keep_first (is_by t) (exchanged-apart o t) n V (serial C V ++ pending C V) sorts)
 
 -- they are kept by a strike
-pub undo_strike : RunsAlong → PartsSort Entry → StruckPart Entry → SortsLook Entry → UndoStrike
-undo_strike along parts strike sorts = λ o C V t n covered kind uncommitted facts. record {
+pub undo_strike : PartsSort Entry → StruckPart Entry → SortsLook Entry → UndoStrike
+undo_strike parts strike sorts = λ o C V t n covered kind uncommitted facts. record {
   locked = pairs-keep_first (IsHeldFree o C) (is_by t) n V facts.locked;
-  legal = struck-legal along parts strike sorts o C V t n (covers_undo o covered kind) uncommitted facts.locked facts.legal;
+  legal = struck-legal parts strike sorts o C V t n (covers_undo o covered kind) uncommitted facts.locked facts.legal;
   sorts = sorts-strike o C V t n uncommitted facts.sorts;
 }
 
@@ -128,7 +127,7 @@ pending-sorts parts o C V t uncommitted locked =
     let two = parts-mine (may_pass o) (is_by t) (pending C V) free_pending in
     rw (of-pending C t V uncommitted) at (parts (may_pass o) (pending C V) (of t (pending C V)) others two)
 
--- what stands sorts into commit order after a commit
+-- what survives sorts into commit order after a commit
 sorts-commit : PartsSort Entry → (o : Object) (C : List ℕ) (V : List Entry) (t : ℕ) → is_among C t ≡ false → Pairs (IsHeldFree o C) V →
     Sorts (may_pass o) V (serial C V ++ pending C V) → Sorts (may_pass o) V (serial (C ++ t ∷ []) V ++ pending (C ++ t ∷ []) V)
 sorts-commit parts o C V t uncommitted locked sorts =

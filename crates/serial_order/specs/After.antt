@@ -1,4 +1,4 @@
--- What a history says after one more event, told by what it said before; and what is known of every run. Statements of their laws.
+-- What a history says after one more event, by what it said before; and what is known of every run. Statements of their laws.
 use Rattle.std.specs.Prelude.{◌≡◌, ℕ, suc, ◌-◌, ◌<◌, ◌≤◌, List, [], ◌∷◌, ◌++◌, length, map, Bool, true, false, not, ◌&&◌, ◌||◌, ◌==◌, Some, slice_get}
 use Rattle.std.specs.List.{flat_map, AllByRecursion}
 use Rattle.type_table.specs.Table.{Table}
@@ -11,28 +11,28 @@ use Rattle.object_trait.specs.declared.event.EventKind.{EventKind}
 use Rattle.object_trait.specs.declared.event.EventKind.TheVariants as kind
 use Rattle.object_trait.specs.declared.event.EventKind.TheVariants.{Begin, Op, Busy, Commit, Abort, Rollback}
 use Rattle.serial_order.specs.Operations.{is_among, ops, is_by, of}
-use Rattle.serial_order.specs.History.{Seen, seen, is_open, standing, IsOperation, MayStand}
+use Rattle.serial_order.specs.History.{Summary, summary, is_open, surviving, IsOperation, ContinuesHistory}
 use Rattle.serial_order.specs.Machine.{May, IsRun}
 use Rattle.serial_order.specs.Replay.{open_count}
-use Rattle.serial_order.specs.Serial.{standing_at}
-use Rattle.serial_order.specs.Stand.{StandsFor, IsIdle}
+use Rattle.serial_order.specs.Serial.{surviving_at}
+use Rattle.serial_order.specs.Represent.{Represents, IsIdle}
 
 -- ---- one more event
 
 -- what is seen after the event
-abbrev pub after : Seen → EventKind → Seen
-after s (Begin t) = record s { begun = suc s.begun }
-after s (Op t x k) = record s { stands = s.stands ++ (record { by = t; at = x; op = k }) ∷ [] }
-after s (Commit t) = record s { committed = s.committed ++ t ∷ [] }
-after s (Abort t) = record s { aborted = s.aborted ++ t ∷ []; stands = keep_first (is_by t) 0 s.stands }
-after s (Rollback t n) = record s { stands = keep_first (is_by t) (length (of t s.stands) - n) s.stands }
-after s _ = s
+abbrev pub summary_next : Summary → EventKind → Summary
+summary_next s (Begin t) = record s { begun = suc s.begun }
+summary_next s (Op t x k) = record s { survives = s.survives ++ (record { by = t; at = x; op = k }) ∷ [] }
+summary_next s (Commit t) = record s { committed = s.committed ++ t ∷ [] }
+summary_next s (Abort t) = record s { aborted = s.aborted ++ t ∷ []; survives = keep_first (is_by t) 0 s.survives }
+summary_next s (Rollback t n) = record s { survives = keep_first (is_by t) (length (of t s.survives) - n) s.survives }
+summary_next s _ = s
 
-abbrev pub SeenAfter : Type 0
-SeenAfter = (H : List Event) (e : Event) → seen (H ++ e ∷ []) ≡ after (seen H) e.kind
+abbrev pub SummaryAfter : Type 0
+SummaryAfter = (H : List Event) (e : Event) → summary (H ++ e ∷ []) ≡ summary_next (summary H) e.kind
 
 -- u is open after the event, where it may come next
-abbrev pub is_open_after : Seen → EventKind → ℕ → Bool
+abbrev pub is_open_after : Summary → EventKind → ℕ → Bool
 is_open_after s (Begin t) u = u == t || is_open s u
 is_open_after s (Commit t) u = not (u == t) && is_open s u
 is_open_after s (Abort t) u = not (u == t) && is_open s u
@@ -48,29 +48,29 @@ CountsTo _ before now = now ≡ before
 -- ---- transactions of a run
 
 -- what is known of the transactions of a run
-pub record AreInRun (s : Seen) : Type 0 where
+pub record AreInRun (s : Summary) : Type 0 where
   -- a transaction that ended began
   pub committed_began : (t : ℕ) → is_among s.committed t ≡ true → t < s.begun
   pub aborted_began : (t : ℕ) → is_among s.aborted t ≡ true → t < s.begun
   -- none both committed and aborted
   pub apart : (t : ℕ) → is_among s.committed t ≡ true → is_among s.aborted t ≡ false
-  -- the operations that live are of transactions that began and didn't abort
-  pub stand : AllByRecursion (λ e. (e.by < s.begun) × (is_among s.aborted e.by ≡ false)) s.stands
+  -- the operations that survive are of transactions that began and didn't abort
+  pub survive : AllByRecursion (λ e. (e.by < s.begun) × (is_among s.aborted e.by ≡ false)) s.survives
 
 abbrev pub TransactionsInRun : Type 0
-TransactionsInRun = (objects : List Object) (H : List Event) → IsRun objects H → AreInRun (seen H)
+TransactionsInRun = (objects : List Object) (H : List Event) → IsRun objects H → AreInRun (summary H)
 
 -- an event that may come next opens and ends transactions as it says
 abbrev pub OpensAfter : Type 0
 OpensAfter =
-    (objects : List Object) (s : Seen) (happened : EventKind) → AreInRun s → May objects s happened
-    → ((u : ℕ) → is_open (after s happened) u ≡ is_open_after s happened u) × CountsTo happened (open_count s) (open_count (after s happened))
+    (objects : List Object) (s : Summary) (happened : EventKind) → AreInRun s → May objects s happened
+    → ((u : ℕ) → is_open (summary_next s happened) u ≡ is_open_after s happened u) × CountsTo happened (open_count s) (open_count (summary_next s happened))
 
 -- and so does one that may come next in a history, whether the machine allows it or not; and what is known stays so
 abbrev pub HistoryOpensAfter : Type 0
 HistoryOpensAfter =
-    (tables : List Table) (s : Seen) (happened : EventKind) → AreInRun s → MayStand tables s happened
-    → AreInRun (after s happened) × ((u : ℕ) → is_open (after s happened) u ≡ is_open_after s happened u)
+    (tables : List Table) (s : Summary) (happened : EventKind) → AreInRun s → ContinuesHistory tables s happened
+    → AreInRun (summary_next s happened) × ((u : ℕ) → is_open (summary_next s happened) u ≡ is_open_after s happened u)
 
 -- the worker by whose event a transaction began, where it is one
 abbrev pub beginner : ℕ → EventKind → List ℕ
@@ -84,7 +84,7 @@ beginners H = flat_map (λ e. beginner e.worker e.kind) H
 -- there is one for each transaction, and one more after each begin
 abbrev pub BeginnersAfter : Type 0
 BeginnersAfter =
-    (H : List Event) → (length (beginners H) ≡ (seen H).begun) × ((e : Event) → beginners (H ++ e ∷ []) ≡ beginners H ++ beginner e.worker e.kind)
+    (H : List Event) → (length (beginners H) ≡ (summary H).begun) × ((e : Event) → beginners (H ++ e ∷ []) ≡ beginners H ++ beginner e.worker e.kind)
 
 -- ---- numbers of a run
 
@@ -99,7 +99,7 @@ AreBelow objects ops n (Commit t) = t < n
 AreBelow objects ops n (Abort t) = t < n
 AreBelow objects ops n (Rollback t k) = (t < n) × (0 < k) × (k < n)
 
--- in a run over objects of no more operations than so many, each event names what is there: an object, an operation, and transactions
+-- in a run over objects of no more operations than these, each event names what is there: an object, an operation, and transactions
 -- by numbers below the number of events, of which a rollback strikes fewer
 abbrev pub NumbersInRun : Type 0
 NumbersInRun =
@@ -109,22 +109,22 @@ NumbersInRun =
 
 -- ---- operations of a run, and objects that represent it
 
--- each operation that lives is of the table of an object that is there
+-- each operation that survives is of the table of an object that is there
 abbrev pub OperationsInRun : Type 0
 OperationsInRun =
     (objects : List Object) (H : List Event) → IsRun objects H
-    → AllByRecursion (λ e. IsOperation (slice_get (map (λ o. o.table) objects) e.at) e.op) (standing H)
+    → AllByRecursion (λ e. IsOperation (slice_get (map (λ o. o.table) objects) e.at) e.op) (surviving H)
 
--- the open entries of an open transaction are its operations that live there, and the log is no longer than the history
+-- the open entries of an open transaction are its operations that survive there, and the log is no longer than the history
 pub record IsCounted (m : Meaning) (x : ℕ) (H : List Event) : Type 0 where
   pub short : length m.log ≤ length H
-  pub own : (t : ℕ) → is_open (seen H) t ≡ true → ops_of (open_of t m.log) ≡ ops (of t (standing_at x H))
+  pub own : (t : ℕ) → is_open (summary H) t ≡ true → ops_of (open_of t m.log) ≡ ops (of t (surviving_at x H))
 
 abbrev pub LogsAreCounted : Type 0
-LogsAreCounted = (m : Meaning) (x : ℕ) (H : List Event) → StandsFor m x H → IsCounted m x H
+LogsAreCounted = (m : Meaning) (x : ℕ) (H : List Event) → Represents m x H → IsCounted m x H
 
 -- where no open transaction has an operation at x, none is open at the object there
 abbrev pub IdleIsClosed : Type 0
 IdleIsClosed =
-    (objects : List Object) (m : Meaning) (x : ℕ) (H : List Event) → IsRun objects H → StandsFor m x H → IsIdle x H
+    (objects : List Object) (m : Meaning) (x : ℕ) (H : List Event) → IsRun objects H → Represents m x H → IsIdle x H
     → open_transactions m.log ≡ []

@@ -6,7 +6,7 @@ use Rattle.object_trait.specs.declared.event.EventKind.{EventKind}
 use Rattle.object_trait.specs.declared.event.EventKind.TheVariants as kind
 use Rattle.object_trait.specs.declared.event.EventKind.TheVariants.{Op, Busy}
 use Rattle.serial_order.specs.Operations.{at_object}
-use Rattle.serial_order.specs.History.{Seen}
+use Rattle.serial_order.specs.History.{Summary}
 use Rattle.serial_order.specs.View.{is_legal_for, conflicts_with, is_of_call}
 use Rattle.serial_order.specs.declared.entry.Entry.{Entry}
 
@@ -16,15 +16,15 @@ earliest test [] = None
 earliest test (e ∷ V) = cond (test e) (Some e) (earliest test V)
 
 -- the earliest operation at x that keeps t from k
-abbrev pub blocker : Object → Seen → ℕ → ℕ → ℕ → Option Entry
-blocker o s x t k = earliest (conflicts_with o s x t k) (at_object x s.stands)
+abbrev pub blocker : Object → Summary → ℕ → ℕ → ℕ → Option Entry
+blocker o s x t k = earliest (conflicts_with o s x t k) (at_object x s.survives)
 
 -- an operation of the call that is legal for t
-abbrev pub is_reply : Object → Seen → ℕ → ℕ → ℕ → ℕ → Bool
+abbrev pub is_reply : Object → Summary → ℕ → ℕ → ℕ → ℕ → Bool
 is_reply o s x t c k = is_of_call o c k && is_legal_for o s x t k
 
 -- and that nothing blocks
-abbrev pub is_free_reply : Object → Seen → ℕ → ℕ → ℕ → ℕ → Bool
+abbrev pub is_free_reply : Object → Summary → ℕ → ℕ → ℕ → ℕ → Bool
 is_free_reply o s x t c k = is_reply o s x t c k && not (is_some (blocker o s x t k))
 
 -- `Busy` with the holder of the operation that blocks
@@ -33,14 +33,14 @@ busy_with None t x c = kind.None t x c
 busy_with (Some e) t x c = Busy c t x e.by
 
 -- `Busy` where some operation is legal, with the blocker of the first legal one; else `None`
-abbrev pub refused : Object → Seen → ℕ → ℕ → ℕ → Option ℕ → EventKind
+abbrev pub refused : Object → Summary → ℕ → ℕ → ℕ → Option ℕ → EventKind
 refused o s x t c None = kind.None t x c
 refused o s x t c (Some k) = busy_with (blocker o s x t k) t x c
 
-abbrev pub answered : Object → Seen → ℕ → ℕ → ℕ → Option ℕ → EventKind
-answered o s x t c (Some k) = Op t x k
-answered o s x t c None = refused o s x t c (first_below (length o.table.ops) (is_reply o s x t c))
+abbrev pub event_of_first : Object → Summary → ℕ → ℕ → ℕ → Option ℕ → EventKind
+event_of_first o s x t c (Some k) = Op t x k
+event_of_first o s x t c None = refused o s x t c (first_below (length o.table.ops) (is_reply o s x t c))
 
 -- the event of a call c of t at the object at x: the first operation of the call that is legal and free, in table order
-abbrev pub event_of_call : Object → Seen → ℕ → ℕ → ℕ → EventKind
-event_of_call o s x t c = answered o s x t c (first_below (length o.table.ops) (is_free_reply o s x t c))
+abbrev pub event_of_call : Object → Summary → ℕ → ℕ → ℕ → EventKind
+event_of_call o s x t c = event_of_first o s x t c (first_below (length o.table.ops) (is_free_reply o s x t c))

@@ -8,10 +8,10 @@ use Rattle.object_trait.specs.Meaning.{Meaning, state_of}
 use Rattle.object_trait.specs.Sound.{IsSound}
 use Rattle.object_trait.specs.declared.event.Event.{Event}
 use Rattle.serial_order.specs.Operations.{ops}
-use Rattle.serial_order.specs.History.{seen, is_open}
+use Rattle.serial_order.specs.History.{summary, is_open}
 use Rattle.serial_order.specs.Machine.{IsRun}
 use Rattle.serial_order.specs.Serial.{serial_at}
-use Rattle.serial_order.specs.Stand.{StandsFor, IsIdle, KeptAgreesBy}
+use Rattle.serial_order.specs.Represent.{Represents, IsIdle, KeptAgreesBy}
 use Rattle.serial_order.specs.Laws.{AreChecked}
 
 -- a history, and at its end the state that was kept of each object
@@ -80,7 +80,7 @@ StatesAreInside = (m : Meaning) (s : ℕ) → IsChecked m.checked → IsSound m 
 abbrev pub ClosedIsEpoch : Type 0
 ClosedIsEpoch =
     (ms : List Meaning) (e : Epoch) → AreChecked (map (λ (m : Meaning). m.checked) ms) → IsRun (map object_of (map (λ (m : Meaning). m.checked) ms)) e.history
-    → ((t : ℕ) → is_open (seen e.history) t ≡ false)
-    → ((x : ℕ) (m : Meaning) → slice_get ms x ≡ Some m → IsSound m × StandsFor m x e.history)
+    → ((t : ℕ) → is_open (summary e.history) t ≡ false)
+    → ((x : ℕ) (m : Meaning) → slice_get ms x ≡ Some m → IsSound m × Represents m x e.history)
     → ((x : ℕ) (m : Meaning) (s : ℕ) → slice_get ms x ≡ Some m → slice_get e.kept x ≡ Some s → state_of m ≡ Some s)
     → IsEpoch (map (λ (m : Meaning). m.checked) ms) e

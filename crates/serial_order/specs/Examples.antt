@@ -13,7 +13,7 @@ use Rattle.object_trait.specs.declared.event.Event.{Event}
 use Rattle.object_trait.specs.declared.event.EventKind.{EventKind}
 use Rattle.object_trait.specs.declared.event.EventKind.TheVariants as kind
 use Rattle.object_trait.specs.declared.event.EventKind.TheVariants.{Begin, Op, Commit, Abort, Rollback}
-use Rattle.serial_order.specs.History.{Seen, seen}
+use Rattle.serial_order.specs.History.{Summary, summary}
 use Rattle.serial_order.specs.declared.command.Command.{Command}
 use Rattle.serial_order.specs.declared.command.Command.TheVariants as command
 use Rattle.serial_order.specs.declared.entry.Entry.{Entry}
@@ -29,8 +29,8 @@ abbrev pub entry : ℕ → ℕ → ℕ → Entry
 entry t x k = record { by = t; at = x; op = k }
 
 -- what the first n of some events say
-abbrev pub seen_first : ℕ → List Event → Seen
-seen_first n H = seen (take n H)
+abbrev pub seen_first : ℕ → List Event → Summary
+seen_first n H = summary (take n H)
 
 -- ---- objects
 

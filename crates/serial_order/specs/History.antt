@@ -36,30 +36,30 @@ commits H = flat_map (λ e. committed_by e.kind) H
 abbrev pub aborts : List Event → List ℕ
 aborts H = flat_map (λ e. aborted_by e.kind) H
 
--- the operations that live after one more event: an abort strikes all of its transaction, a rollback the last n of its
+-- the operations that survive after one more event: an abort strikes all of its transaction, a rollback the last n of its
 -- transaction, over all objects together
-abbrev pub stand_after : List Entry → EventKind → List Entry
-stand_after V (Op t x k) = V ++ (record { by = t; at = x; op = k }) ∷ []
-stand_after V (Abort t) = keep_first (is_by t) 0 V
-stand_after V (Rollback t n) = keep_first (is_by t) (length (of t V) - n) V
-stand_after V _ = V
+abbrev pub survive_after : List Entry → EventKind → List Entry
+survive_after V (Op t x k) = V ++ (record { by = t; at = x; op = k }) ∷ []
+survive_after V (Abort t) = keep_first (is_by t) 0 V
+survive_after V (Rollback t n) = keep_first (is_by t) (length (of t V) - n) V
+survive_after V _ = V
 
 -- the operations that aren't struck, in the order in which they were executed
-abbrev pub standing : List Event → List Entry
-standing H = fold (λ V e. stand_after V e.kind) [] H
+abbrev pub surviving : List Event → List Entry
+surviving H = fold (λ V e. survive_after V e.kind) [] H
 
 -- all of it
-pub record Seen : Type 0 where
+pub record Summary : Type 0 where
   pub begun : ℕ
   pub committed : List ℕ
   pub aborted : List ℕ
-  pub stands : List Entry
+  pub survives : List Entry
 
-abbrev pub seen : List Event → Seen
-seen H = record { begun = begins H; committed = commits H; aborted = aborts H; stands = standing H }
+abbrev pub summary : List Event → Summary
+summary H = record { begun = begins H; committed = commits H; aborted = aborts H; survives = surviving H }
 
 -- the transaction began and didn't end
-abbrev pub is_open : Seen → ℕ → Bool
+abbrev pub is_open : Summary → ℕ → Bool
 is_open s t = nat_lt t s.begun && (not (is_among s.committed t) && not (is_among s.aborted t))
 
 -- ---- which lists of events are histories
@@ -71,19 +71,19 @@ IsOperation (Some T) k = k < length T.ops
 
 -- the event names what is there: a new transaction by its number, else an open one, objects and operations of their tables; and a
 -- rollback strikes at least one operation and no more than its transaction has
-abbrev pub MayStand : List Table → Seen → EventKind → Type 0
-MayStand tables s (Begin t) = t ≡ s.begun
-MayStand tables s (Op t x k) = (is_open s t ≡ true) × IsOperation (slice_get tables x) k
-MayStand tables s (Busy c t x u) = (is_open s t ≡ true) × IsOperation (slice_get tables x) c
-MayStand tables s (kind.None t x c) = (is_open s t ≡ true) × IsOperation (slice_get tables x) c
-MayStand tables s (Commit t) = is_open s t ≡ true
-MayStand tables s (Abort t) = is_open s t ≡ true
-MayStand tables s (Rollback t n) = (is_open s t ≡ true) × (0 < n) × (n ≤ length (of t s.stands))
+abbrev pub ContinuesHistory : List Table → Summary → EventKind → Type 0
+ContinuesHistory tables s (Begin t) = t ≡ s.begun
+ContinuesHistory tables s (Op t x k) = (is_open s t ≡ true) × IsOperation (slice_get tables x) k
+ContinuesHistory tables s (Busy c t x u) = (is_open s t ≡ true) × IsOperation (slice_get tables x) c
+ContinuesHistory tables s (kind.None t x c) = (is_open s t ≡ true) × IsOperation (slice_get tables x) c
+ContinuesHistory tables s (Commit t) = is_open s t ≡ true
+ContinuesHistory tables s (Abort t) = is_open s t ≡ true
+ContinuesHistory tables s (Rollback t n) = (is_open s t ≡ true) × (0 < n) × (n ≤ length (of t s.survives))
 
 -- each event may come where it does, after those before it
-abbrev pub GoesOn : List Table → List Event → List Event → Type 0
-GoesOn tables before [] = Unit {0}
-GoesOn tables before (e ∷ es) = MayStand tables (seen before) e.kind × GoesOn tables (before ++ e ∷ []) es
+abbrev pub AllContinue : List Table → List Event → List Event → Type 0
+AllContinue tables before [] = Unit {0}
+AllContinue tables before (e ∷ es) = ContinuesHistory tables (summary before) e.kind × AllContinue tables (before ++ e ∷ []) es
 
 abbrev pub IsHistory : List Table → List Event → Type 0
-IsHistory tables H = GoesOn tables [] H
+IsHistory tables H = AllContinue tables [] H

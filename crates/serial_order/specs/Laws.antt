@@ -13,14 +13,14 @@ use Rattle.object_trait.specs.declared.event.Event.{Event}
 use Rattle.object_trait.specs.declared.event.EventKind.{EventKind}
 use Rattle.object_trait.specs.declared.event.EventKind.TheVariants.{Op, Commit}
 use Rattle.serial_order.specs.Operations.{is_by, ops}
-use Rattle.serial_order.specs.History.{standing, seen, is_open, IsHistory}
+use Rattle.serial_order.specs.History.{surviving, summary, is_open, IsHistory}
 use Rattle.serial_order.specs.View.{view, is_legal_for}
 use Rattle.serial_order.specs.Machine.{IsFirstOfCall, MayFollow, IsRun, AreCovered}
-use Rattle.serial_order.specs.Serial.{standing_at, serial_at, pending_at, IsSerial}
-use Rattle.serial_order.specs.Stand.{StandsFor, Changes, KeptAgrees}
+use Rattle.serial_order.specs.Serial.{surviving_at, serial_at, pending_at, IsSerial}
+use Rattle.serial_order.specs.Represent.{Represents, Changes, KeptAgrees}
 use Rattle.serial_order.specs.Answer.{blocker, event_of_call}
 use Rattle.std.specs.Option.{option_map}
-use Rattle.serial_order.specs.Readings.{staying}
+use Rattle.serial_order.specs.Readings.{survivors}
 use Rattle.serial_order.specs.Replay.{refusal, event_of, replay}
 use Rattle.serial_order.specs.declared.command.Command.{Command}
 use Rattle.serial_order.specs.declared.entry.Entry.{Entry}
@@ -36,9 +36,9 @@ RunIsHistory = (objects : List Object) (H : List Event) → IsRun objects H → 
 abbrev pub RunGoesOn : Type 0
 RunGoesOn = (objects : List Object) (H : List Event) (e : Event) → IsRun objects H → MayFollow objects H e → IsRun objects (H ++ e ∷ [])
 
--- what lives is each operation that stays by the events behind it
-abbrev pub StandsAsRead : Type 0
-StandsAsRead = (H : List Event) → standing H ≡ staying H
+-- what survives is each operation that stays by the events after it
+abbrev pub SurvivesAsRead : Type 0
+SurvivesAsRead = (H : List Event) → surviving H ≡ survivors H
 
 -- ---- answers
 
@@ -50,23 +50,23 @@ FirstOpIsLeast = (o : Object) (name : List ℕ) (c : ℕ) → first_op o.table n
 abbrev pub AnswerMayFollow : Type 0
 AnswerMayFollow =
     (objects : List Object) (H : List Event) (x : ℕ) (o : Object) (w t c : ℕ)
-    → slice_get objects x ≡ Some o → is_open (seen H) t ≡ true → IsFirstOfCall o c
-    → MayFollow objects H (record { worker = w; kind = event_of_call o (seen H) x t c })
+    → slice_get objects x ≡ Some o → is_open (summary H) t ≡ true → IsFirstOfCall o c
+    → MayFollow objects H (record { worker = w; kind = event_of_call o (summary H) x t c })
 
 -- the history after any commands is a run
 abbrev pub ReplayRuns : Type 0
 ReplayRuns =
-    (objects : List Object) (most : ℕ) (wanting : ℕ → Bool) (H : List Event) (commands : List (ℕ × Command))
-    → IsRun objects H → IsRun objects (replay objects most wanting H commands)
+    (objects : List Object) (most : ℕ) (memory_refused : ℕ → Bool) (H : List Event) (commands : List (ℕ × Command))
+    → IsRun objects H → IsRun objects (replay objects most memory_refused H commands)
 
 -- the command appends one event, of this worker: it is the command's, and may follow
 pub record IsAppended (objects : List Object) (most : ℕ) (H : List Event) (w : ℕ) (command : Command) : Type 0 where
   pub happened : EventKind
-  pub is : event_of objects (seen H) command ≡ Some happened
+  pub is : event_of objects (summary H) command ≡ Some happened
   pub may_follow : MayFollow objects H (record { worker = w; kind = happened })
   pub appends : replay objects most (λ _. false) H ((w, command) ∷ []) ≡ H ++ (record { worker = w; kind = happened }) ∷ []
 
--- where memory isn't wanted, a command that isn't refused appends its event
+-- where memory isn't refused, a command that isn't refused appends its event
 abbrev pub CommandAppends : Type 0
 CommandAppends =
     (objects : List Object) (most : ℕ) (H : List Event) (w : ℕ) (command : Command)
@@ -81,28 +81,28 @@ RefusedAppendsNothing =
 -- the replay of two lists is that of the second after that of the first, with places counted on
 abbrev pub ReplaysJoin : Type 0
 ReplaysJoin =
-    (objects : List Object) (most : ℕ) (wanting : ℕ → Bool) (H : List Event) (first second : List (ℕ × Command))
-    → replay objects most wanting H (first ++ second)
-    ≡ replay objects most (λ i. wanting (length first + i)) (replay objects most wanting H first) second
+    (objects : List Object) (most : ℕ) (memory_refused : ℕ → Bool) (H : List Event) (first second : List (ℕ × Command))
+    → replay objects most memory_refused H (first ++ second)
+    ≡ replay objects most (λ i. memory_refused (length first + i)) (replay objects most memory_refused H first) second
 
 -- ---- update in place
 
--- a, which comes before b, may move behind it
+-- a, which comes before b, may move after it
 abbrev pub may_pass : Object → Entry → Entry → Bool
 may_pass o a b = not (b.by == a.by) && not (o.conflicts b.op a.op)
 
--- commit order: what lives sorts, neighbour by neighbour, into commit order with the open transactions last
+-- commit order: what survives sorts, neighbour by neighbour, into commit order with the open transactions last
 abbrev pub SortsIntoCommitOrder : Type 0
 SortsIntoCommitOrder =
     (objects : List Object) (H : List Event) (x : ℕ) (o : Object) → AreCovered objects → IsRun objects H
-    → slice_get objects x ≡ Some o → o.kind ≡ Undo → Sorts (may_pass o) (standing_at x H) (serial_at x H ++ pending_at x H)
+    → slice_get objects x ≡ Some o → o.kind ≡ Undo → Sorts (may_pass o) (surviving_at x H) (serial_at x H ++ pending_at x H)
 
 -- strike and abort: the view without the last operations of an open transaction is legal, however many of them stay
 abbrev pub StruckViewIsLegal : Type 0
 StruckViewIsLegal =
     (objects : List Object) (H : List Event) (x : ℕ) (o : Object) (t n : ℕ) → AreCovered objects → IsRun objects H
-    → slice_get objects x ≡ Some o → o.kind ≡ Undo → is_open (seen H) t ≡ true
-    → IsLegal o.table (Some o.table.initial) (ops (keep_first (is_by t) n (standing_at x H)))
+    → slice_get objects x ≡ Some o → o.kind ≡ Undo → is_open (summary H) t ≡ true
+    → IsLegal o.table (Some o.table.initial) (ops (keep_first (is_by t) n (surviving_at x H)))
 
 -- ---- all kinds
 
@@ -110,53 +110,53 @@ StruckViewIsLegal =
 abbrev pub ViewsAreLegal : Type 0
 ViewsAreLegal =
     (objects : List Object) (H : List Event) (x : ℕ) (o : Object) (t : ℕ) → AreCovered objects → IsRun objects H
-    → slice_get objects x ≡ Some o → is_open (seen H) t ≡ true → IsLegal o.table (Some o.table.initial) (ops (view o.kind (seen H) x t))
+    → slice_get objects x ≡ Some o → is_open (summary H) t ≡ true → IsLegal o.table (Some o.table.initial) (ops (view o.kind (summary H) x t))
 
 -- a commit keeps the view of every other open transaction legal
 abbrev pub CommitKeepsViews : Type 0
 CommitKeepsViews =
     (objects : List Object) (H : List Event) (x : ℕ) (o : Object) (w t u : ℕ) → AreCovered objects → IsRun objects H
-    → slice_get objects x ≡ Some o → is_open (seen H) t ≡ true → is_open (seen H) u ≡ true → (u == t) ≡ false
-    → IsLegal o.table (Some o.table.initial) (ops (view o.kind (seen (H ++ (record { worker = w; kind = Commit t }) ∷ [])) x u))
+    → slice_get objects x ≡ Some o → is_open (summary H) t ≡ true → is_open (summary H) u ≡ true → (u == t) ≡ false
+    → IsLegal o.table (Some o.table.initial) (ops (view o.kind (summary (H ++ (record { worker = w; kind = Commit t }) ∷ [])) x u))
 
 -- ---- objects that represent a history
 
 -- a new object represents the empty history
-abbrev pub FreshStands : Type 0
-FreshStands = (m : Meaning) (x : ℕ) → IsFresh m → StandsFor m x []
+abbrev pub FreshRepresents : Type 0
+FreshRepresents = (m : Meaning) (x : ℕ) → IsFresh m → Represents m x []
 
 -- an object goes on representing the history by each kind of event, where the event does to it what it should
-abbrev pub StandsOn : Type 0
-StandsOn =
+abbrev pub RepresentsOn : Type 0
+RepresentsOn =
     (objects : List Object) (H : List Event) (e : Event) (x : ℕ) (old new : Meaning)
     → IsRun objects H → MayFollow objects H e → slice_get objects x ≡ Some (object old)
-    → StandsFor old x H → Changes x (seen H) e.kind old new → StandsFor new x (H ++ e ∷ [])
+    → Represents old x H → Changes x (summary H) e.kind old new → Represents new x (H ++ e ∷ [])
 
 -- what an object allows is what the view allows
 abbrev pub AllowsAlike : Type 0
 AllowsAlike =
-    (m : Meaning) (x : ℕ) (H : List Event) (t k : ℕ) → is_open (seen H) t ≡ true → StandsFor m x H
-    → IsLegalFor m t k ↔ (is_legal_for (object m) (seen H) x t k ≡ true)
+    (m : Meaning) (x : ℕ) (H : List Event) (t k : ℕ) → is_open (summary H) t ≡ true → Represents m x H
+    → IsLegalFor m t k ↔ (is_legal_for (object m) (summary H) x t k ≡ true)
 
 -- who keeps t from k at an object that represents the history is who does by the machine
 abbrev pub StopperIsBlocker : Type 0
 StopperIsBlocker =
-    (objects : List Object) (H : List Event) (x t k : ℕ) (m : Meaning) → IsRun objects H → StandsFor m x H
-    → option_map (λ e. e.by) (blocker (object m) (seen H) x t k) ≡ stopper m t k
+    (objects : List Object) (H : List Event) (x t k : ℕ) (m : Meaning) → IsRun objects H → Represents m x H
+    → option_map (λ e. e.by) (blocker (object m) (summary H) x t k) ≡ stopper m t k
 
 -- an operation that the machine allows may be executed, where the log has room
 abbrev pub MachineMayApply : Type 0
 MachineMayApply =
     (objects : List Object) (H : List Event) (w t x k : ℕ) (m : Meaning)
     → IsRun objects H → MayFollow objects H (record { worker = w; kind = Op t x k }) → slice_get objects x ≡ Some (object m)
-    → StandsFor m x H → length m.log < 4294967295 → MayApply m t k
+    → Represents m x H → length m.log < 4294967295 → MayApply m t k
 
 -- ---- the headline
 
 -- the replies are those of the serial order, and kept states agree with it
 pub record IsSerialAndKept (objects : List Object) (H : List Event) : Type 0 where
   pub serially_legal : IsSerial objects H
-  pub kept : (x : ℕ) (m : Meaning) → slice_get objects x ≡ Some (object m) → StandsFor m x H → KeptAgrees m x H
+  pub kept : (x : ℕ) (m : Meaning) → slice_get objects x ≡ Some (object m) → Represents m x H → KeptAgrees m x H
 
 -- for every list of objects covered for their kinds and every run of the machine, the committed transactions, run one after
 -- another in commit order, give the same replies at every object, with one commit order for all; and where an object represents

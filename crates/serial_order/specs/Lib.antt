@@ -3,7 +3,7 @@ pub mod History
 pub mod View
 pub mod Machine
 pub mod Serial
-pub mod Stand
+pub mod Represent
 pub mod Readings
 pub mod Answer
 pub mod Replay

@@ -1,4 +1,4 @@
--- What lives, told of each operation by counts of the events behind it.
+-- What survives, for each operation by counts of the events after it.
 use Rattle.std.specs.Prelude.{ℕ, suc, List, [], ◌∷◌, ◌++◌, take, length, Bool, false, not, ◌&&◌, ◌==◌, nat_lt, if◌then◌else◌}
 use Rattle.std.specs.List.{list_any, count_by, sum_by, range_with_len}
 use Rattle.object_trait.specs.declared.event.Event.{Event}
@@ -26,20 +26,20 @@ executed t K = count_by (λ e. is_op_of t e.kind) K
 abbrev pub rolled_back : ℕ → List Event → ℕ
 rolled_back t K = sum_by (λ e. taken_back t e.kind) K
 
--- an operation of t with the events K behind it is struck by a rollback: up to one of these t took back more than it executed since
+-- an operation of t with the events K after it is struck by a rollback: up to one of these t took back more than it executed since
 abbrev pub is_rolled_back : ℕ → List Event → Bool
 is_rolled_back t K = list_any (λ n. nat_lt (executed t (take n K)) (rolled_back t (take n K))) (range_with_len 0 (suc (length K)))
 
--- it lives: in K t doesn't abort, and no rollback strikes it
+-- it survives: in K t doesn't abort, and no rollback strikes it
 abbrev pub stays : ℕ → List Event → Bool
 stays t K = not (is_among (aborts K) t) && not (is_rolled_back t K)
 
--- the operation of the event, where it lives with the events K behind it
-abbrev pub staying_op : EventKind → List Event → List Entry
-staying_op (Op t x k) K = if stays t K then (record { by = t; at = x; op = k }) ∷ [] else []
-staying_op _ K = []
+-- the operation of the event, where it survives with the events K after it
+abbrev pub survivor_op : EventKind → List Event → List Entry
+survivor_op (Op t x k) K = if stays t K then (record { by = t; at = x; op = k }) ∷ [] else []
+survivor_op _ K = []
 
--- each operation that lives by the events behind it, in order
-abbrev pub staying : List Event → List Entry
-staying [] = []
-staying (e ∷ K) = staying_op e.kind K ++ staying K
+-- each operation that survives by the events after it, in their order
+abbrev pub survivors : List Event → List Entry
+survivors [] = []
+survivors (e ∷ K) = survivor_op e.kind K ++ survivors K

@@ -8,7 +8,7 @@ use Rattle.object_trait.specs.declared.event.Event.{Event}
 use Rattle.object_trait.specs.declared.event.EventKind.{EventKind}
 use Rattle.object_trait.specs.declared.event.EventKind.TheVariants as kind
 use Rattle.serial_order.specs.Operations.{of}
-use Rattle.serial_order.specs.History.{Seen, seen, is_open}
+use Rattle.serial_order.specs.History.{Summary, summary, is_open}
 use Rattle.serial_order.specs.Answer.{event_of_call}
 use Rattle.serial_order.specs.declared.command.Command.{Command}
 use Rattle.serial_order.specs.declared.command.Command.TheVariants.{Begin, Call, Commit, Abort, Rollback}
@@ -16,12 +16,12 @@ use Rattle.serial_order.specs.declared.refusal.Refusal.{Refusal}
 use Rattle.serial_order.specs.declared.refusal.Refusal.TheVariants.{NotOpen, NoObject, NoCall, TooManyOpen, HistoryFull, BadRollback}
 
 -- the number of open transactions
-abbrev pub open_count : Seen → ℕ
+abbrev pub open_count : Summary → ℕ
 open_count s = length (filter (is_open s) (range_with_len 0 s.begun))
 
--- a history has no room for so many further events and the end of each open transaction
+-- a history has no room for this many further events and the end of each open transaction
 abbrev pub is_full : ℕ → List Event → ℕ → Bool
-is_full most H further = nat_lt most (length H + open_count (seen H) + further)
+is_full most H further = nat_lt most (length H + open_count (summary H) + further)
 
 -- the least operation of the call with this name at an object
 abbrev pub call_at : Option Object → List ℕ → Option ℕ
@@ -31,28 +31,28 @@ call_at (Some o) name = first_op o.table name
 -- why a command is refused: the first reason that holds
 abbrev pub refusal : List Object → ℕ → List Event → Command → Option Refusal
 refusal objects most H Begin =
-    if nat_le most_open (open_count (seen H)) then Some TooManyOpen
+    if nat_le most_open (open_count (summary H)) then Some TooManyOpen
     else (if is_full most H 2 then Some HistoryFull else None)
 refusal objects most H (Call t x name) =
-    if not (is_open (seen H) t) then Some NotOpen
+    if not (is_open (summary H) t) then Some NotOpen
     else (if not (is_some (slice_get objects x)) then Some NoObject
     else (if not (is_some (call_at (slice_get objects x) name)) then Some NoCall
     else (if is_full most H 1 then Some HistoryFull else None)))
-refusal objects most H (Commit t) = if not (is_open (seen H) t) then Some NotOpen else None
-refusal objects most H (Abort t) = if not (is_open (seen H) t) then Some NotOpen else None
+refusal objects most H (Commit t) = if not (is_open (summary H) t) then Some NotOpen else None
+refusal objects most H (Abort t) = if not (is_open (summary H) t) then Some NotOpen else None
 refusal objects most H (Rollback t n) =
-    if not (is_open (seen H) t) then Some NotOpen
-    else (if n == 0 || nat_lt (length (of t (seen H).stands)) n then Some BadRollback
+    if not (is_open (summary H) t) then Some NotOpen
+    else (if n == 0 || nat_lt (length (of t (summary H).survives)) n then Some BadRollback
     else (if is_full most H 1 then Some HistoryFull else None))
 
 -- the event of a call with this first operation, where there is one
-abbrev pub call_event : Option Object → Seen → ℕ → ℕ → Option ℕ → Option EventKind
+abbrev pub call_event : Option Object → Summary → ℕ → ℕ → Option ℕ → Option EventKind
 call_event None s x t c = None
 call_event (Some o) s x t None = None
 call_event (Some o) s x t (Some c) = Some (event_of_call o s x t c)
 
 -- what comes of a command that isn't refused
-abbrev pub event_of : List Object → Seen → Command → Option EventKind
+abbrev pub event_of : List Object → Summary → Command → Option EventKind
 event_of objects s Begin = Some (kind.Begin s.begun)
 event_of objects s (Call t x name) = call_event (slice_get objects x) s x t (call_at (slice_get objects x) name)
 event_of objects s (Commit t) = Some (kind.Commit t)
@@ -67,14 +67,14 @@ appended H w (Some happened) = H ++ (record { worker = w; kind = happened }) ∷
 -- the history after a command, which leaves it where it is refused
 abbrev pub after_command : List Object → ℕ → List Event → ℕ → Command → List Event
 after_command objects most H w command =
-    if is_some (refusal objects most H command) then H else appended H w (event_of objects (seen H) command)
+    if is_some (refusal objects most H command) then H else appended H w (event_of objects (summary H) command)
 
--- the history after the workers' commands, in order from a place on. At the places of `wanting` memory was wanted, and the history
+-- the history after the workers' commands, in order from a place on. At the places of `memory_refused` memory was refused, and the history
 -- was left as it was
 abbrev pub replay_from : List Object → ℕ → (ℕ → Bool) → ℕ → List Event → List (ℕ × Command) → List Event
-replay_from objects most wanting place H [] = H
-replay_from objects most wanting place H (c ∷ commands) =
-    replay_from objects most wanting (suc place) (if wanting place then H else after_command objects most H (c.0) (c.1)) commands
+replay_from objects most memory_refused place H [] = H
+replay_from objects most memory_refused place H (c ∷ commands) =
+    replay_from objects most memory_refused (suc place) (if memory_refused place then H else after_command objects most H (c.0) (c.1)) commands
 
 abbrev pub replay : List Object → ℕ → (ℕ → Bool) → List Event → List (ℕ × Command) → List Event
-replay objects most wanting H commands = replay_from objects most wanting 0 H commands
+replay objects most memory_refused H commands = replay_from objects most memory_refused 0 H commands

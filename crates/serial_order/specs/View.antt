@@ -7,22 +7,22 @@ use Rattle.type_table.specs.declared.kind.Kind.TheVariants.{Undo, Intentions, Es
 use Rattle.escrow_laws.specs.Firm.{with_op, keeps}
 use Rattle.object_trait.specs.Object.{Object}
 use Rattle.serial_order.specs.Operations.{ops, at_object, of, serial, pending}
-use Rattle.serial_order.specs.History.{Seen, is_open}
+use Rattle.serial_order.specs.History.{Summary, is_open}
 use Rattle.serial_order.specs.declared.entry.Entry.{Entry}
 
--- the operations that t sees at x. Update in place: all that live, in the order in which they were executed. Deferred update and
+-- the operations that t sees at x. Update in place: all that survive, in the order in which they were executed. Deferred update and
 -- escrow: those of the committed transactions, in commit order, and then its own
-abbrev pub view : Kind → Seen → ℕ → ℕ → List Entry
-view Undo s x t = at_object x s.stands
-view Intentions s x t = serial s.committed (at_object x s.stands) ++ of t (at_object x s.stands)
-view Escrow s x t = serial s.committed (at_object x s.stands) ++ of t (at_object x s.stands)
+abbrev pub view : Kind → Summary → ℕ → ℕ → List Entry
+view Undo s x t = at_object x s.survives
+view Intentions s x t = serial s.committed (at_object x s.survives) ++ of t (at_object x s.survives)
+view Escrow s x t = serial s.committed (at_object x s.survives) ++ of t (at_object x s.survives)
 
 -- operation k is legal after these, from the initial state
 abbrev pub is_legal_after : Object → List Entry → ℕ → Bool
 is_legal_after o V k = is_some (run o.table (Some o.table.initial) (ops V ++ k ∷ []))
 
 -- operation k is legal for t at x
-abbrev pub is_legal_for : Object → Seen → ℕ → ℕ → ℕ → Bool
+abbrev pub is_legal_for : Object → Summary → ℕ → ℕ → ℕ → Bool
 is_legal_for o s x t k = is_legal_after o (view o.kind s x t) k
 
 -- a number above_at t and each transaction of these operations
@@ -38,7 +38,7 @@ own_at C V u = ops (of u (pending C V))
 abbrev pub number_at : Object → List ℕ → List Entry → ℕ
 number_at o C V = unwrap_or (run o.table (Some o.table.initial) (ops (serial C V))) 0
 
--- where C committed and V lives, this operation of another open transaction keeps t from k: it conflicts; or with k, what this one's
+-- where C committed and V survives, this operation of another open transaction keeps t from k: it conflicts; or with k, what this one's
 -- transaction or t did would not be legal whatever the others do
 abbrev pub stops_at : Kind → Object → List ℕ → List Entry → ℕ → ℕ → Entry → Bool
 stops_at Undo o C V t k e = o.conflicts k e.op
@@ -46,8 +46,8 @@ stops_at Intentions o C V t k e = o.conflicts k e.op
 stops_at Escrow o C V t k e = keeps o.table o.amounts (number_at o C V) (with_op (own_at C V) t k) (above_at t (pending C V)) t e.by
 
 -- this operation of another open transaction keeps t from k at x
-abbrev pub conflicts_with : Object → Seen → ℕ → ℕ → ℕ → Entry → Bool
-conflicts_with o s x t k e = is_open s e.by && (not (e.by == t) && stops_at o.kind o s.committed (at_object x s.stands) t k e)
+abbrev pub conflicts_with : Object → Summary → ℕ → ℕ → ℕ → Entry → Bool
+conflicts_with o s x t k e = is_open s e.by && (not (e.by == t) && stops_at o.kind o s.committed (at_object x s.survives) t k e)
 
 -- operation k is one of the call whose first operation is c
 abbrev pub is_of_call : Object → ℕ → ℕ → Bool

@@ -2,9 +2,9 @@
 //! each is a function that does nothing, whose contract is the law. It calls the laws on which it
 //! depends.
 
-ghost use Rattle.serial_order.specs.After.{SeenAfter, TransactionsInRun, OpensAfter, HistoryOpensAfter, BeginnersAfter, NumbersInRun, OperationsInRun, LogsAreCounted, IdleIsClosed};
+ghost use Rattle.serial_order.specs.After.{SummaryAfter, TransactionsInRun, OpensAfter, HistoryOpensAfter, BeginnersAfter, NumbersInRun, OperationsInRun, LogsAreCounted, IdleIsClosed};
 ghost use Rattle.serial_order.specs.Held.{HeldAfter, BlockerIsHeld, OwnAfter};
-ghost use Rattle.serial_order.specs.Laws.{RunIsHistory, RunGoesOn, StandsAsRead, FirstOpIsLeast, AnswerMayFollow, ReplayRuns, CommandAppends, RefusedAppendsNothing, ReplaysJoin, SortsIntoCommitOrder, StruckViewIsLegal, ViewsAreLegal, CommitKeepsViews, FreshStands, StandsOn, AllowsAlike, StopperIsBlocker, MachineMayApply, Headline, CheckedHeadline};
+ghost use Rattle.serial_order.specs.Laws.{RunIsHistory, RunGoesOn, SurvivesAsRead, FirstOpIsLeast, AnswerMayFollow, ReplayRuns, CommandAppends, RefusedAppendsNothing, ReplaysJoin, SortsIntoCommitOrder, StruckViewIsLegal, ViewsAreLegal, CommitKeepsViews, FreshRepresents, RepresentsOn, AllowsAlike, StopperIsBlocker, MachineMayApply, Headline, CheckedHeadline};
 
 use crate::entry::Entry;
 use escrow_laws::{
@@ -26,14 +26,14 @@ pub fn run_goes_on()
     ensures { RunGoesOn }
 {}
 
-/// What a history says after one more event is told by what it said before.
+/// What a history says after one more event follows from what it said before.
 #[tactic(auto, using(crate::proofs::After::seen_after_one))]
-pub fn seen_after()
-    ensures { SeenAfter }
+pub fn summary_after()
+    ensures { SummaryAfter }
 {}
 
 /// What is known of the transactions of each run: they began before they ended, none both committed
-/// and aborted, and the operations that live are of those that didn't abort.
+/// and aborted, and the operations that survive are of those that didn't abort.
 #[tactic(auto, using(crate::proofs::After::are_in_run))]
 pub fn transactions_in_run()
     ensures { TransactionsInRun }
@@ -45,7 +45,7 @@ pub fn opens_after()
     ensures { OpensAfter }
 {}
 
-/// Who is open after an event that may stand in a history, and that what is known of the transactions
+/// Who is open after an event that continues a history, and that what is known of the transactions
 /// of a run stays so, whether the machine allows the event or not.
 #[tactic(auto, using(crate::proofs::After::history_opens_after))]
 pub fn history_opens_after()
@@ -70,13 +70,13 @@ pub fn blocker_is_held()
     ensures { BlockerIsHeld }
 {}
 
-/// The operations of one transaction that live, after one more event.
+/// The operations of one transaction that survive, after one more event.
 #[tactic(auto, using(crate::proofs::Held::own_after_one))]
 pub fn own_after()
     ensures { OwnAfter }
 {}
 
-/// Each operation that lives in a run is one of its object's table.
+/// Each operation that survives in a run is one of its object's table.
 #[tactic(auto, using(crate::proofs::Opens::operations_in_run))]
 pub fn operations_in_run()
     ensures { OperationsInRun }
@@ -90,23 +90,23 @@ pub fn numbers_in_run()
 {}
 
 /// Of an object that represents a history: its log is no longer than the history, and the open
-/// entries of an open transaction are its operations that live there.
-#[tactic(auto, using(crate::proofs::StandCounts::logs_are_counted))]
+/// entries of an open transaction are its operations that survive there.
+#[tactic(auto, using(crate::proofs::RepresentCounts::logs_are_counted))]
 pub fn logs_are_counted()
     ensures { LogsAreCounted }
 {}
 
 /// Where no open transaction has an operation at an object that represents a run, none is open there.
-#[tactic(auto, using(crate::proofs::StandCounts::idle_is_closed))]
+#[tactic(auto, using(crate::proofs::RepresentCounts::idle_is_closed))]
 pub fn idle_is_closed()
     ensures { IdleIsClosed }
 {}
 
-/// What lives is each operation behind which its transaction doesn't abort and, up to no event, took
-/// back more than it executed since: told by counts of events, and not by striking from a list.
-#[tactic(auto, using(crate::proofs::Readings::stands_as_read))]
-pub fn stands_as_read()
-    ensures { StandsAsRead }
+/// What survives is each operation after which its transaction doesn't abort and, up to no event, took
+/// back more than it executed since: by counts of events, and not by striking from a list.
+#[tactic(auto, using(crate::proofs::Readings::survives_as_read))]
+pub fn survives_as_read()
+    ensures { SurvivesAsRead }
 {}
 
 /// The operation that a name finds is one of the table, and the least of its call.
@@ -121,7 +121,7 @@ pub fn answer_may_follow()
     ensures { AnswerMayFollow }
 {}
 
-/// The history after any list of commands is a run, wherever memory is wanted.
+/// The history after any list of commands is a run, wherever memory is refused.
 #[tactic(auto, using(crate::proofs::Replays::replay_runs))]
 pub fn replay_runs()
     ensures { ReplayRuns }
@@ -129,8 +129,8 @@ pub fn replay_runs()
     run_goes_on();
 }
 
-/// Where memory isn't wanted, a command that isn't refused appends its event and nothing else, and that
-/// event may follow. A refused command appends nothing.
+/// Where memory isn't refused, a command that isn't refused appends its event and nothing else, and
+/// that event may follow. A refused command appends nothing.
 #[tactic(auto, using(crate::proofs::Replays::command_appends, crate::proofs::Replays::refused_appends_nothing))]
 pub fn command_appends()
     ensures accepted { CommandAppends }
@@ -144,7 +144,7 @@ pub fn replays_join()
     ensures { ReplaysJoin }
 {}
 
-/// Commit order: at an object of update in place what lives sorts, neighbour by neighbour, into
+/// Commit order: at an object of update in place what survives sorts, neighbour by neighbour, into
 /// commit order with the open transactions last.
 #[tactic(auto, using(crate::proofs::CommitOrder::sorts_into_commit_order))]
 pub fn sorts_into_commit_order()
@@ -197,15 +197,15 @@ pub fn commit_keeps_views()
 }
 
 /// A new object represents the empty history.
-#[tactic(auto, using(crate::proofs::Standing::fresh_stands))]
-pub fn fresh_stands()
-    ensures { FreshStands }
+#[tactic(auto, using(crate::proofs::Representing::fresh_represents))]
+pub fn fresh_represents()
+    ensures { FreshRepresents }
 {}
 
 /// An object goes on representing the history by each of the seven kinds of events.
-#[tactic(auto, using(crate::proofs::Standing::stands_on))]
-pub fn stands_on()
-    ensures { StandsOn }
+#[tactic(auto, using(crate::proofs::Representing::represents_on))]
+pub fn represents_on()
+    ensures { RepresentsOn }
 {
     runs_along();
 }
@@ -218,8 +218,8 @@ pub fn allows_alike()
     runs_along();
 }
 
-/// Who keeps a transaction from an operation is told by the log of an object that represents the
-/// history.
+/// The log of an object that represents the history says who keeps a transaction from an
+/// operation.
 pub fn stopper_is_blocker()
     ensures { StopperIsBlocker }
 {}

@@ -9,15 +9,15 @@ ghost use Rattle.object_trait.specs.Examples.{held, past, counter_at};
 ghost use Rattle.table_checker.specs.At.{checked_at};
 ghost use Rattle.table_checker.specs.Checked.{Checked};
 ghost use Rattle.serial_order.specs.Operations.{ops};
-ghost use Rattle.serial_order.specs.History.{seen, commits, standing, IsHistory};
+ghost use Rattle.serial_order.specs.History.{summary, commits, surviving, IsHistory};
 ghost use Rattle.serial_order.specs.View.{view, is_legal_after};
 ghost use Rattle.serial_order.specs.Machine.{IsRun, MayFollow};
 ghost use Rattle.serial_order.specs.Serial.{serial_at, serial_state, IsSerial};
-ghost use Rattle.serial_order.specs.Stand.{struck_at, StandsFor, KeptAgrees};
-ghost use Rattle.serial_order.specs.Readings.{staying};
+ghost use Rattle.serial_order.specs.Represent.{struck_at, Represents, KeptAgrees};
+ghost use Rattle.serial_order.specs.Readings.{survivors};
 ghost use Rattle.serial_order.specs.Answer.{event_of_call};
 ghost use Rattle.serial_order.specs.Replay.{open_count, refusal, replay};
-ghost use Rattle.serial_order.specs.After.{after, is_open_after, AreBelow, CountsTo, beginners};
+ghost use Rattle.serial_order.specs.After.{summary_next, is_open_after, AreBelow, CountsTo, beginners};
 ghost use Rattle.serial_order.specs.Held.{held_at, held_after, own_after};
 ghost use Rattle.serial_order.specs.Laws.{IsSerialAndKept};
 ghost use Rattle.serial_order.specs.Examples.{events, entry, seen_first, undo_one_way, undo_counter, deferred_counter, undo_semiqueue, undo_account, one_way_history, semiqueue_history, deferred_history, lock_history, two_objects_history, unlocked_history, refused_history, reader_history, half_history, half_deferred_history, up_and_back, number, number_history, short_history};
@@ -41,7 +41,7 @@ pub fn commit_order_is_another_than_that_of_execution()
 /// The serial state allows r, which the kept one doesn't: it doesn't look like the kept one.
 pub fn the_kept_state_may_allow_less()
     ensures serial { serial_state undo_one_way 0 one_way_history ≡ Some 4 }
-    ensures kept { run one_way (Some 0) (ops (view Kind.Undo (seen one_way_history) 0 2)) ≡ Some 3 }
+    ensures kept { run one_way (Some 0) (ops (view Kind.Undo (summary one_way_history) 0 2)) ≡ Some 3 }
     ensures allows { next one_way 4 2 ≡ Some 4 }
     ensures refuses { next one_way 3 2 ≡ None }
     ensures other_way { Looks one_way (serial_state undo_one_way 0 one_way_history) (Some 3) → ⊥ }
@@ -73,7 +73,7 @@ pub fn a_rollback_gives_up_the_lock()
     ensures runs { IsRun (undo_counter ∷ []) lock_history }
     ensures before { event_of_call undo_counter (seen_first 4 lock_history) 0 1 1 ≡ EventKind.Busy 1 1 0 0 }
     ensures busy { MayFollow (undo_counter ∷ []) (take 4 lock_history) (record { worker = 0; kind = EventKind.Busy 1 1 0 0 }) }
-    ensures left { (seen_first 5 lock_history).stands ≡ entry 1 0 0 ∷ [] }
+    ensures left { (seen_first 5 lock_history).survives ≡ entry 1 0 0 ∷ [] }
     ensures after { event_of_call undo_counter (seen_first 5 lock_history) 0 1 1 ≡ EventKind.Op 1 0 1 }
     ensures commits { commits lock_history ≡ 1 ∷ 0 ∷ [] }
     ensures serial { serial_at 0 lock_history ≡ entry 1 0 0 ∷ entry 1 0 1 ∷ [] }
@@ -83,8 +83,8 @@ pub fn a_rollback_gives_up_the_lock()
 /// What one event changes: a commit ends its transaction, a rollback leaves it open, and both were
 /// begun by worker 0.
 pub fn an_event_changes_what_it_says()
-    ensures rolled_back { after (seen_first 4 lock_history) (EventKind.Rollback 0 1) ≡ seen_first 5 lock_history }
-    ensures committed { after (seen_first 6 lock_history) (EventKind.Commit 1) ≡ seen_first 7 lock_history }
+    ensures rolled_back { summary_next (seen_first 4 lock_history) (EventKind.Rollback 0 1) ≡ seen_first 5 lock_history }
+    ensures committed { summary_next (seen_first 6 lock_history) (EventKind.Commit 1) ≡ seen_first 7 lock_history }
     ensures ended { is_open_after (seen_first 6 lock_history) (EventKind.Commit 1) 1 ≡ false }
     ensures other { is_open_after (seen_first 6 lock_history) (EventKind.Commit 1) 0 ≡ true }
     ensures counted { CountsTo (EventKind.Commit 1) (open_count (seen_first 6 lock_history)) (open_count (seen_first 7 lock_history)) }
@@ -105,8 +105,8 @@ pub fn a_rollback_goes_over_two_objects()
     ensures runs { IsRun (undo_counter ∷ deferred_counter ∷ []) two_objects_history }
     ensures struck_first { struck_at 0 (seen_first 4 two_objects_history) 0 2 ≡ 1 }
     ensures struck_second { struck_at 1 (seen_first 4 two_objects_history) 0 2 ≡ 1 }
-    ensures stands { standing two_objects_history ≡ entry 0 0 0 ∷ [] }
-    ensures as_read { staying two_objects_history ≡ entry 0 0 0 ∷ [] }
+    ensures represents { surviving two_objects_history ≡ entry 0 0 0 ∷ [] }
+    ensures as_read { survivors two_objects_history ≡ entry 0 0 0 ∷ [] }
     ensures first_state { serial_state undo_counter 0 two_objects_history ≡ Some 1 }
     ensures second_state { serial_state deferred_counter 1 two_objects_history ≡ Some 0 }
 {}
@@ -152,18 +152,18 @@ pub fn a_history_may_not_be_serial()
 {}
 
 /// With update in place, what a committed transaction did may be in the log or be settled in base.
-pub fn a_counter_in_place_stands_for_two_ups()
+pub fn a_counter_in_place_represents_two_ups()
     ensures runs { IsRun (undo_counter ∷ []) half_history }
-    ensures logged { StandsFor (counter_at Kind.Undo 0 (past 0 0 ∷ held 1 0 ∷ [])) 0 half_history }
-    ensures settled { StandsFor (counter_at Kind.Undo 1 (held 1 0 ∷ [])) 0 half_history }
-    ensures lost { StandsFor (counter_at Kind.Undo 1 []) 0 half_history → ⊥ }
+    ensures logged { Represents (counter_at Kind.Undo 0 (past 0 0 ∷ held 1 0 ∷ [])) 0 half_history }
+    ensures settled { Represents (counter_at Kind.Undo 1 (held 1 0 ∷ [])) 0 half_history }
+    ensures lost { Represents (counter_at Kind.Undo 1 []) 0 half_history → ⊥ }
 {}
 
 /// With deferred update, base is the committed state, and the log what an open transaction did.
-pub fn a_deferred_counter_stands_for_up_and_down()
+pub fn a_deferred_counter_represents_up_and_down()
     ensures runs { IsRun (deferred_counter ∷ []) half_deferred_history }
-    ensures deferred { StandsFor (counter_at Kind.Intentions 1 (held 0 1 ∷ [])) 0 half_deferred_history }
-    ensures done_at_once { StandsFor (counter_at Kind.Intentions 0 (held 0 1 ∷ [])) 0 half_deferred_history → ⊥ }
+    ensures deferred { Represents (counter_at Kind.Intentions 1 (held 0 1 ∷ [])) 0 half_deferred_history }
+    ensures done_at_once { Represents (counter_at Kind.Intentions 0 (held 0 1 ∷ [])) 0 half_deferred_history → ⊥ }
 {}
 
 /// Whether a kept state agrees is asked of an object in place where no transaction is open, and of a
@@ -174,7 +174,7 @@ pub fn a_kept_state_may_not_agree()
     ensures deferred { KeptAgrees (counter_at Kind.Intentions 0 (held 0 1 ∷ [])) 0 half_deferred_history → ⊥ }
 {}
 
-/// The same replies are those of operations. An answer `None` is none: here transaction 0 was told that
+/// The same replies are those of operations. An answer `None` is none: here transaction 0 was answered that
 /// it can't count down, and in the serial order, after transaction 1, it could.
 pub fn an_answer_none_is_not_replayed()
     ensures runs { IsRun (undo_counter ∷ []) refused_history }
@@ -221,17 +221,17 @@ pub fn room_is_kept_for_the_ends()
 
 /// No transaction begins where 1,024 are open.
 pub fn no_more_than_1024_are_open()
-    ensures { (H : List Event) → 1024 ≤ open_count (seen H) → refusal (undo_counter ∷ []) 5000 H Command.Begin ≡ Some Refusal.TooManyOpen }
+    ensures { (H : List Event) → 1024 ≤ open_count (summary H) → refusal (undo_counter ∷ []) 5000 H Command.Begin ≡ Some Refusal.TooManyOpen }
 {}
 
-/// Commands become events, but for those that are refused, and those at which memory was wanted.
+/// Commands become events, but for those that are refused, and those at which memory was refused.
 pub fn commands_are_replayed()
     ensures all { replay (undo_counter ∷ []) 4 (λ _. false) [] up_and_back ≡ events (EventKind.Begin 0 ∷ EventKind.Op 0 0 0 ∷ EventKind.Rollback 0 1 ∷ EventKind.Commit 0 ∷ []) }
     ensures full { replay (undo_counter ∷ []) 3 (λ _. false) [] up_and_back ≡ events (EventKind.Begin 0 ∷ EventKind.Op 0 0 0 ∷ EventKind.Commit 0 ∷ []) }
-    ensures wanting { replay (undo_counter ∷ []) 4 (λ place. place == 1) [] up_and_back ≡ events (EventKind.Begin 0 ∷ EventKind.Commit 0 ∷ []) }
+    ensures memory_refused { replay (undo_counter ∷ []) 4 (λ place. place == 1) [] up_and_back ≡ events (EventKind.Begin 0 ∷ EventKind.Commit 0 ∷ []) }
 {}
 
-/// Events with numbers below so many objects, operations and events, and some that have others.
+/// Events with numbers below this many objects, operations and events, and some that have others.
 pub fn numbers_are_below()
     ensures at_most { AreBelow 2 3 9 (EventKind.Op 8 1 2) }
     ensures another_object { AreBelow 2 3 9 (EventKind.Op 8 2 2) → ⊥ }
@@ -249,7 +249,7 @@ pub fn one_up_and_one_down()
 {}
 
 /// Under escrow two transactions take and give beside each other. A third is kept from giving by the one
-/// that gives, from taking by the one that takes, and, when that has committed, from being told that
+/// that gives, from taking by the one that takes, and, when that has committed, from being answered that
 /// there is too little by the one that gives.
 #[tactic(auto, unfolding(type_table::specs::Table::next, escrow_laws::specs::Bounds::steps_of))]
 pub fn numbers_are_taken_and_given()
@@ -265,6 +265,6 @@ pub fn numbers_are_taken_and_given()
 /// A reply `short` is held: another may not give. The one that holds it may.
 #[tactic(auto, unfolding(type_table::specs::Table::next, escrow_laws::specs::Bounds::steps_of))]
 pub fn a_short_reply_is_held()
-    ensures held { event_of_call number (seen short_history) 0 1 2 ≡ EventKind.Busy 2 1 0 0 }
-    ensures own { event_of_call number (seen short_history) 0 0 2 ≡ EventKind.Op 0 0 2 }
+    ensures held { event_of_call number (summary short_history) 0 1 2 ≡ EventKind.Busy 2 1 0 0 }
+    ensures own { event_of_call number (summary short_history) 0 0 2 ≡ EventKind.Op 0 0 2 }
 {}

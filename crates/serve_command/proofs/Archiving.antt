@@ -44,7 +44,7 @@ held-gives None gives p = tt
 
 -- to what is held as it is left
 pub archives-under : {clean clean' : Type 0} (held left : Option Trees) (db : Trees) (r : Result Verdict Fault) (kept kept_now : Option (List KeptHistory)) → (clean' → clean)
-    → (clean' → IfSome left (λ x. db ≡ x)) → OnOk r (ArchivesEpochs clean held (Some db) kept kept_now) → OnOk r (ArchivesEpochs clean' held left kept kept_now)
+    → OnOk r (clean' → IfSome left (λ x. db ≡ x)) → OnOk r (ArchivesEpochs clean held (Some db) kept kept_now) → OnOk r (ArchivesEpochs clean' held left kept kept_now)
 archives-under held left db (Ok v) kept kept_now sure same archives =
     λ c. held-gives held (λ was keeps. at-path db (λ x. KeepsBetween (recovered (contents_of was)) (contents_of x) kept kept_now) left (same c) keeps) (archives (sure c))
 archives-under held left db (Err fault) kept kept_now sure same archives = tt

@@ -3,7 +3,7 @@ use Rattle.std.proofs.Common.{◌≡◌, ◌∙◌, inl, inr, ℕ, ◌-◌, List
 use Rattle.std.proofs.Math.Seq.{take-append-le}
 use Rattle.std.proofs.KnownBytes.{Appends-trans}
 use Rattle.std.proofs.lemmas.List.{append-nil, length-append, length-map}
-use Rattle.std.specs.Prelude.{IfErr, IfOk, IfSome, OnErr, OnOk}
+use Rattle.std.specs.Prelude.{IfErr, IfOk, IfSome, MatchResult, OnErr, OnOk}
 use Rattle.std.specs.Io.KnownBytes.{Appends}
 use Rattle.sqlite_trees.specs.declared.store.Store.{Ghosts}
 use Rattle.sqlite_trees.specs.Tree.{Trees}
@@ -30,7 +30,7 @@ use Rattle.command_files.specs.declared.fault.Fault.TheVariants.{Usage, Text, No
 use Rattle.command_files.specs.declared.status.Verdict.{Verdict}
 use Rattle.command_files.specs.declared.status.Verdict.TheVariants.{Yes}
 use Rattle.serve_command.specs.Found.{Finds, SaysFound, found_text}
-use Rattle.serve_command.specs.Served.{Begins, BeginsServing, ComesOfServing, IsOpened, IsServed, ServesDatabase, ServesIn, StopsIn, Work, epoch_events, told_text}
+use Rattle.serve_command.specs.Served.{Begins, BeginsBefore, BeginsServing, ComesOfServing, IsOpened, IsServed, ServesDatabase, ServesIn, StopsIn, Work, epoch_events, told_text}
 
 -- ---- under another premise
 
@@ -69,33 +69,37 @@ served-under {clean} {clean'} {held} {db} {given} {given_now} {text} left sure s
   left_is = λ c. at-path db (λ x. Begins x s.now) left (same c) (s.left_is (sure c));
 }
 
-under : {clean clean' : Type 0} (held left : Option Trees) (db : Trees) (given given_now taken taken_now : Option (List ℕ)) (r : Result Verdict Fault) → (clean' → clean)
-    → (clean' → IfSome left (λ x. db ≡ x)) → ComesOfServing (BeginsServing clean held) (ServesDatabase clean held (Some db) given given_now) r taken taken_now
-    → ComesOfServing (BeginsServing clean' held) (ServesDatabase clean' held left given given_now) r taken taken_now
-under held left db given given_now taken taken_now (Ok v) sure same c = (c.0, (c.1.0, served-under left sure same c.1.1), c.2)
-under held left db given given_now taken taken_now (Err fault) sure same c = elim c [
+-- where what is held at a path may be left, and is this
+is-left : (left : Option Trees) (may_be_left : Trees → Type 0) (x : Trees) → IfSome left may_be_left → left ≡ Some x → may_be_left x
+is-left left may_be_left x may is = subst (λ (held : Option Trees). IfSome held may_be_left) is may
+
+under : {clean clean' : Type 0} (held left : Option Trees) (db : Trees) (may_be_left : Trees → Type 0) (given given_now taken taken_now : Option (List ℕ)) (r : Result Verdict Fault) → (clean' → clean)
+    → OnOk r (clean' → IfSome left (λ x. db ≡ x)) → OnErr r (clean' → IfSome left may_be_left)
+    → ComesOfServing (BeginsBefore clean held may_be_left) (ServesDatabase clean held (Some db) given given_now) r taken taken_now
+    → ComesOfServing (BeginsServing clean' held left) (ServesDatabase clean' held left given given_now) r taken taken_now
+under held left db may_be_left given given_now taken taken_now (Ok v) sure same may c = (c.0, (c.1.0, served-under left sure same c.1.1), c.2)
+under held left db may_be_left given given_now taken taken_now (Err fault) sure same may c = elim c [
   | inl none ↦ inl none
-  | inr part ↦ inr (part.0, (part.1.0, (work-under sure part.1.1.0, part.1.1.1), part.1.2))
+  | inr part ↦
+      let (work, told, found) = part.1.1 in
+      inr (part.0, (part.1.0, (work-under sure work, told, λ c t tells x is. found (sure c) t tells x (is-left left may_be_left x (may c) is)), part.1.2))
 ]
 
 -- and of an output that is this one
-pub comes-under : {clean clean' : Type 0} {taken taken_now taken' taken_now' : Option (List ℕ)} (held left : Option Trees) (db : Trees) (given given_now : Option (List ℕ)) (r : Result Verdict Fault) → taken ≡ taken'
-    → taken_now ≡ taken_now' → (clean' → clean) → (clean' → IfSome left (λ x. db ≡ x))
-    → ComesOfServing (BeginsServing clean held) (ServesDatabase clean held (Some db) given given_now) r taken taken_now
-    → ComesOfServing (BeginsServing clean' held) (ServesDatabase clean' held left given given_now) r taken' taken_now'
-comes-under {clean} {clean'} {taken} {taken_now} {taken'} {taken_now'} held left db given given_now r is is_now sure same c =
-    subst (λ t. ComesOfServing (BeginsServing clean' held) (ServesDatabase clean' held left given given_now) r t taken_now') is
-    (subst (λ t. ComesOfServing (BeginsServing clean' held) (ServesDatabase clean' held left given given_now) r taken t) is_now (under held left db given given_now taken taken_now r sure same c))
+pub comes-under : {clean clean' : Type 0} {taken taken_now taken' taken_now' : Option (List ℕ)} (held left : Option Trees) (db : Trees) (may_be_left : Trees → Type 0) (given given_now : Option (List ℕ)) (r : Result Verdict Fault)
+    → taken ≡ taken' → taken_now ≡ taken_now' → (clean' → clean) → OnOk r (clean' → IfSome left (λ x. db ≡ x)) → OnErr r (clean' → IfSome left may_be_left)
+    → ComesOfServing (BeginsBefore clean held may_be_left) (ServesDatabase clean held (Some db) given given_now) r taken taken_now
+    → ComesOfServing (BeginsServing clean' held left) (ServesDatabase clean' held left given given_now) r taken' taken_now'
+comes-under {clean} {clean'} {taken} {taken_now} {taken'} {taken_now'} held left db may_be_left given given_now r is is_now sure same may c =
+    subst (λ t. ComesOfServing (BeginsServing clean' held left) (ServesDatabase clean' held left given given_now) r t taken_now') is
+    (subst (λ t. ComesOfServing (BeginsServing clean' held left) (ServesDatabase clean' held left given given_now) r taken t) is_now
+    (under held left db may_be_left given given_now taken taken_now r sure same may c))
 
 -- ---- by how it ended
 
-pub of-ok : {T E : Type 0} {P : Type 0} (r : Result T E) (x : T) → r ≡ Ok x → OnOk r P → P
-of-ok (Ok y) x is p = p
-of-ok (Err e) x is p = absurd cc
-
-pub of-err : {T E : Type 0} {P : Type 0} (r : Result T E) (e : E) → r ≡ Err e → OnErr r P → P
-of-err (Ok x) e is p = absurd cc
-of-err (Err x) e is p = p
+pub of-fault : {T E : Type 0} {Q : Type 0} (P : Type 0) (r : Result T E) (e : E) → r ≡ Err e → MatchResult r (λ x. P) (λ x. Q) → Q
+of-fault P (Ok x) e is p = absurd cc
+of-fault P (Err x) e is p = p
 
 -- ---- from a store to its trees
 
@@ -153,19 +157,19 @@ served-at {S} {g} {given} {taken} {given_now} {taken_now} {trees} db began held 
           (Appends-trans taken sc.greeted sc.answered (greeting (life_of began)) (answers_text has.told) sc.greets has.appended) sc.ends,
     ))
 
--- a client that was told a beginning
+-- a client that got a beginning
 part-more : (a b : Option (List ℕ)) (x y : List ℕ) → AppendsPart a b x → AppendsPart a b (x ++ y)
 part-more a b x y (n, within, part) = (n, omega (arith, length-append x y), subst (Appends a b) (sym (take-append-le n x y within)) part)
 
 cut-at : {S : Type 0} {g : Ghosts S} {taken taken_now : Option (List ℕ)} {trees : S} (db : Trees) (began : Durable S) (held : Option Trees) → (Clean g began.journal → IfSome held (λ x. db ≡ x))
     → (Clean g began.journal → IsRecovered g (contents_of db) began) → StopsIn g began taken trees taken_now
-    → (text : List ℕ) × BeginsServing (IsClean (g.view trees)) held text × AppendsPart taken taken_now text
+    → (text : List ℕ) × BeginsBefore (IsClean (g.view trees)) held (g.recovers trees) text × AppendsPart taken taken_now text
 cut-at {S} {g} {taken} {taken_now} {trees} db began held same found s =
-    subst (λ (x : S). (text : List ℕ) × BeginsServing (IsClean (g.view x)) held text × AppendsPart taken taken_now text) (sym s.are)
+    subst (λ (x : S). (text : List ℕ) × BeginsBefore (IsClean (g.view x)) held (g.recovers x) text × AppendsPart taken taken_now text) (sym s.are)
     (let stops = s.stops in
     let work : Work (Clean g s.now.journal) held = work-of g (Clean g s.now.journal) stops.lines stops.answers stops.life stops.reached stops.ended held db began s.clean same found stops.serves in (
       told_text work,
-      (work, refl),
+      (work, refl, s.found),
       elim stops.told [
         | inl part ↦ part-more taken taken_now (greeting (life_of began) ++ answers_text stops.answers) (answers_text (end_answers stops.ended)) part
         | inr part ↦ part.1
@@ -176,7 +180,7 @@ cut-at {S} {g} {taken} {taken_now} {trees} db began held same found s =
 pub comes-at : {S : Type 0} {g : Ghosts S} (given taken given_now taken_now : Option (List ℕ)) (trees : S) (db : Trees) (began : Durable S) (held : Option Trees) (r : Result Verdict Fault)
     → (Clean g began.journal → IfSome held (λ x. db ≡ x)) → (Clean g began.journal → IsRecovered g (contents_of db) began) → IfOk r (λ v. v ≡ Yes)
     → OnOk r (ServesIn g began given taken trees given_now taken_now) → IfErr r (λ fault. (taken_now ≡ taken) ⊎ ((is_input fault ≡ false) × StopsIn g began taken trees taken_now))
-    → ComesOfServing (BeginsServing (IsClean (g.view trees)) held) (ServesDatabase (IsClean (g.view trees)) held (Some (g.view trees).committed) given given_now) r taken taken_now
+    → ComesOfServing (BeginsBefore (IsClean (g.view trees)) held (g.recovers trees)) (ServesDatabase (IsClean (g.view trees)) held (Some (g.view trees).committed) given given_now) r taken taken_now
 comes-at given taken given_now taken_now trees db began held (Ok v) same found says told cut = let (text, served, more) = served-at db began held same found told in (text, (says, served), more)
 comes-at given taken given_now taken_now trees db began held (Err fault) same found says told cut = elim cut [ inl none ↦ inl none | inr part ↦ inr (part.0, cut-at db began held same found part.1) ]
 

@@ -8,7 +8,7 @@ use Rattle.journal.specs.Contents.{contents_of}
 use Rattle.durable_store.specs.Durable.{events}
 use Rattle.serve_command.specs.Found.{Finds, SaysFound}
 
--- of what is held there are so many events and open transactions
+-- what is held has some number of events and of open transactions
 found : (held : Option Trees) → (count : ℕ) × (aborted : ℕ) × IfSome held (λ db. Finds (contents_of db) count aborted)
 found (Some db) = (length (contents_of db).events, length (closing (events (contents_of db).events)), record { happened = refl; were_open = refl })
 found None = (zero, zero, tt)

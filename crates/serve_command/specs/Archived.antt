@@ -6,7 +6,7 @@ use Rattle.durable_store.specs.Recovered.{recovered}
 use Rattle.serving.specs.Archives.{KeepsEpochs, KeptHistory}
 use Rattle.serving.specs.Epochs.{Reaches}
 
--- between one file and another epochs ended: the archive keeps, behind what it kept, the history of each of them, as the file said it at its end, in
+-- between one file and another epochs ended: the archive keeps, after what it kept, the history of each of them, as the file said it at its end, in
 -- their order, and nothing else
 abbrev pub KeepsBetween : Contents → Contents → Option (List KeptHistory) → Option (List KeptHistory) → Type 0
 KeepsBetween first last kept kept_now = (ended : List Contents) × Reaches first ended last × KeepsEpochs kept kept_now ended

@@ -13,7 +13,7 @@ abbrev pub found_text : List ℕ → ℕ → ℕ → ℕ → List ℕ
 found_text path count aborted time = flat_map (λ (piece : List ℕ). piece)
     (codes "colock: " ∷ path ∷ codes ": " ∷ decimal count ∷ codes " events, " ∷ decimal aborted ∷ codes " aborted, " ∷ decimal time ∷ codes " ms\n" ∷ [])
 
--- so many events, and so many open transactions
+-- this many events, and this many open transactions
 pub record Finds (file : Contents) (count aborted : ℕ) : Type 0 where
   pub happened : count ≡ length file.events
   pub were_open : aborted ≡ length (closing (events file.events))

@@ -1,5 +1,5 @@
--- What `serve DATABASE` tells its client, and what it leaves.
-use Rattle.std.specs.Prelude.{◌≡◌, ◌⊎◌, false, ℕ, List, [], ◌++◌, Option, None, IfSome, IsTrue, Result, Ok, Err}
+-- What `serve DATABASE` writes to its client, and what it leaves.
+use Rattle.std.specs.Prelude.{◌≡◌, ◌⊎◌, false, ℕ, List, [], ◌++◌, Option, None, Some, IfSome, IsTrue, Result, Ok, Err}
 use Rattle.std.specs.Io.KnownBytes.{Appends, Consumes, IsAtEnd}
 use Rattle.command_files.specs.Answers.{Answers}
 use Rattle.command_files.specs.Status.{is_input}
@@ -20,7 +20,9 @@ use Rattle.durable_store.specs.Epochs.{firsts}
 use Rattle.durable_store.specs.Recovered.{recovered}
 use Rattle.durable_store.specs.Types.{HasTypes}
 use Rattle.request_text.specs.declared.request.Asked.{Asked}
+use Rattle.request_text.specs.declared.request.TransactionName.{TransactionName}
 use Rattle.serving.specs.declared.answer_line.Answered.{Answered}
+use Rattle.serving.specs.CommitsFound.{CommitsAreFound, HasCommit, TellsCommit}
 use Rattle.serving.specs.Ending.{end_answers}
 use Rattle.serving.specs.Epochs.{aborted}
 use Rattle.serving.specs.Lines.{AreLines}
@@ -28,7 +30,7 @@ use Rattle.serving.specs.Served.{Serves}
 use Rattle.serving.specs.Told.{AppendsPart, answers_text, greeting}
 use Rattle.serving.specs.Whole.{ServesClient, StopsServing}
 
--- with so many events an epoch is full
+-- with this many events an epoch is full
 abbrev pub epoch_events : ℕ
 epoch_events = 980000
 
@@ -52,7 +54,7 @@ pub record Work (clean : Type 0) (held : Option Trees) : Type 0 where
   pub opened : clean → IfSome held (λ db. IsOpened (contents_of db) file began)
   pub serves : clean → Serves epoch_events file life lines began told last reached ended
 
--- the lines that a client is told of it
+-- the lines that a client gets of it
 abbrev pub told_text : {clean : Type 0} {held : Option Trees} → Work clean held → List ℕ
 told_text w = (greeting w.life ++ answers_text w.told) ++ answers_text (end_answers w.ended)
 
@@ -61,8 +63,8 @@ pub record Begins (db : Trees) (s : Stored) : Type 0 where
   pub events : (contents_of db).events ≡ []
   pub states : (contents_of db).states ≡ firsts s.types
 
--- a text that a client is told: the greeting, the answers and that of the end; of the input these bytes were taken, which are those lines and
--- behind them a half one, or what stands behind the end; what was open is aborted, and the file begins a new epoch
+-- a text that a client gets: the greeting, the answers and that of the end; of the input these bytes were taken, which are those lines and
+-- after them a half one, or what comes after the end; what was open is aborted, and the file begins a new epoch
 pub record IsServed (clean : Type 0) (held left : Option Trees) (given given_now : Option (List ℕ)) (text : List ℕ) : Type 0 where
   pub work : Work clean held
   pub seen : List ℕ
@@ -80,9 +82,18 @@ pub record IsServed (clean : Type 0) (held left : Option Trees) (given given_now
 abbrev pub ServesDatabase : Type 0 → Option Trees → Option Trees → Option (List ℕ) → Option (List ℕ) → Answers
 ServesDatabase clean held left given given_now v text = (v ≡ Yes) × IsServed clean held left given given_now text
 
--- a text that a client may have been told a beginning of, where serving stopped: the greeting, the answers to lines that were done, and that of the end
-abbrev pub BeginsServing : Type 0 → Option Trees → List ℕ → Type 0
-BeginsServing clean held text = (work : Work clean held) × (text ≡ told_text work)
+-- whatever may be left has each commit that was answered
+abbrev pub LeavesCommits : List (List ℕ) → List Answered → (Trees → Type 0) → Type 0
+LeavesCommits lines answers may_be_left = (t : TransactionName) → TellsCommit lines answers t → (db : Trees) → may_be_left db → HasCommit (contents_of db) t
+
+-- a text of which a client may have got a beginning, where serving stopped: the greeting, the answers to lines that were done, and that of the
+-- end; and what may be left then has each commit that it answers
+abbrev pub BeginsBefore : Type 0 → Option Trees → (Trees → Type 0) → List ℕ → Type 0
+BeginsBefore clean held may_be_left text = (work : Work clean held) × (text ≡ told_text work) × (clean → LeavesCommits work.lines work.told may_be_left)
+
+-- this, and what is held at the path then has these commits
+abbrev pub BeginsServing : Type 0 → Option Trees → Option Trees → List ℕ → Type 0
+BeginsServing clean held left text = BeginsBefore clean held (λ db. left ≡ Some db) text
 
 -- what comes of serving: an answer with its text; or a fault before anything was written, or one that is nothing of what the user gave, and
 -- the output took a beginning of such a text
@@ -103,9 +114,10 @@ pub record ServesIn {S : Type 0} (g : Ghosts S) (began : Durable S) (given taken
   pub clean : Clean g now.journal → Clean g began.journal
   pub serves : ServesClient g epoch_events began given taken now given_now taken_now
 
--- serving stopped, and these are the trees
+-- serving stopped, and these are the trees; what a crash leaves of them then has each commit that was answered to the client
 pub record StopsIn {S : Type 0} (g : Ghosts S) (began : Durable S) (taken : Option (List ℕ)) (trees : S) (taken_now : Option (List ℕ)) : Type 0 where
   pub now : Durable S
   pub are : trees ≡ now.journal.store
   pub clean : Clean g now.journal → Clean g began.journal
   pub stops : StopsServing g epoch_events began taken now taken_now
+  pub found : Clean g now.journal → CommitsAreFound g stops.lines stops.answers now

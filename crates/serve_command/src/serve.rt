@@ -1,15 +1,15 @@
 //! A store in a file is served to one client.
 
-ghost use Rattle.std.specs.Prelude.{◌≡◌, ◌⊎◌, false, Option, None, Some, IfErr, IfOk, OnOk, IsTrue};
+ghost use Rattle.std.specs.Prelude.{◌≡◌, ◌⊎◌, false, Option, None, Some, IfErr, IfOk, IfSome, OnErr, OnOk, IsTrue};
 ghost use Rattle.sqlite_trees.specs.Tree.{Trees};
 ghost use Rattle.sqlite_trees.specs.View.{IsClean};
 ghost use Rattle.outputs.specs.Gathered.{taken_by, under};
 ghost use Rattle.journal.specs.Contents.{contents_of};
-ghost use Rattle.journal.specs.Journal.{written};
+ghost use Rattle.journal.specs.Journal.{ShowsCommit, written};
 ghost use Rattle.durable_store.specs.Durable.{IsDurable};
 ghost use Rattle.serve_command.specs.Archived.{ArchivesEpochs, KeepsBetween};
 ghost use Rattle.serve_command.specs.Found.{SaysFound};
-ghost use Rattle.serve_command.specs.Served.{BeginsServing, ComesOfServing, IsHeld, ServesDatabase, ServesIn, StopsIn};
+ghost use Rattle.serve_command.specs.Served.{BeginsBefore, BeginsServing, ComesOfServing, IsHeld, ServesDatabase, ServesIn, StopsIn};
 ghost use Rattle.command_files.specs.Answers.{Refuses};
 ghost use Rattle.command_files.specs.Status.{is_input};
 
@@ -19,7 +19,9 @@ use database_commands::{fault_of_file, fault_of_open, fault_of_unopened};
 use database_files::{Databases, TornWrites};
 use durable_store::{Durable, open_counted};
 use outputs::{Gathered, Out};
-use serving::{Archive, ArchiveFault, Client, EpochLimits, ServeFault, serve};
+use serving::{
+    Archive, ArchiveFault, Client, EpochLimits, ServeFault, serve, told_commits_are_found,
+};
 use sqlite_trees::store::Alter;
 use std::alloc::Global;
 use std::io::Read;
@@ -43,16 +45,16 @@ pub struct Serving<'a> {
 }
 
 /// `serve DATABASE`: the store is opened, what was open in it is aborted, and what was found is said in a line. Then the
-/// lines of the input are done one after another, and the output is told what they are answered, until the end is asked
-/// for or the input has ended. What is open then is aborted, and the file begins a new epoch. After 980,000 events
-/// another epoch begins too: no further transaction begins before, and what is open is aborted where it goes on so long
+/// lines of the input are done one after another, and the output takes their answers, until the end is asked for
+/// or the input has ended. What is open then is aborted, and the file begins a new epoch. After 980,000 events
+/// another epoch begins too: no further transaction begins before, and what is open is aborted where it goes on as long
 /// as it may. Before an epoch begins, the archive keeps the history of the one before; where the answer is yes, it has kept
 /// that of each epoch that ended, and nothing else.
 ///
 /// # Errors
 ///
 /// The database isn't opened or isn't one of a store, it failed, the archive, the input or the output failed, or memory was
-/// refused.
+/// refused. Then no further call of the file is made, and what is at the path has each commit that was answered.
 pub fn serve_database<'a, C: Clock, D: Databases, A: Archive, I: Read, W: Out, E: Out>(
     clock: &C,
     alloc: Global,
@@ -65,7 +67,7 @@ pub fn serve_database<'a, C: Clock, D: Databases, A: Archive, I: Read, W: Out, E
 ) -> (Result<Verdict, Fault<'a>>, Gathered<W>)
     requires out_takes { W.fault (under out) ≡ None }
     requires err_takes { E.fault err.old ≡ None }
-    ensures comes { let path = asked.entry.path in ComesOfServing (BeginsServing (D.is_clean databases.new) (D.holds databases.old path.now))
+    ensures comes { let path = asked.entry.path in ComesOfServing (BeginsServing (D.is_clean databases.new) (D.holds databases.old path.now) (D.holds databases.new path.now))
         (ServesDatabase (D.is_clean databases.new) (D.holds databases.old path.now) (D.holds databases.new path.now) (I.remaining input.old) (I.remaining input.new))
         result.0 (taken_by W.taken out) (taken_by W.taken result.1) }
     ensures says { OnOk result.0 (SaysFound (D.is_clean databases.new) (D.holds databases.old asked.entry.path.now) asked.entry.path.now (E.taken err.old) (E.taken err.new)) }
@@ -84,10 +86,28 @@ pub fn serve_database<'a, C: Clock, D: Databases, A: Archive, I: Read, W: Out, E
                 &mut client,
                 err,
             );
-            databases.close(asked.path, trees);
+            let_go(asked.path, trees, &served, databases);
             (served, client.into_out())
         }
         Err(fault) => (Err(fault_of_unopened(asked.path, fault)), out),
+    }
+}
+
+/// Lets go of the trees of a database: where the store in them was served to the end what is committed is moved into its
+/// file, and where serving stopped no further call of the file is made, since nothing is known of one that failed.
+fn let_go<'a, D: Databases>(
+    path: &str,
+    trees: D::Opened,
+    served: &Result<Verdict, Fault<'a>>,
+    databases: &mut D,
+)
+    ensures clean { D.is_clean databases.new → IsClean (D.Opened.Store.view trees) }
+    ensures held { OnOk served.now (D.is_clean databases.new → IfSome (D.holds databases.new path.now) (λ db. (D.Opened.Store.view trees).committed ≡ db)) }
+    ensures left { OnErr served.now (D.is_clean databases.new → IfSome (D.holds databases.new path.now) (D.Opened.Store.recovers trees)) }
+{
+    match served {
+        Ok(_) => databases.close(path, trees),
+        Err(_) => databases.leave(path, trees),
     }
 }
 
@@ -106,7 +126,7 @@ fn serve_in<'a, C: Clock, S: Alter, A: Archive, I: Read, W: Out, E: Out>(
     requires out_takes { W.fault (under client.old.out) ≡ None }
     requires err_takes { E.fault err.old ≡ None }
     ensures comes { (held : Option Trees) → IsHeld (S.Store.view trees) held
-        → ComesOfServing (BeginsServing (IsClean (S.Store.view result.1)) held)
+        → ComesOfServing (BeginsBefore (IsClean (S.Store.view result.1)) held (S.Store.recovers result.1))
         (ServesDatabase (IsClean (S.Store.view result.1)) held (Some (S.Store.view result.1).committed) (I.remaining input.old) (I.remaining input.new))
         result.0 (taken_by W.taken client.old.out) (taken_by W.taken client.new.out) }
     ensures says { (held : Option Trees) → IsHeld (S.Store.view trees) held
@@ -140,6 +160,7 @@ fn serve_store<'a, C: Clock, S: Alter, A: Archive, I: Read, W: Out>(
     client: &mut Client<W>,
 ) -> (Result<Verdict, Fault<'a>>, S)
     requires sound { IsDurable S.Store store }
+    requires shows { ShowsCommit S.Store store.journal }
     requires out_takes { W.fault (under client.old.out) ≡ None }
     ensures yes { IfOk result.0 (λ verdict. verdict ≡ Verdict.Yes) }
     ensures told { OnOk result.0 (ServesIn S.Store store (I.remaining input.old) (taken_by W.taken client.old.out) result.1 (I.remaining input.new) (taken_by W.taken client.new.out)) }
@@ -148,6 +169,7 @@ fn serve_store<'a, C: Clock, S: Alter, A: Archive, I: Read, W: Out>(
     ensures archives { OnOk result.0 (IsClean (S.Store.view result.1)
         → KeepsBetween (written S.Store store.journal) (contents_of (S.Store.view result.1).committed) (A.kept archive.old) (A.kept archive.new)) }
 {
+    told_commits_are_found::<S>();
     let Ok(mut buffer) = Vec::from_elem(alloc, 0u8, MOST_READ) else {
         return (Err(Fault::NoMemory), store.into_trees());
     };

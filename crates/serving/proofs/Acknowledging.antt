@@ -1,4 +1,4 @@
--- Clients are told answers, and those to commits survive a crash.
+-- Clients get answers, and those to commits survive a crash.
 use Rattle.std.proofs.Common.{◌≡◌, ◌⊎◌, ℕ, true, None, Option, Result, Ok, Err, List, [], take, refl, sym, subst, IsTrue}
 use Rattle.std.specs.Io.KnownBytes.{Appends, Consumes, IsAtEnd}
 use Rattle.std.specs.Prelude.{MatchResult, OnErr, OnOk}
@@ -18,7 +18,7 @@ use Rattle.serving.specs.Ending.{EndsEpoch, end_answers}
 use Rattle.serving.specs.Epochs.{LeavesEpochs, WritesEpochs}
 use Rattle.serving.specs.Group.{IsFresh}
 use Rattle.serving.specs.Requests.{LetsGo}
-use Rattle.serving.specs.Serving.{GoesOn, HasServed, ServesBytes, life_of}
+use Rattle.serving.specs.Serving.{StaysInEpoch, HasServed, ServesBytes, life_of}
 use Rattle.serving.specs.Told.{AppendsPart, answers_text, greeting, has_commit}
 use Rattle.serving.specs.Whole.{session_of}
 use Rattle.serving.proofs.EndLemmas.{stops-answering, stops-ending, stops-greeting}
@@ -33,7 +33,7 @@ LeavesLast g d = (db : Trees) → IsTrue (g.view d.journal.store).is_open → ma
 
 -- ---- a server
 
--- nothing was told yet
+-- nothing was answered yet
 pub tells-none : {S : Type 0} {g : Ghosts S} (given taken : Option (List ℕ)) (s : Server S) → IsDurable g s.session.store → IsFresh s → LeavesLast g s.session.store
     → TellsSafely g s.session given taken s given taken
 tells-none given taken s sound fresh last = record {
@@ -41,12 +41,12 @@ tells-none given taken s sound fresh last = record {
   safe = λ shows clean. safe-none s.session sound fresh.named last shows clean;
 }
 
--- a group was told
+-- a group was answered
 pub tells-group : {S : Type 0} {g : Ghosts S} {began : Session S} {given taken given_now taken_now : Option (List ℕ)} {old : Server S} (mid new : Server S) (given_new taken_new : Option (List ℕ))
     (bytes : List ℕ) → old.end ≡ None → TellsSafely g began given taken old given_now taken_now
     → ((told : List Answered) (seen : List ℕ) → HasServed g began told seen old → ServesBytes g began told seen bytes mid)
     → Consumes given_now given_new bytes → Appends taken_now taken_new (answers_text mid.answers.items)
-    → GoesOn g old.session mid.session → GoesOn g mid.session new.session → LetsGo mid.session.store.store new.session.store.store
+    → StaysInEpoch g old.session mid.session → StaysInEpoch g mid.session new.session → LetsGo mid.session.store.store new.session.store.store
     → (has_commit mid.answers.items ≡ true → ShowsCommit g new.session.store.journal)
     → (Clean g new.session.store.journal → written g new.session.store.journal ≡ written g mid.session.store.journal)
     → new.line ≡ mid.line → new.end ≡ mid.end → new.answers.items ≡ [] → TellsSafely g began given taken new given_new taken_new
@@ -60,7 +60,7 @@ tells-group {old = old} mid new given_new taken_new bytes none so_far serves con
       more.served.lasts.named more.served.serves clean;
 }
 
--- nothing of what tells it has changed
+-- where the session, the line, the answers and the end are the same
 pub tells-as : {S : Type 0} {g : Ghosts S} {began : Session S} {given taken given_now taken_now : Option (List ℕ)} {old : Server S} (new : Server S) → new.session ≡ old.session → new.line ≡ old.line
     → new.answers ≡ old.answers → new.end ≡ old.end → TellsSafely g began given taken old given_now taken_now → TellsSafely g began given taken new given_now taken_now
 tells-as {S} {g} {began} new session line answers ended so_far = record {
@@ -83,7 +83,7 @@ tells-epoch {old = old} new kept kept_now none full ends sound named most writes
 
 -- ---- a server stops
 
--- with nothing more told
+-- with no more answers
 pub stops-safely : {S : Type 0} {g : Ghosts S} {began : Session S} {given taken given_now taken_now : Option (List ℕ)} {old : Server S} (new : Durable S) (kept kept_now : Option (List KeptHistory))
     → (Clean g new.journal → Clean g old.session.store.journal) → LeavesEpochs g old.session.store new kept kept_now → TellsSafely g began given taken old given_now taken_now
     → StopsSafely g began taken new taken_now
@@ -92,10 +92,10 @@ stops-safely {old = old} new kept kept_now clean crash so_far = record {
   safe = λ shows now. survives-on old.session.store new kept kept_now (so_far.safe shows (clean now)) crash;
 }
 
--- while it tells what it had settled
+-- while it answers what it had settled
 pub stops-safely-telling : {S : Type 0} {g : Ghosts S} {began : Session S} {given taken given_now taken_now : Option (List ℕ)} {old : Server S} (mid : Server S) (new : Session S) (taken_new : Option (List ℕ))
     (bytes : List ℕ) → TellsSafely g began given taken old given_now taken_now → ((told : List Answered) (seen : List ℕ) → HasServed g began told seen old → ServesBytes g began told seen bytes mid)
-    → AppendsPart taken_now taken_new (answers_text mid.answers.items) → GoesOn g old.session mid.session → GoesOn g mid.session new
+    → AppendsPart taken_now taken_new (answers_text mid.answers.items) → StaysInEpoch g old.session mid.session → StaysInEpoch g mid.session new
     → (has_commit mid.answers.items ≡ true → ShowsCommit g new.store.journal) → (Clean g new.store.journal → written g new.store.journal ≡ written g mid.session.store.journal)
     → StopsSafely g began taken new.store taken_new
 stops-safely-telling {old = old} mid new taken_new bytes so_far serves part first second settled same =
@@ -118,7 +118,7 @@ stops-safely-greeting {most = most} began sound last part = record {
   safe = λ shows clean. (safe-none (session_of most began) sound refl last shows clean).survives;
 }
 
--- while a server tells
+-- while a server answers
 pub stops-safely-served : {S : Type 0} {g : Ghosts S} {most : ℕ} {taken greeted taken_now : Option (List ℕ)} {session : Session S} {began now d : Durable S} → session ≡ session_of most began → now ≡ d
     → Appends taken greeted (greeting (life_of began)) → StopsSafely g session greeted d taken_now → StopsServingSafely g most began taken now taken_now
 stops-safely-served {S} {g} {most} {taken} {greeted} {taken_now} {session} {began} {now} {d} same is_now greets so_far =
@@ -126,7 +126,7 @@ stops-safely-served {S} {g} {most} {taken} {greeted} {taken_now} {session} {bega
     subst (λ (x : Durable S). StopsSafely g (session_of most began) greeted x taken_now) (sym is_now) (subst (λ (s : Session S). StopsSafely g s greeted d taken_now) same so_far) in
     record { stops = stops-answering began now greets safe.stops; safe = safe.safe }
 
--- behind all answers
+-- after all answers
 stops-safely-ending : {S : Type 0} {g : Ghosts S} {most : ℕ} {given given_now taken greeted answered taken_now : Option (List ℕ)} {served : Server S} (began now : Durable S) (kept kept_now : Option (List KeptHistory))
     → Appends taken greeted (greeting (life_of began)) → TellsSafely g (session_of most began) given greeted served given_now answered → (Clean g now.journal → Clean g served.session.store.journal)
     → LeavesEpochs g served.session.store now kept kept_now
@@ -146,7 +146,7 @@ serves-safely {greeted = greeted} {answered} {served = served} began now kept ke
   safe = λ shows at_end. survives-on served.session.store now kept kept_now (so_far.safe shows (clean at_end)) crash;
 }
 
--- however it ended, as a server and its end tell it
+-- however it ended, as a server and its end say it
 pub whole-safely : {S E : Type 0} {g : Ghosts S} {most : ℕ} {given given_now greeted answered : Option (List ℕ)} {served : Server S} {session : Session S} {began d : Durable S} {e : Option Asked}
     (taken taken_now : Option (List ℕ)) (now : Durable S) (kept kept_now : Option (List KeptHistory)) (r : Result (Unit {0}) E) → session ≡ session_of most began → Appends taken greeted (greeting (life_of began))
     → TellsSafely g session given greeted served given_now answered → (served.end ≡ None → IsAtEnd given_now) → d ≡ served.session.store → e ≡ served.end → (Clean g now.journal → Clean g d.journal)

@@ -46,7 +46,7 @@ kept-more n half b = elim (shorter-or-not n (length half)) [
 too-long : (line : List ℕ) → 255 < length line → asked_of line ≡ untagged TooLong
 too-long line long = let test : nat_le (length line) 255 ≡ false = lt-leb _ _ long in rw test
 
--- so much of a line tells what it asks
+-- the first 256 bytes of a line say what it asks
 pub asked-kept : (half : List ℕ) → asked_of (take 256 half) ≡ asked_of half
 asked-kept half = elim (shorter-or-not 256 (length half)) [
   | inl short ↦ ap asked_of (take_all 256 half (omega arith))

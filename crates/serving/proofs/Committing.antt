@@ -1,4 +1,4 @@
--- Commits that were told are events of the file.
+-- Commits that were answered are events of the file.
 use Rattle.std.proofs.Common.{◌≡◌, ◌∙◌, ◌⊎◌, inl, inr, ℕ, suc, ◌<◌, ◌≤◌, Bool, true, false, ◌||◌, Option, None, Some, Result, Ok, Err, List, [], ◌∷◌, ◌++◌, length, refl, sym, ap, subst, arith}
 use Rattle.std.proofs.lemmas.Bool.{eqb-true}
 use Rattle.std.proofs.lemmas.List.{append-nil, length-append, map-append}
@@ -8,13 +8,13 @@ use Rattle.sqlite_trees.specs.declared.store.Store.{Ghosts}
 use Rattle.object_trait.specs.declared.event.Event.{Event}
 use Rattle.object_trait.specs.declared.event.EventKind.{EventKind}
 use Rattle.object_trait.specs.declared.event.EventKind.TheVariants as kind
-use Rattle.serial_order.specs.History.{seen}
+use Rattle.serial_order.specs.History.{summary}
 use Rattle.serial_order.specs.Replay.{appended, event_of}
 use Rattle.serial_order.specs.declared.command.Command.{Command}
 use Rattle.serial_order.specs.declared.command.Command.TheVariants as command
 use Rattle.serial_order.specs.declared.refusal.Refusal.{Refusal}
 use Rattle.serial_order.specs.declared.refusal.Refusal.TheVariants.{NotOpen}
-use Rattle.store_laws.specs.Stored.{MayStep, Steps, Stored, after, objects, refusal_of}
+use Rattle.store_laws.specs.Stored.{MayStep, Steps, Stored, stored_after, objects, refusal_of}
 use Rattle.store.specs.Ends.{closing}
 use Rattle.journal.specs.declared.header.Header.{Header}
 use Rattle.journal.specs.Contents.{Contents, contents_of}
@@ -50,7 +50,7 @@ told-has (line ∷ lines) (a ∷ answers) t told = elim told [
   | inr later ↦ elim (is_commit a.answer) as (λ v. (v || has_commit answers) ≡ true) [ true ↦ refl | false ↦ told-has lines answers t later ]
 ]
 
--- the first answers tell it, where no answer behind them tells of a commit
+-- it is among the first answers, where no answer after them is to a commit
 told-first : (asked later : List (List ℕ)) (first others : List Answered) (t : TransactionName) → length first ≤ length asked → has_commit others ≡ false
     → TellsCommit (asked ++ later) (first ++ others) t → TellsCommit asked first t
 told-first [] later [] others t within none told = absurd (let it : true ≡ false = sym (told-has later others t told) ∙ none in cc)
@@ -97,11 +97,11 @@ appended-grows : (H : List Event) (w : ℕ) (happened : Option EventKind) → (m
 appended-grows H w None = ([], sym (append-nil H))
 appended-grows H w (Some k) = (record { worker = w; kind = k } ∷ [], refl)
 
-after-grows : (old : Stored) (w : ℕ) (c : Command) → Grows old (after old w c)
+after-grows : (old : Stored) (w : ℕ) (c : Command) → Grows old (stored_after old w c)
 after-grows old w c =
-    let grown = elim (is_some (refusal_of old c)) as (λ v. (more : List Event) × ((if v then old.history else appended old.history w (event_of (objects old) (seen old.history) c)) ≡ old.history ++ more)) [
+    let grown = elim (is_some (refusal_of old c)) as (λ v. (more : List Event) × ((if v then old.history else appended old.history w (event_of (objects old) (summary old.history) c)) ≡ old.history ++ more)) [
       | true ↦ ([], sym (append-nil old.history))
-      | false ↦ appended-grows old.history w (event_of (objects old) (seen old.history) c)
+      | false ↦ appended-grows old.history w (event_of (objects old) (summary old.history) c)
     ] in
     (grown.0, grown.1, refl)
 

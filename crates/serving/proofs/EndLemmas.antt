@@ -36,7 +36,7 @@ left-served {S} g {began} {old} {mid} {d} new kept kept_mid kept_now is_old is_m
     subst (λ (x : Durable S). LeavesEpochs g x new kept kept_now) is_old
     (left-then g old mid new kept kept_mid kept_now clean wrote first (subst (λ (x : Durable S). LeavesEpochs g x new kept_mid kept_now) is_mid second))
 
--- ---- what was told
+-- ---- what was answered
 
 -- a beginning of the greeting
 abbrev pub stops-greeting : {S : Type 0} {g : Ghosts S} {most : ℕ} {taken taken_now : Option (List ℕ)} (began : Durable S) → AppendsPart taken taken_now (greeting (life_of began)) → StopsServing g most began taken began taken_now
@@ -63,7 +63,7 @@ stops-answering {S} {g} {most} {taken} {greeted} {taken_now} began now greets st
   told = inl (part-then taken greeted taken_now (greeting (life_of began)) (answers_text stops.answers) greets stops.part);
 }
 
--- the same, as a server tells it
+-- the same, as a server says it
 pub stops-served : {S : Type 0} {g : Ghosts S} {most : ℕ} {taken greeted taken_now : Option (List ℕ)} {session : Session S} {began now d : Durable S} → session ≡ session_of most began → now ≡ d
     → Appends taken greeted (greeting (life_of began)) → StopsTelling g session greeted d taken_now → StopsServing g most began taken now taken_now
 stops-served {S} {g} {most} {taken} {greeted} {taken_now} {session} {began} {now} {d} same is_now greets stops =
@@ -94,7 +94,7 @@ serves-whole {S} {E} {g} {most} {given} {given_now} {greeted} {answered} {served
 }
 serves-whole taken taken_now now (Err x) same greets tells asked at_end is_end clean renews ends = tt
 
--- all of these, and then nothing, or a beginning of what is told at the end
+-- all of these, and then nothing, or a beginning of what is answered at the end
 abbrev pub stops-ending : {S : Type 0} {g : Ghosts S} {most : ℕ} {given given_now taken greeted answered taken_now : Option (List ℕ)} {served : Server S} (began now : Durable S) → Appends taken greeted (greeting (life_of began))
     → HasTold g (session_of most began) given greeted served given_now answered → (Clean g now.journal → Clean g served.session.store.journal)
     → ((taken_now ≡ answered) ⊎ (EndsEpoch g served.session.store now × AppendsPart answered taken_now (answers_text (end_answers served.end)))) → StopsServing g most began taken now taken_now
@@ -115,7 +115,7 @@ stops-ending {S} {g} {most} {given} {given_now} {taken} {greeted} {answered} {ta
       ];
     }
 
--- the same, as the end tells it
+-- the same, as the end says it
 pub stops-whole : {S E : Type 0} {g : Ghosts S} {most : ℕ} {given given_now greeted answered : Option (List ℕ)} {served : Server S} {session : Session S} {began d : Durable S} {e : Option Asked}
     (taken taken_now : Option (List ℕ)) (now : Durable S) (r : Result (Unit {0}) E) → session ≡ session_of most began → Appends taken greeted (greeting (life_of began)) → HasTold g session given greeted served given_now answered
     → d ≡ served.session.store → e ≡ served.end → (Clean g now.journal → Clean g d.journal)

@@ -1,13 +1,10 @@
 -- The lines of some bytes are the first ones of more bytes.
-use Rattle.std.proofs.Common.{◌≡◌, ◌∙◌, ℕ, Bool, true, false, ◌||◌, List, [], ◌∷◌, ◌++◌, drop, get_or, refl, sym, ap, ap₂, subst}
+use Rattle.std.proofs.Common.{◌≡◌, ◌∙◌, ℕ, true, false, ◌||◌, List, [], ◌∷◌, ◌++◌, drop, get_or, refl, sym, ap, ap₂, subst}
 use Rattle.std.proofs.lemmas.List.{append_assoc}
 use Rattle.std.specs.Prelude.{◌==◌}
 use Rattle.std.specs.List.{AllByRecursion, flat_map}
+use Rattle.std.proofs.lemmas.Bool.{or_parts}
 use Rattle.serving.specs.Lines.{AreLines, ended_line, has_lf}
-
-both-false : (p q : Bool) → (p || q) ≡ false → (p ≡ false) × (q ≡ false)
-both-false true q e = absurd cc
-both-false false q e = (refl, e)
 
 lf-there : (line rest : List ℕ) → has_lf (line ++ 10 ∷ rest) ≡ true
 lf-there [] rest = refl
@@ -21,10 +18,10 @@ same-line [] (b ∷ other) rest more whole none e =
 same-line (b ∷ line) [] rest more whole none e =
     absurd (let it : true ≡ false = subst (λ n. ((n == 10) || has_lf line) ≡ false) (ap (λ xs. get_or xs 0 0) e) whole in cc)
 same-line (b ∷ line) (c ∷ other) rest more whole none e =
-    let same = same-line line other rest more (both-false (b == 10) (has_lf line) whole).1 (both-false (c == 10) (has_lf other) none).1 (ap (drop 1) e) in
+    let same = same-line line other rest more (or_parts (b == 10) (has_lf line) whole).1 (or_parts (c == 10) (has_lf other) none).1 (ap (drop 1) e) in
     (ap₂ (λ x xs. x ∷ xs) (ap (λ xs. get_or xs 0 0) e) same.0, same.1)
 
--- the bytes of lines and what is behind them, from the end of the first line on
+-- the bytes of lines and what is after them, from the end of the first line on
 first-cut : (line : List ℕ) (lines : List (List ℕ)) (rest : List ℕ) → flat_map ended_line (line ∷ lines) ++ rest ≡ line ++ 10 ∷ (flat_map ended_line lines ++ rest)
 first-cut line lines rest = append_assoc (ended_line line) (flat_map ended_line lines) rest ∙ append_assoc line (10 ∷ []) (flat_map ended_line lines ++ rest)
 

@@ -1,4 +1,4 @@
--- What was told, group by group.
+-- What was answered, group by group.
 use Rattle.std.proofs.Common.{◌≡◌, ◌∙◌, ℕ, ◌+◌, List, [], ◌++◌, length, take, drop, refl, sym, ap, subst, Option, None, arith}
 use Rattle.std.proofs.Math.Seq.{take-append-add}
 use Rattle.std.proofs.lemmas.List.{append_assoc, append-nil, length-append, take-append-drop, drop_all}
@@ -13,11 +13,11 @@ use Rattle.serving.specs.declared.session.Session.{Session}
 use Rattle.serving.specs.declared.server.Server.{Server}
 use Rattle.serving.specs.Requests.{LetsGo}
 use Rattle.serving.specs.Served.{Serves}
-use Rattle.serving.specs.Serving.{GoesOn, HasServed, ServesBytes}
+use Rattle.serving.specs.Serving.{StaysInEpoch, HasServed, ServesBytes}
 use Rattle.durable_store.specs.Durable.{IsDurable}
 use Rattle.serving.specs.Group.{HasTold, IsFresh, StopsTelling}
 use Rattle.serving.specs.Told.{AppendsPart, answers_text}
-use Rattle.serving.proofs.Lasting.{lasts-goes, lasts-nowhere}
+use Rattle.serving.proofs.Lasting.{lasts-stays, lasts-nowhere}
 use Rattle.serving.proofs.Telling.{part-of-whole}
 
 -- ---- known bytes
@@ -31,7 +31,7 @@ told-more told more = flat_map-append _ told more
 
 -- ---- a server stops
 
--- with nothing more told
+-- with no more answers
 abbrev pub stops-before : {S : Type 0} {g : Ghosts S} {began : Session S} {given taken given_now taken_now : Option (List ℕ)} {old : Server S} (new : Durable S)
     → (Clean g new.journal → Clean g old.session.store.journal) → HasTold g began given taken old given_now taken_now → StopsTelling g began taken new taken_now
 stops-before {S} {g} {began} {given} {taken} {given_now} {taken_now} {old} new clean has = record {
@@ -45,7 +45,7 @@ stops-before {S} {g} {began} {given} {taken} {given_now} {taken_now} {old} new c
   part = part-of-whole taken taken_now taken_now (answers_text has.told) has.appended (Keeps-refl taken_now);
 }
 
--- while it tells
+-- while it answers
 abbrev pub stops-telling : {S : Type 0} {g : Ghosts S} {began : Session S} {given taken given_now taken_now : Option (List ℕ)} {old : Server S} (mid : Server S) (new : Durable S) (taken_new : Option (List ℕ))
     (bytes : List ℕ) → (Clean g new.journal → Clean g mid.session.store.journal) → (has : HasTold g began given taken old given_now taken_now) → ServesBytes g began has.told has.seen bytes mid
     → AppendsPart taken_now taken_new (answers_text mid.answers.items) → StopsTelling g began taken new taken_new
@@ -59,16 +59,16 @@ stops-telling {S} {g} {began} {given} {taken} {given_now} {taken_now} {old} mid 
   part = subst (AppendsPart taken taken_new) (sym (told-more has.told mid.answers.items)) (part-then taken taken_now taken_new (answers_text has.told) (answers_text mid.answers.items) has.appended part);
 }
 
--- ---- a group was told
+-- ---- a group was answered
 
 abbrev pub group-told : {S : Type 0} {g : Ghosts S} {began : Session S} {given taken given_now taken_now : Option (List ℕ)} {old : Server S} (mid new : Server S) (given_new taken_new : Option (List ℕ))
     (bytes : List ℕ) → old.end ≡ None → HasTold g began given taken old given_now taken_now
     → ((told : List Answered) (seen : List ℕ) → HasServed g began told seen old → ServesBytes g began told seen bytes mid)
     → Consumes given_now given_new bytes → Appends taken_now taken_new (answers_text mid.answers.items)
-    → GoesOn g mid.session new.session → LetsGo mid.session.store.store new.session.store.store
+    → StaysInEpoch g mid.session new.session → LetsGo mid.session.store.store new.session.store.store
     → new.line ≡ mid.line → new.end ≡ mid.end → new.answers.items ≡ []
     → HasTold g began given taken new given_new taken_new
-group-told {S} {g} {began} {given} {taken} {given_now} {taken_now} {old} mid new given_new taken_new bytes none has serves consumed appended goes lets line ended clear =
+group-told {S} {g} {began} {given} {taken} {given_now} {taken_now} {old} mid new given_new taken_new bytes none has serves consumed appended stays lets line ended clear =
     let more = serves has.told has.seen has.served in
     let served = more.served in
     record {
@@ -86,16 +86,16 @@ group-told {S} {g} {began} {given} {taken} {given_now} {taken_now} {old} mid new
         half = served.half;
         asked = served.asked;
         kept = ap (λ v. v.items) line ∙ served.kept;
-        lasts = lasts-goes served.lasts goes;
+        lasts = lasts-stays served.lasts stays;
         serves = λ clean.
-            let so_far = served.serves (goes.clean clean) in
-            rw (lets, ended, goes.life, ap (λ xs. (has.told ++ mid.answers.items) ++ xs) clear ∙ append-nil (has.told ++ mid.answers.items))
+            let so_far = served.serves (stays.clean clean) in
+            rw (lets, ended, stays.life, ap (λ xs. (has.told ++ mid.answers.items) ++ xs) clear ∙ append-nil (has.told ++ mid.answers.items))
             (Serves.forget served.lines began.store.store mid.session.store.store (has.told ++ mid.answers.items) mid.session.life new.session.store.store.forgotten mid.end so_far);
       };
       appended = subst (Appends taken taken_new) (sym (told-more has.told mid.answers.items)) (Appends-trans taken taken_now taken_new (answers_text has.told) (answers_text mid.answers.items) has.appended appended);
     }
 
--- ---- nothing was told yet
+-- ---- nothing was answered yet
 
 abbrev pub told-none : {S : Type 0} {g : Ghosts S} (given taken : Option (List ℕ)) (s : Server S) → IsDurable g s.session.store → IsFresh s → HasTold g s.session given taken s given taken
 told-none {S} {g} given taken s sound fresh = record {

@@ -19,7 +19,7 @@ keeps-none known = with-none known
 pub least-none : (known : Option (List KeptHistory)) → KeepsAtLeast known known []
 least-none known = ([], with-none known)
 
--- one that tells nothing was given any
+-- one that says nothing was given any
 pub keeps-untold : (known : Option (List KeptHistory)) (ended : List Contents) → known ≡ None → KeepsEpochs known known ended
 keeps-untold None ended none = refl
 keeps-untold (Some all) ended some = absurd cc

@@ -25,7 +25,7 @@ use Rattle.serving.specs.Follows.{Follows, LeavesMore}
 use Rattle.serving.specs.Group.{HasTold}
 use Rattle.serving.specs.Requests.{LetsGo}
 use Rattle.serving.specs.Served.{Serves}
-use Rattle.serving.specs.Serving.{GoesOn, HasServed, Lasts, life_of}
+use Rattle.serving.specs.Serving.{StaysInEpoch, HasServed, Lasts, life_of}
 use Rattle.serving.proofs.Following.{follows-with_all}
 use Rattle.serving.proofs.Keeping.{keeps-none, keeps-then, least-more, least-none, least-these, least-then}
 
@@ -182,8 +182,8 @@ writes-epoch old mid new kept kept_now (Err e) sound clean wrote keeps renews sh
 -- ---- sessions
 
 -- requests in one epoch
-pub lasts-goes : {S : Type 0} {g : Ghosts S} {began mid new : Session S} → Lasts g began mid → GoesOn g mid new → Lasts g began new
-lasts-goes {S} {g} {began} {mid} {new} first second = record {
+pub lasts-stays : {S : Type 0} {g : Ghosts S} {began mid new : Session S} → Lasts g began mid → StaysInEpoch g mid new → Lasts g began new
+lasts-stays {S} {g} {began} {mid} {new} first second = record {
   sound = second.sound;
   named = second.life ∙ first.named ∙ sym second.same;
   most = second.most ∙ first.most;
@@ -204,15 +204,15 @@ lasts-nowhere {S} {g} s sound named = record {
 }
 
 -- a session that went on in one epoch and then began another
-pub writes-goes : {S : Type 0} {g : Ghosts S} (old mid : Session S) (new : Durable S) (kept kept_now : Option (List KeptHistory)) → GoesOn g old mid → (Clean g new.journal → Clean g mid.store.journal)
+pub writes-stays : {S : Type 0} {g : Ghosts S} (old mid : Session S) (new : Durable S) (kept kept_now : Option (List KeptHistory)) → StaysInEpoch g old mid → (Clean g new.journal → Clean g mid.store.journal)
     → WritesEpochs g mid.store new kept kept_now → WritesEpochs g old.store new kept kept_now
-writes-goes {S} {g} old mid new kept kept_now goes clean writes = writes-on g old.store mid.store new kept kept kept_now clean (writes-one g old.store mid.store kept goes.follows) writes
+writes-stays {S} {g} old mid new kept kept_now stays clean writes = writes-on g old.store mid.store new kept kept kept_now clean (writes-one g old.store mid.store kept stays.follows) writes
 
 -- a crash of it
-pub left-goes : {S : Type 0} {g : Ghosts S} (old mid : Session S) (new : Durable S) (kept kept_now : Option (List KeptHistory)) → GoesOn g old mid → LeavesEpochs g mid.store new kept kept_now
+pub left-stays : {S : Type 0} {g : Ghosts S} (old mid : Session S) (new : Durable S) (kept kept_now : Option (List KeptHistory)) → StaysInEpoch g old mid → LeavesEpochs g mid.store new kept kept_now
     → LeavesEpochs g old.store new kept kept_now
-left-goes {S} {g} old mid new kept kept_now goes crash =
-    left-then g old.store mid.store new kept kept kept_now goes.clean (writes-one g old.store mid.store kept goes.follows) (left-more g old.store mid.store kept goes.crash) crash
+left-stays {S} {g} old mid new kept kept_now stays crash =
+    left-then g old.store mid.store new kept kept kept_now stays.clean (writes-one g old.store mid.store kept stays.follows) (left-more g old.store mid.store kept stays.crash) crash
 
 -- another epoch
 pub lasts-epoch : {S : Type 0} {g : Ghosts S} {began mid : Session S} (new : Session S) (kept kept_now : Option (List KeptHistory)) → Lasts g began mid → IsDurable g new.store → new.life ≡ life_of new.store
@@ -226,7 +226,7 @@ lasts-epoch {S} {g} {began} {mid} new kept kept_now first sound named most write
   crash = left-then g began.store mid.store new.store None None None first.clean first.reaches first.crash (left-untold g mid.store new.store kept kept_now crash);
 }
 
--- what a server has served, behind another epoch too
+-- what a server has served, after another epoch too
 abbrev pub served-epoch : {S : Type 0} {g : Ghosts S} {began : Session S} {told : List Answered} {bytes : List ℕ} {old : Server S} (new : Server S) (kept kept_now : Option (List KeptHistory)) → old.end ≡ None
     → is_full old.session.most_events old.session.store.store ≡ true → EndsEpoch g old.session.store new.session.store → IsDurable g new.session.store → new.session.life ≡ life_of new.session.store
     → new.session.most_events ≡ old.session.most_events → WritesEpochs g old.session.store new.session.store kept kept_now → (Clean g new.session.store.journal → Clean g old.session.store.journal)
@@ -249,7 +249,7 @@ served-epoch {S} {g} {began} {told} {bytes} {old} new kept kept_now none full en
       (subst (λ n. is_full n old.session.store.store ≡ true) served.lasts.most full) ends.store);
 }
 
--- the same of what it has told
+-- the same of what it has answered
 abbrev pub told-epoch : {S : Type 0} {g : Ghosts S} {began : Session S} {given taken given_now taken_now : Option (List ℕ)} {old : Server S} (new : Server S) (kept kept_now : Option (List KeptHistory)) → old.end ≡ None
     → is_full old.session.most_events old.session.store.store ≡ true → EndsEpoch g old.session.store new.session.store → IsDurable g new.session.store → new.session.life ≡ life_of new.session.store
     → new.session.most_events ≡ old.session.most_events → WritesEpochs g old.session.store new.session.store kept kept_now → (Clean g new.session.store.journal → Clean g old.session.store.journal)

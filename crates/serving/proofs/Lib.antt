@@ -1,3 +1,4 @@
+pub mod Results
 pub mod Following
 pub mod ByteByByte
 pub mod Keeping

@@ -1,5 +1,5 @@
 -- The lines of a text, one after another.
-use Rattle.std.proofs.Common.{◌≡◌, ◌∙◌, ℕ, ◌+◌, Bool, true, false, cond, eqb, ltb, List, [], ◌∷◌, ◌++◌, length, take, drop, position, Option, Some, None, Result, Ok, Err, refl, sym, ap}
+use Rattle.std.proofs.Common.{◌≡◌, ◌∙◌, ℕ, ◌+◌, Bool, eqb, ltb, List, [], ◌∷◌, ◌++◌, length, take, drop, position, Option, Some, None, Result, Ok, Err, sym, ap}
 use Rattle.std.proofs.lemmas.Bool.{ltb-true, ltb-false}
 use Rattle.std.proofs.lemmas.Option.{cond_some}
 use Rattle.std.proofs.lemmas.List.{append_assoc, append-nil}
@@ -7,7 +7,7 @@ use Rattle.std.proofs.lemmas.List.Splits.{slice_split_first}
 use Rattle.std.proofs.lemmas.Grind.{flat_map-append}
 use Rattle.std.specs.List.{flat_map, position_or_len, slice_split}
 use Rattle.std.specs.Result.{IsErrAnd}
-use Rattle.line_text.proofs.Lines.{slice_split_whole}
+use Rattle.line_text.proofs.Lines.{none_is, slice_split_whole}
 use Rattle.outputs.specs.Out.{Puts, PutsJoin, PutsStop}
 use Rattle.outputs.specs.declared.out.OutFault.{OutFault}
 use Rattle.outputs.proofs.Turns.{Puts-append, Puts-exit}
@@ -16,17 +16,13 @@ use Rattle.serving.specs.AnswerText.{behind, lines_text}
 abbrev is_lf : ℕ → Bool
 is_lf b = eqb b 10
 
--- the first line, and those behind it
+-- the first line, and those after it
 pub lines-first : (text : List ℕ) (at : ℕ) → position is_lf text ≡ Some at → slice_split is_lf text ≡ take at text ∷ slice_split is_lf (drop (at + 1) text)
 lines-first text at found =
     let place = position_or_len is_lf text in
     let is = cond_some (ltb place (length text)) place at found in
     let whole : slice_split is_lf text ≡ take place text ∷ slice_split is_lf (drop (place + 1) text) = slice_split_first is_lf text 0 (ltb-true _ _ is.0) in
     rw is.1 at whole
-
-none_is : (b : Bool) (n : ℕ) → cond b (Some n) None ≡ None → b ≡ false
-none_is true n e = absurd cc
-none_is false n e = refl
 
 -- the only one
 pub lines-last : (text : List ℕ) → position is_lf text ≡ None → slice_split is_lf text ≡ text ∷ []

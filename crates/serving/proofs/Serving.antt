@@ -20,14 +20,14 @@ use Rattle.serving.specs.declared.server.Server.{Server}
 use Rattle.serving.specs.Lines.{asks_end, is_end}
 use Rattle.serving.specs.Requests.{DoesRequest, TellsObjects, TellsTypes}
 use Rattle.serving.specs.Served.{IsAnswered, Serves}
-use Rattle.serving.specs.Serving.{AnswersLine, DoesLine, GoesOn, HasServed, KeepsByte, TakesByte, TakesEnd, most_kept}
+use Rattle.serving.specs.Serving.{AnswersLine, DoesLine, StaysInEpoch, HasServed, KeepsByte, TakesByte, TakesEnd, most_kept}
 use Rattle.durable_store.specs.Durable.{IsDurable}
 use Rattle.serving.proofs.Following.{follows-none, leaves-then, writes-then}
-use Rattle.serving.proofs.Lasting.{lasts-goes, reaches-same}
+use Rattle.serving.proofs.Lasting.{lasts-stays, reaches-same}
 use Rattle.serving.proofs.ByteByByte.{asked-kept, byte-more, kept-more, line-more}
 
-pub goes-then : {S : Type 0} {g : Ghosts S} {old mid new : Session S} → GoesOn g old mid → GoesOn g mid new → GoesOn g old new
-goes-then {g = g} {old} {mid} {new} first second = record {
+pub stays-then : {S : Type 0} {g : Ghosts S} {old mid new : Session S} → StaysInEpoch g old mid → StaysInEpoch g mid new → StaysInEpoch g old new
+stays-then {g = g} {old} {mid} {new} first second = record {
   sound = second.sound;
   life = second.life ∙ first.life;
   most = second.most ∙ first.most;
@@ -38,8 +38,8 @@ goes-then {g = g} {old} {mid} {new} first second = record {
 }
 
 -- a session that is as it was
-pub goes-nowhere : {S : Type 0} {g : Ghosts S} (s : Session S) → IsDurable g s.store → GoesOn g s s
-goes-nowhere {g = g} s sound = record {
+pub stays-put : {S : Type 0} {g : Ghosts S} (s : Session S) → IsDurable g s.store → StaysInEpoch g s s
+stays-put {g = g} s sound = record {
   sound = sound;
   life = refl;
   most = refl;
@@ -104,9 +104,9 @@ line-answered {S} {g} {began} {told} {bytes} {old} {new} b is none clear other d
       half = [];
       asked = line-more b is served.asked;
       kept = clear;
-      lasts = lasts-goes served.lasts does.goes_on;
+      lasts = lasts-stays served.lasts does.stays_in_epoch;
       serves = λ clean.
-          let before = does.goes_on.clean clean in
+          let before = does.stays_in_epoch.clean clean in
           let so_far : Serves most file began.life served.lines began.store.store (told ++ old.answers.items) old.session.life old.session.store.store None =
           subst (λ ended. Serves most file began.life served.lines began.store.store (told ++ old.answers.items) old.session.life old.session.store.store ended) none (served.serves before) in
           let answered : IsAnswered most old.session.life file served.half old.session.store.store does.a new.session.store.store =
@@ -116,7 +116,7 @@ line-answered {S} {g} {began} {told} {bytes} {old} {new} b is none clear other d
           let ends : asks_end served.half ≡ false = ap (λ (x : Asked). is_end x.request) (sym same) ∙ other in
           let ended : new.end ≡ None = ap (λ (s : Server S). s.end) does.others ∙ none in
           let all : told ++ new.answers.items ≡ (told ++ old.answers.items) ++ does.a ∷ [] = ap (λ xs. told ++ xs) does.told ∙ sym (append_assoc told old.answers.items (does.a ∷ [])) in
-          rw (ended, all, does.goes_on.life)
+          rw (ended, all, does.stays_in_epoch.life)
           (Serves.line served.lines served.half began.store.store old.session.store.store new.session.store.store (told ++ old.answers.items) does.a old.session.life so_far ends answered);
     }
 
@@ -158,21 +158,21 @@ byte-served {S} {g} {began} {told} {bytes} {old} {new} b none takes served =
     ] refl takes
 
 -- a byte goes on
-line-goes : {S : Type 0} {g : Ghosts S} {old new : Server S} → IsDurable g old.session.store → DoesLine g old new → GoesOn g old.session new.session
-line-goes {S} {g} {old} {new} sound does =
-    elim (asks_end old.line.items) as (λ v. MatchBool v (TakesEnd old new) (AnswersLine g old new) → GoesOn g old.session new.session) [
-      | true ↦ λ takes. subst (λ (s : Server S). GoesOn g old.session s.session) (sym takes.others) (goes-nowhere old.session sound)
-      | false ↦ λ answers. answers.goes_on
+line-stays : {S : Type 0} {g : Ghosts S} {old new : Server S} → IsDurable g old.session.store → DoesLine g old new → StaysInEpoch g old.session new.session
+line-stays {S} {g} {old} {new} sound does =
+    elim (asks_end old.line.items) as (λ v. MatchBool v (TakesEnd old new) (AnswersLine g old new) → StaysInEpoch g old.session new.session) [
+      | true ↦ λ takes. subst (λ (s : Server S). StaysInEpoch g old.session s.session) (sym takes.others) (stays-put old.session sound)
+      | false ↦ λ answers. answers.stays_in_epoch
     ] does.done
 
-pub byte-goes : {S : Type 0} {g : Ghosts S} (old new : Server S) (b : ℕ) → IsDurable g old.session.store → TakesByte g old b new → GoesOn g old.session new.session
-byte-goes {S} {g} old new b sound takes =
-    elim (b == 10) as (λ v. MatchBool v (DoesLine g old new) (KeepsByte old b new) → GoesOn g old.session new.session) [
-      | true ↦ λ does. line-goes sound does
-      | false ↦ λ keeps. subst (λ (s : Server S). GoesOn g old.session s.session) (sym keeps.others) (goes-nowhere old.session sound)
+pub byte-stays : {S : Type 0} {g : Ghosts S} (old new : Server S) (b : ℕ) → IsDurable g old.session.store → TakesByte g old b new → StaysInEpoch g old.session new.session
+byte-stays {S} {g} old new b sound takes =
+    elim (b == 10) as (λ v. MatchBool v (DoesLine g old new) (KeepsByte old b new) → StaysInEpoch g old.session new.session) [
+      | true ↦ λ does. line-stays sound does
+      | false ↦ λ keeps. subst (λ (s : Server S). StaysInEpoch g old.session s.session) (sym keeps.others) (stays-put old.session sound)
     ] takes
 
--- the byte at a place behind those before it
+-- the byte at a place after those before it
 pub bytes-more : {S : Type 0} {g : Ghosts S} {began : Session S} {told : List Answered} (seen : List ℕ) (old new : Server S) (bytes : List ℕ) (i : ℕ) → i < length bytes → old.end ≡ None
     → TakesByte g old (get_or bytes i 0) new → HasServed g began told (seen ++ take i bytes) old → HasServed g began told (seen ++ take (i + 1) bytes) new
 bytes-more {S} {g} {began} {told} seen old new bytes i inside none takes served =

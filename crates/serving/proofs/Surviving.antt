@@ -16,17 +16,17 @@ use Rattle.serving.specs.Archives.{KeptHistory}
 use Rattle.serving.specs.Epochs.{LeavesEpochs, Reaches, WritesEpochs}
 use Rattle.serving.specs.Follows.{LeavesMore}
 use Rattle.serving.specs.Served.{Serves}
-use Rattle.serving.specs.Serving.{GoesOn, life_of}
+use Rattle.serving.specs.Serving.{StaysInEpoch, life_of}
 use Rattle.serving.specs.Told.{has_commit, is_commit}
 use Rattle.serving.proofs.Lasting.{is-store-of, left-more, reaches-then, writes-one}
-use Rattle.serving.proofs.Serving.{goes-then}
+use Rattle.serving.proofs.Serving.{stays-then}
 
 -- ---- lines and their answers
 
 pub commits-all : (lines : List (List ℕ)) (answers : List Answered) → HasAllCommits lines answers lines answers
 commits-all lines answers = record { later = []; others = []; lines_are = sym (append-nil lines); answers_are = sym (append-nil answers); none = refl }
 
--- answers more, none of which tells of a commit
+-- answers more, none of which is to a commit
 pub commits-more : {lines asked : List (List ℕ)} {answers first : List Answered} (later : List (List ℕ)) (more : List Answered) → has_commit more ≡ false → HasAllCommits lines answers asked first
     → HasAllCommits (lines ++ later) (answers ++ more) asked first
 commits-more {lines} {asked} {answers} {first} later more none so_far = record {
@@ -69,12 +69,12 @@ safe-on {S} {g} {began} {lines} {answers} old new kept kept_now safe crash write
 }
 
 -- in one epoch
-pub safe-goes : {S : Type 0} {g : Ghosts S} {began : Session S} {lines : List (List ℕ)} {answers : List Answered} (old new : Session S) → StaysSafe g began lines answers old.store → GoesOn g old new
+pub safe-stays : {S : Type 0} {g : Ghosts S} {began : Session S} {lines : List (List ℕ)} {answers : List Answered} (old new : Session S) → StaysSafe g began lines answers old.store → StaysInEpoch g old new
     → Clean g new.store.journal → StaysSafe g began lines answers new.store
-safe-goes {S} {g} old new safe goes clean =
-    safe-on old.store new.store None None safe (left-more g old.store new.store None goes.crash) (writes-one g old.store new.store None goes.follows) clean
+safe-stays {S} {g} old new safe stays clean =
+    safe-on old.store new.store None None safe (left-more g old.store new.store None stays.crash) (writes-one g old.store new.store None stays.follows) clean
 
--- with answers more, none of which tells of a commit
+-- with answers more, none of which is to a commit
 pub safe-more : {S : Type 0} {g : Ghosts S} {began : Session S} {lines : List (List ℕ)} {answers : List Answered} {now : Durable S} (later : List (List ℕ)) (more : List Answered) → has_commit more ≡ false
     → StaysSafe g began lines answers now → StaysSafe g began (lines ++ later) (answers ++ more) now
 safe-more later more none safe = record {
@@ -122,9 +122,9 @@ safe-settled {S} {g} {began} {lines} {answers} file new done sound clean shows s
 }
 
 -- what a crash leaves of one that went on is the file of a store
-files-goes : {S : Type 0} {g : Ghosts S} {began : Session S} {lines : List (List ℕ)} {answers : List Answered} (old new : Durable S) → StaysSafe g began lines answers old → LeavesMore g old new
+files-stays : {S : Type 0} {g : Ghosts S} {began : Session S} {lines : List (List ℕ)} {answers : List Answered} (old new : Durable S) → StaysSafe g began lines answers old → LeavesMore g old new
     → (db : Trees) → may_leave g new.journal db → IsFile db
-files-goes old new safe crash db left = elim (crash db left) [ inl now ↦ now.1 | inr before ↦ (safe.survives.left db before).0 ]
+files-stays old new safe crash db left = elim (crash db left) [ inl now ↦ now.1 | inr before ↦ (safe.survives.left db before).0 ]
 
 -- a store that was asked nothing yet, of which nothing waits to become durable
 pub safe-none : {S : Type 0} {g : Ghosts S} (s : Session S) → IsDurable g s.store → s.life ≡ life_of s.store
@@ -136,9 +136,9 @@ safe-none {S} {g} s sound named last shows clean =
 
 -- ---- a group of lines
 
--- lines were done, and where an answer tells of a commit all that was written became durable
+-- lines were done, and where an answer is to a commit all that was written became durable
 pub safe-group : {S : Type 0} {g : Ghosts S} {began : Session S} {lines all : List (List ℕ)} {told : List Answered} (old mid new : Session S) (answers : List Answered) (ended : Option Asked)
-    → StaysSafe g began lines told old.store → GoesOn g old mid → GoesOn g mid new → (has_commit answers ≡ true → ShowsCommit g new.store.journal)
+    → StaysSafe g began lines told old.store → StaysInEpoch g old mid → StaysInEpoch g mid new → (has_commit answers ≡ true → ShowsCommit g new.store.journal)
     → (Clean g new.store.journal → written g new.store.journal ≡ written g mid.store.journal) → (later : List (List ℕ)) × (all ≡ lines ++ later) → mid.life ≡ life_of mid.store
     → (Clean g mid.store.journal → Serves began.most_events (written g began.store.journal) began.life all began.store.store (told ++ answers) mid.life mid.store.store ended)
     → Clean g new.store.journal → StaysSafe g began all (told ++ answers) new.store
@@ -149,7 +149,7 @@ safe-group {S} {g} {began} {lines} {all} {told} old mid new answers ended safe f
           let shows = settled some in
           safe-settled (written g mid.store.journal) new.store
           (done-settled mid new.store all (told ++ answers) ended first.sound was named second.same second.sound clean shows (same clean) (serves was)) second.sound clean shows (same clean)
-          (files-goes old.store new.store safe (goes-then first second).crash)
+          (files-stays old.store new.store safe (stays-then first second).crash)
       | false ↦ λ none.
-          subst (λ ls. StaysSafe g began ls (told ++ answers) new.store) (sym more.1) (safe-more more.0 answers none (safe-goes old new safe (goes-then first second) clean))
+          subst (λ ls. StaysSafe g began ls (told ++ answers) new.store) (sym more.1) (safe-more more.0 answers none (safe-stays old new safe (stays-then first second) clean))
     ] refl

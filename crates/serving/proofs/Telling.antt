@@ -1,7 +1,7 @@
--- What was told of a text.
+-- What was written of a text.
 use Rattle.std.proofs.Common.{◌≡◌, ℕ, List, length, sym, Option, Result, Ok, Err, arith, subst}
 use Rattle.std.proofs.Math.Seq.{take-length}
-use Rattle.std.specs.Prelude.{MatchResult, OnErr, OnOk}
+use Rattle.std.specs.Prelude.{MatchResult}
 use Rattle.std.proofs.KnownBytes.{Appends-kept}
 use Rattle.std.specs.Io.KnownBytes.{Appends, Keeps}
 use Rattle.serving.specs.Told.{AppendsPart}
@@ -9,19 +9,6 @@ use Rattle.serving.specs.Told.{AppendsPart}
 -- all of it
 pub part-of-whole : (a b c : Option (List ℕ)) (text : List ℕ) → Appends a b text → Keeps b c → AppendsPart a c text
 part-of-whole a b c text all keeps = (length text, omega arith, subst (Appends a c) (sym (take-length text)) (Appends-kept a b c text all keeps))
-
-pub at-error : {T E : Type 0} (r : Result T E) {P : Type 0} → P → OnErr r P
-at-error (Ok u) p = tt
-at-error (Err e) p = p
-
--- what holds at a result of this kind
-pub of-ok : {T E : Type 0} {P : Type 0} (r : Result T E) (x : T) → r ≡ Ok x → OnOk r P → P
-of-ok (Ok y) x is p = p
-of-ok (Err e) x is p = absurd cc
-
-pub of-err : {T E : Type 0} {P : Type 0} (r : Result T E) (e : E) → r ≡ Err e → OnErr r P → P
-of-err (Ok x) e is p = absurd cc
-of-err (Err x) e is p = p
 
 pub match-ok : {T E : Type 0} (P Q : Type 0) (r : Result T E) (x : T) → r ≡ Ok x → MatchResult r (λ y. P) (λ e. Q) → P
 match-ok P Q (Ok y) x is p = p

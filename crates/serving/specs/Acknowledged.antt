@@ -1,5 +1,5 @@
--- What a client was told survives a crash. A crash while it is served is a disk that fails from some call on: serving then stops, and what is said of
--- where it stopped is said of that crash.
+-- What a client was answered survives a crash. A crash while it is served is a disk that fails from some call on: serving then stops, and what
+-- is said of where it stopped is said of that crash.
 use Rattle.std.specs.Prelude.{◌≡◌, false, ℕ, List, [], ◌∷◌, ◌++◌, Option}
 use Rattle.sqlite_trees.specs.declared.store.Store.{Ghosts}
 use Rattle.sqlite_trees.specs.Tree.{Trees}
@@ -19,7 +19,7 @@ use Rattle.serving.specs.Served.{Serves}
 use Rattle.serving.specs.Told.{has_commit}
 use Rattle.serving.specs.Whole.{ServesClient, StopsServing, session_of}
 
--- these are the first lines, and the first answers; no answer behind them tells of a commit
+-- these are the first lines, and the first answers; no answer after them is to a commit
 pub record HasAllCommits (lines : List (List ℕ)) (answers : List Answered) (asked : List (List ℕ)) (first : List Answered) : Type 0 where
   pub later : List (List ℕ)
   pub others : List Answered
@@ -41,7 +41,7 @@ pub record HasDone {S : Type 0} (g : Ghosts S) (began : Session S) (asked : List
 abbrev pub LeavesFrom : {S : Type 0} (g : Ghosts S) → Contents → Durable S → Type 0
 LeavesFrom g file now = (db : Trees) → may_leave g now.journal db → IsFile db × ((past : List Contents) × Reaches file past (contents_of db))
 
--- of these answers to these lines each that tells of a commit survives a crash at this moment: what is left then is what the file said when all of
+-- of these answers to these lines each to a commit survives a crash at this moment: what is left then is what the file said when all of
 -- these commits were done, or what it came to
 pub record Survives {S : Type 0} (g : Ghosts S) (began : Session S) (lines : List (List ℕ)) (answers : List Answered) (now : Durable S) : Type 0 where
   pub asked : List (List ℕ)
@@ -58,25 +58,25 @@ pub record StaysSafe {S : Type 0} (g : Ghosts S) (began : Session S) (lines : Li
   pub survives : Survives g began lines answers now
   pub reaches : (past : List Contents) × Reaches survives.file past (written g now.journal)
 
--- a client was told all answers so far, and each that tells of a commit survives a crash, where nothing waited to become durable when that began, and
+-- a client got all answers so far, and each to a commit survives a crash, where nothing waited to become durable when that began, and
 -- no wrong answer of the disk was taken as true
 pub record TellsSafely {S : Type 0} (g : Ghosts S) (began : Session S) (given taken : Option (List ℕ)) (now : Server S) (given_now taken_now : Option (List ℕ)) : Type 0 where
   pub tells : HasTold g began given taken now given_now taken_now
   pub safe : ShowsCommit g began.store.journal → Clean g now.session.store.journal → StaysSafe g began tells.served.lines tells.told now.session.store
 
--- a server stopped: its client was told a beginning of some answers, and each of them that tells of a commit survives a crash, where the same holds
+-- a server stopped: its client got a beginning of some answers, and each of them to a commit survives a crash, where the same holds
 pub record StopsSafely {S : Type 0} (g : Ghosts S) (began : Session S) (taken : Option (List ℕ)) (now : Durable S) (taken_now : Option (List ℕ)) : Type 0 where
   pub stops : StopsTelling g began taken now taken_now
   pub safe : ShowsCommit g began.store.journal → Clean g now.journal → Survives g began stops.lines stops.answers now
 
 -- ---- from the greeting to the end
 
--- a client was served, and each answer that it was told of a commit survives a crash, where the same holds
+-- a client was served, and each answer that it got to a commit survives a crash, where the same holds
 pub record ServesSafely {S : Type 0} (g : Ghosts S) (most : ℕ) (began : Durable S) (given taken : Option (List ℕ)) (now : Durable S) (given_now taken_now : Option (List ℕ)) : Type 0 where
   pub serves : ServesClient g most began given taken now given_now taken_now
   pub safe : ShowsCommit g began.journal → Clean g now.journal → Survives g (session_of most began) serves.tells.served.lines serves.tells.told now
 
--- serving stopped: the client was told a beginning of what it is told of some answers, and each of them that tells of a commit survives a crash, where
+-- serving stopped: the client got a beginning of what it gets for some answers, and each of them to a commit survives a crash, where
 -- the same holds
 pub record StopsServingSafely {S : Type 0} (g : Ghosts S) (most : ℕ) (began : Durable S) (taken : Option (List ℕ)) (now : Durable S) (taken_now : Option (List ℕ)) : Type 0 where
   pub stops : StopsServing g most began taken now taken_now

@@ -29,7 +29,7 @@ fault_name UnknownVerb = codes "UnknownVerb"
 fault_name BadWords = codes "BadWords"
 fault_name BadNumber = codes "BadNumber"
 
--- pieces behind one another
+-- pieces one after another
 abbrev pub text_of : List (List ℕ) → List ℕ
 text_of pieces = flat_map (λ piece. piece) pieces
 
@@ -51,7 +51,7 @@ transaction_text tag words t = text_of (tag ∷ words ∷ decimal t.life ∷ cod
 abbrev pub state_text : List ℕ → ℕ → List ℕ
 state_text tag state = text_of (tag ∷ codes " ok " ∷ decimal state ∷ (10 ∷ []) ∷ [])
 
--- a tag and one word behind words
+-- a tag and one word after words
 abbrev pub word_text : List ℕ → List ℕ → List ℕ → List ℕ
 word_text tag words word = text_of (tag ∷ words ∷ word ∷ (10 ∷ []) ∷ [])
 
@@ -60,9 +60,9 @@ abbrev pub counts_text : List ℕ → ℕ → ℕ → ℕ → List ℕ
 counts_text tag events begun open_ones =
     text_of (tag ∷ codes " ok events " ∷ decimal events ∷ codes " begun " ∷ decimal begun ∷ codes " open " ∷ decimal open_ones ∷ (10 ∷ []) ∷ [])
 
--- ---- several lines, each behind the tag
+-- ---- several lines, each after the tag
 
--- a line behind a tag
+-- a line after a tag
 abbrev pub behind : List ℕ → List ℕ → List ℕ
 behind tag line = tag ++ (32 ∷ []) ++ (line ++ (10 ∷ []))
 

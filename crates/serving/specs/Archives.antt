@@ -11,7 +11,7 @@ pub record KeptHistory : Type 0 where
   pub life : ℕ
   pub text : List ℕ
 
--- known histories, and these behind them
+-- known histories, and these after them
 abbrev pub with_kept : Option (List KeptHistory) → List KeptHistory → Option (List KeptHistory)
 with_kept known more = option_map (λ all. all ++ more) known
 
@@ -37,10 +37,10 @@ history_text c = canonical_text c.objects (events c.events)
 abbrev pub history_of : Contents → KeptHistory
 history_of c = record { life = life_in c.headers; text = history_text c }
 
--- the histories of these epochs are kept behind the others, in their order, and nothing else
+-- the histories of these epochs are kept after the others, in their order, and nothing else
 abbrev pub KeepsEpochs : Option (List KeptHistory) → Option (List KeptHistory) → List Contents → Type 0
 KeepsEpochs old new ended = new ≡ with_kept old (map history_of ended)
 
--- the same, and maybe more behind them
+-- the same, and maybe more after them
 abbrev pub KeepsAtLeast : Option (List KeptHistory) → Option (List KeptHistory) → List Contents → Type 0
 KeepsAtLeast old new ended = (more : List KeptHistory) × (new ≡ with_kept old (map history_of ended ++ more))

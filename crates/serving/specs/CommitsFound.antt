@@ -1,4 +1,4 @@
--- Commits that were told are found after a crash.
+-- Commits that were answered are found after a crash.
 use Rattle.std.specs.Prelude.{◌≡◌, ◌⊎◌, ℕ, suc, ◌≤◌, List, [], ◌∷◌, Ok, Contains}
 use Rattle.sqlite_trees.specs.declared.store.Store.{Ghosts}
 use Rattle.sqlite_trees.specs.Tree.{Trees}
@@ -45,6 +45,6 @@ pub record HasCommit (c : Contents) (t : TransactionName) : Type 0 where
   pub since : t.life ≤ life_in c.headers
   pub happened : t.life ≡ life_in c.headers → Contains c.events (kind.Commit t.number)
 
--- whatever a crash leaves has each commit that was told
+-- whatever a crash leaves has each commit that was answered
 abbrev pub CommitsAreFound : {S : Type 0} (g : Ghosts S) → List (List ℕ) → List Answered → Durable S → Type 0
 CommitsAreFound g lines answers now = (t : TransactionName) → TellsCommit lines answers t → (db : Trees) → may_leave g now.journal db → HasCommit (contents_of db) t

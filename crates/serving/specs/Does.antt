@@ -10,7 +10,7 @@ use Rattle.serial_order.specs.declared.refusal.Refusal.TheVariants.{NotOpen, NoO
 use Rattle.store_laws.specs.Stored.{MayStep, Steps, Stored, objects}
 use Rattle.store.specs.Calls.{Would}
 use Rattle.store.specs.KeptState.{IsKeptState}
-use Rattle.serial_order.specs.History.{begins, seen}
+use Rattle.serial_order.specs.History.{begins, summary}
 use Rattle.serial_order.specs.Replay.{open_count}
 use Rattle.request_text.specs.declared.request.TransactionName.{TransactionName}
 use Rattle.serving.specs.declared.answer_line.AnswerLine.{AnswerLine}
@@ -40,17 +40,17 @@ reply_of (Some op) = Reply op.reply
 reply_of None = Nothing
 
 -- what a call at x is answered
-abbrev pub answered : Stored → ℕ → ℕ → Result calls.Answer Refusal → AnswerLine
-answered s life x (Ok (call.Reply k)) = reply_of (op_at s x k)
-answered s life x (Ok (call.Busy u)) = Busy (named life u)
-answered s life x (Ok call.None) = Nothing
-answered s life x (Err refusal) = Refused refusal
+abbrev pub call_answer : Stored → ℕ → ℕ → Result calls.Answer Refusal → AnswerLine
+call_answer s life x (Ok (call.Reply k)) = reply_of (op_at s x k)
+call_answer s life x (Ok (call.Busy u)) = Busy (named life u)
+call_answer s life x (Ok call.None) = Nothing
+call_answer s life x (Err refusal) = Refused refusal
 
--- of a transaction of this life so much, and one of another life isn't open
+-- of a transaction of this life that much, and one of another life isn't open
 abbrev pub InLife : ℕ → TransactionName → Stored → Stored → AnswerLine → Type 0 → Type 0
 InLife life t old new answer does = MatchBool (t.life == life) does ((answer ≡ Refused NotOpen) × (new ≡ old))
 
--- an epoch with so many events is full: it goes on until those that are open have ended
+-- an epoch with this many events is full: it goes on until those that are open have ended
 abbrev pub is_full : ℕ → Stored → Bool
 is_full most s = nat_le most (length s.history)
 
@@ -63,11 +63,11 @@ DoesBegin most life old answer new =
 
 abbrev pub DoesCall : ℕ → Stored → TransactionName → ℕ → List ℕ → AnswerLine → Stored → Type 0
 DoesCall life old t x name answer new =
-    InLife life t old new answer ((r : Result calls.Answer Refusal) × MayStep old 0 (command.Call t.number x name) r new × (answer ≡ answered new life x r))
+    InLife life t old new answer ((r : Result calls.Answer Refusal) × MayStep old 0 (command.Call t.number x name) r new × (answer ≡ call_answer new life x r))
 
 abbrev pub DoesWould : ℕ → Stored → TransactionName → ℕ → List ℕ → AnswerLine → Stored → Type 0
 DoesWould life old t x name answer new =
-    InLife life t old new answer ((r : Result calls.Answer Refusal) × Would old t.number x name r × (answer ≡ answered old life x r) × (new ≡ old))
+    InLife life t old new answer ((r : Result calls.Answer Refusal) × Would old t.number x name r × (answer ≡ call_answer old life x r) × (new ≡ old))
 
 abbrev pub DoesCommit : ℕ → Stored → TransactionName → AnswerLine → Stored → Type 0
 DoesCommit life old t answer new =
@@ -88,4 +88,4 @@ DoesKept old x answer new =
 
 -- how many events, transactions that have begun, and open ones
 abbrev pub DoesStats : Stored → AnswerLine → Stored → Type 0
-DoesStats old answer new = (answer ≡ Counts (length old.history) (begins old.history) (open_count (seen old.history))) × (new ≡ old)
+DoesStats old answer new = (answer ≡ Counts (length old.history) (begins old.history) (open_count (summary old.history))) × (new ≡ old)

@@ -25,7 +25,7 @@ pub data Reaches (c : Contents) : List Contents → Contents → Type 0 where
   epoch : (ended : List Contents) (mid : Contents) (old new : Stored) → Reaches c ended mid → IsStoreOf mid old → Renews old new → Reaches c (ended ++ mid ∷ []) (renewed mid new.types)
 
 -- a crash leaves what it could have left before, or what the file came to from what was written then; an archive that kept these histories now
--- keeps, behind them, those of all epochs that are over
+-- keeps, after them, those of all epochs that are over
 abbrev pub LeavesEpochs : {S : Type 0} (g : Ghosts S) → Durable S → Durable S → Option (List KeptHistory) → Option (List KeptHistory) → Type 0
 LeavesEpochs g old new kept kept_now = (db : Trees) → may_leave g new.journal db
     → (Clean g old.journal × IsFile db × ((ended : List Contents) × Reaches (written g old.journal) ended (contents_of db) × KeepsAtLeast kept kept_now ended))

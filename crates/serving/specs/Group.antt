@@ -1,4 +1,4 @@
--- What a client was told.
+-- What a client got.
 use Rattle.std.specs.Prelude.{◌≡◌, ℕ, Bool, true, false, List, [], ◌++◌, Option, None}
 use Rattle.std.specs.Io.KnownBytes.{Appends, Consumes, IsAtEnd}
 use Rattle.sqlite_trees.specs.declared.store.Store.{Ghosts}
@@ -13,8 +13,8 @@ use Rattle.serving.specs.Served.{Serves}
 use Rattle.serving.specs.Serving.{HasServed, life_of}
 use Rattle.serving.specs.Told.{AppendsPart, answers_text}
 
--- since it began a server has taken these bytes of its input, done the lines of them up to one that asks for the end, and told its client all
--- of the answers, and nothing else
+-- since it began a server has taken these bytes of its input, done the lines of them up to one that asks for the end, and written
+-- its client all of the answers, and nothing else
 pub record HasTold {S : Type 0} (g : Ghosts S) (began : Session S) (given taken : Option (List ℕ)) (now : Server S) (given_now taken_now : Option (List ℕ)) : Type 0 where
   pub told : List Answered
   pub seen : List ℕ
@@ -30,7 +30,7 @@ abbrev pub IsMore : {S : Type 0} → Bool → Server S → Option (List ℕ) →
 IsMore true now given_now = now.end ≡ None
 IsMore false now given_now = now.end ≡ None → IsAtEnd given_now
 
--- a server stopped: its client was told a beginning of what some lines are answered
+-- a server stopped: its client got a beginning of the answers to some lines
 pub record StopsTelling {S : Type 0} (g : Ghosts S) (began : Session S) (taken : Option (List ℕ)) (now : Durable S) (taken_now : Option (List ℕ)) : Type 0 where
   pub lines : List (List ℕ)
   pub answers : List Answered

@@ -13,7 +13,7 @@ ended_line line = line ++ 10 ∷ []
 abbrev pub has_lf : List ℕ → Bool
 has_lf line = list_any (λ b. b == 10) line
 
--- these bytes are these lines, and behind them the beginning of one that no LF ends yet
+-- these bytes are these lines, and after them the beginning of one that no LF ends yet
 pub record AreLines (bytes : List ℕ) (lines : List (List ℕ)) (half : List ℕ) : Type 0 where
   pub text : bytes ≡ flat_map ended_line lines ++ half
   pub whole : AllByRecursion (λ line. has_lf line ≡ false) lines

@@ -38,7 +38,7 @@ events_from s from count = take (min count most_told) (drop from (kinds s.histor
 abbrev pub LetsGo : Stored → Stored → Type 0
 LetsGo old new = new ≡ record old { forgotten = new.forgotten }
 
--- a request to a store in this life over a file that says this, whose epochs are full with so many events
+-- a request to a store in this life over a file that says this, whose epochs are full with this many events
 abbrev pub DoesRequest : ℕ → ℕ → Contents → Stored → Request → AnswerLine → Stored → Type 0
 DoesRequest most life c old request.Begin answer new = DoesBegin most life old answer new
 DoesRequest most life c old (request.Call t x name) answer new = DoesCall life old t x name answer new

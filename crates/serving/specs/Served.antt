@@ -12,13 +12,13 @@ use Rattle.serving.specs.Epochs.{aborted}
 use Rattle.serving.specs.Requests.{DoesRequest}
 use Rattle.serving.specs.Lines.{asks_end}
 
--- a line is answered under its tag: its request is done, or its fault is told and nothing changes
+-- a line is answered under its tag: its request is done, or its fault is answered and nothing changes
 pub record IsAnswered (most life : ℕ) (c : Contents) (line : List ℕ) (old : Stored) (a : Answered) (new : Stored) : Type 0 where
   pub tag : a.tag ≡ (asked_of line).tag
   pub request : MatchResult (asked_of line).request (λ r. DoesRequest most life c old r a.answer new) (λ fault. (a.answer ≡ Fault fault) × (new ≡ old))
 
 -- these lines were done in their order, over a file that says this, and so they were answered: by a store in this life, which is now this store
--- in that life, since where an epoch is full another begins, in another life; a line behind one that asks for the end isn't done, and that one
+-- in that life, since where an epoch is full another begins, in another life; a line after one that asks for the end isn't done, and that one
 -- is answered later
 pub data Serves (most : ℕ) (c : Contents) (first : ℕ) : List (List ℕ) → Stored → List Answered → ℕ → Stored → Option Asked → Type 0 where
   none : (s : Stored) → Serves most c first [] s [] first s None

@@ -21,8 +21,8 @@ most_kept = 256
 abbrev pub life_of : {S : Type 0} → Durable S → ℕ
 life_of d = d.journal.header.life
 
--- a session goes on from another
-pub record GoesOn {S : Type 0} (g : Ghosts S) (old new : Session S) : Type 0 where
+-- a session goes on from another, in the same epoch
+pub record StaysInEpoch {S : Type 0} (g : Ghosts S) (old new : Session S) : Type 0 where
   pub sound : IsDurable g new.store
   pub life : new.life ≡ old.life
   pub most : new.most_events ≡ old.most_events
@@ -31,7 +31,7 @@ pub record GoesOn {S : Type 0} (g : Ghosts S) (old new : Session S) : Type 0 whe
   pub clean : Clean g new.store.journal → Clean g old.store.journal
   pub crash : LeavesMore g old.store new.store
 
--- the same, epoch after epoch; what an archive keeps of them is told beside it
+-- the same, epoch after epoch; what an archive keeps of them is said apart
 pub record Lasts {S : Type 0} (g : Ghosts S) (old new : Session S) : Type 0 where
   pub sound : IsDurable g new.store
   pub named : new.life ≡ life_of new.store
@@ -40,7 +40,7 @@ pub record Lasts {S : Type 0} (g : Ghosts S) (old new : Session S) : Type 0 wher
   pub clean : Clean g new.store.journal → Clean g old.store.journal
   pub crash : LeavesEpochs g old.store new.store None None
 
--- since it began, its client has asked these bytes; the answers that it was told, and those that wait, are those of a store
+-- since it began, its client has asked these bytes; the answers that it got, and those that wait, are those of a store
 pub record HasServed {S : Type 0} (g : Ghosts S) (began : Session S) (told : List Answered) (bytes : List ℕ) (now : Server S) : Type 0 where
   pub lines : List (List ℕ)
   pub half : List ℕ
@@ -53,7 +53,7 @@ pub record HasServed {S : Type 0} (g : Ghosts S) (began : Session S) (told : Lis
 -- a line is answered
 pub record AnswersLine {S : Type 0} (g : Ghosts S) (old new : Server S) : Type 0 where
   pub a : Answered
-  pub goes_on : GoesOn g old.session new.session
+  pub stays_in_epoch : StaysInEpoch g old.session new.session
   pub answered : Clean g new.session.store.journal
       → IsAnswered old.session.most_events old.session.life (written g old.session.store.journal) old.line.items old.session.store.store a new.session.store.store
   pub told : new.answers.items ≡ old.answers.items ++ a ∷ []

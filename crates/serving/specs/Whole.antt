@@ -21,8 +21,8 @@ use Rattle.serving.specs.Told.{AppendsPart, answers_text, greeting}
 abbrev pub session_of : {S : Type 0} → ℕ → Durable S → Session S
 session_of most d = record { store = d; life = life_of d; most_events = most }
 
--- a client was greeted, and told the answers to its lines; what was open then is aborted, the file begins anew, and a line that asked for the
--- end was answered behind that
+-- a client was greeted, and got the answers to its lines; what was open then is aborted, the file begins anew, and a line that asked for the
+-- end was answered after that
 pub record ServesClient {S : Type 0} (g : Ghosts S) (most : ℕ) (began : Durable S) (given taken : Option (List ℕ)) (now : Durable S) (given_now taken_now : Option (List ℕ)) : Type 0 where
   pub served : Server S
   pub greeted : Option (List ℕ)
@@ -34,8 +34,8 @@ pub record ServesClient {S : Type 0} (g : Ghosts S) (most : ℕ) (began : Durabl
   pub clean : Clean g now.journal → Clean g served.session.store.journal
   pub ends : Appends answered taken_now (answers_text (end_answers served.end))
 
--- serving stopped: its client was told a beginning of the greeting and of what some lines are answered; or the file had begun anew, and it was
--- told all of these and a beginning of what is told at the end
+-- serving stopped: its client got a beginning of the greeting and of the answers to some lines; or the file had begun anew, and it got
+-- all of these and a beginning of what is answered at the end
 pub record StopsServing {S : Type 0} (g : Ghosts S) (most : ℕ) (began : Durable S) (taken : Option (List ℕ)) (now : Durable S) (taken_now : Option (List ℕ)) : Type 0 where
   pub lines : List (List ℕ)
   pub answers : List Answered

@@ -5,12 +5,12 @@ use serial_order::Refusal;
 use store_text::ObjectLine;
 use type_table::Name;
 
-/// What a request is answered: a line, or several behind one another.
+/// What a request is answered: a line, or several, one after another.
 #[derive(Drop)]
 pub enum AnswerLine {
     /// It is done.
     Done,
-    /// A commit is done: the client isn't told before it is durable.
+    /// A commit is done, which is answered only once it is durable.
     Committed,
     /// A transaction began.
     Begun { t: TransactionName },

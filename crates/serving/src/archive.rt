@@ -30,7 +30,7 @@ impl From<AllocError> for ArchiveFault {
 
 /// An archive, which keeps the histories of epochs as texts.
 pub trait Archive {
-    // The histories that it keeps, oldest first, of which no crash takes one away, where it tells them.
+    // The histories that it keeps, oldest first, of which no crash takes one away, where it says which.
     ghost kept: { Self → Option (List KeptHistory) };
 
     /// Whether it is to be given any.

@@ -18,7 +18,7 @@ use sqlite_trees::store::Alter;
 use std::alloc::{AllocError, Global};
 use store_text::ObjectLine;
 
-/// Gives the history of the present epoch to an archive that wants it.
+/// Gives the history of the present epoch to an archive that asks for it.
 ///
 /// # Errors
 ///

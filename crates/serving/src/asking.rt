@@ -1,7 +1,7 @@
 //! The requests that change nothing, and what a call is answered.
 
 ghost use Rattle.std.specs.Prelude.{◌≡◌};
-ghost use Rattle.serving.specs.Does.{DoesKept, DoesStats, DoesWould, answered, op_at, reply_of};
+ghost use Rattle.serving.specs.Does.{DoesKept, DoesStats, DoesWould, call_answer, op_at, reply_of};
 
 use crate::answer_line::AnswerLine;
 use crate::doing::not_open;
@@ -24,7 +24,7 @@ impl<S: Alter> Session<S> {
         }
         let store = self.store.store();
         let answer = store.would_bytes(t.number, x, name.as_bytes());
-        answered(store, self.life, x, answer)
+        call_answer(store, self.life, x, answer)
     }
 
     /// The kept state of the object at x.
@@ -53,13 +53,13 @@ impl<S: Alter> Session<S> {
 }
 
 /// What a call at x is answered.
-pub(crate) fn answered(
+pub(crate) fn call_answer(
     store: &Store<Object>,
     life: u32,
     x: u32,
     answer: Result<Answer, Refusal>,
 ) -> AnswerLine
-    ensures { result ≡ answered store.now life x answer }
+    ensures { result ≡ call_answer store.now life x answer }
 {
     match answer {
         Ok(Answer::Reply(k)) => reply_at(store, x, k),

@@ -1,4 +1,4 @@
-//! Who asks: the one that is told answers.
+//! Who asks: the one who gets the answers.
 
 ghost use Rattle.std.specs.Prelude.{◌≡◌, [], None, true, OnErr, OnOk};
 ghost use Rattle.std.specs.Result.{result_err};
@@ -22,7 +22,7 @@ pub struct Client<W> {
 }
 
 impl<W: Out> Client<W> {
-    /// Who is told by this output.
+    /// The client that gets what this output takes.
     pub fn new(out: Gathered<W>) -> Client<W>
         ensures { result.out ≡ out }
     {
@@ -37,7 +37,7 @@ impl<W: Out> Client<W> {
         out
     }
 
-    /// Tells the version of what is spoken, and the number of the store's life.
+    /// Writes the version of what is spoken, and the number of the store's life.
     ///
     /// # Errors
     ///
@@ -52,7 +52,7 @@ impl<W: Out> Client<W> {
         self.out.flush()
     }
 
-    /// Tells the client these answers, one after another. Where a commit is among them, all that was written is
+    /// Writes the client these answers, one after another. Where a commit is among them, all that was written is
     /// durable.
     ///
     /// # Errors

@@ -5,10 +5,10 @@ ghost use Rattle.journal.specs.Journal.{Clean};
 ghost use Rattle.durable_store.specs.Durable.{IsDurable};
 ghost use Rattle.serving.specs.Does.{DoesAbort, DoesBegin, DoesCall, DoesCommit, DoesRollback, done_or, is_full};
 ghost use Rattle.serving.specs.Follows.{LeavesMore};
-ghost use Rattle.serving.specs.Serving.{GoesOn};
+ghost use Rattle.serving.specs.Serving.{StaysInEpoch};
 
 use crate::answer_line::AnswerLine;
-use crate::asking::answered;
+use crate::asking::call_answer;
 use crate::session::Session;
 use journal::JournalError;
 use objects::Object;
@@ -32,7 +32,7 @@ impl<S: Alter> Session<S> {
     pub(crate) fn begin(&mut self) -> Result<AnswerLine, JournalError>
         requires { IsDurable S.Store self.old.store }
         ensures does { IfOk result (λ a. DoesBegin self.old.most_events self.old.life self.old.store.store a self.new.store.store) }
-        ensures goes_on { OnOk result (GoesOn S.Store self.old self.new) }
+        ensures stays_in_epoch { OnOk result (StaysInEpoch S.Store self.old self.new) }
         ensures clean { Clean S.Store self.new.store.journal → Clean S.Store self.old.store.journal }
         ensures crash { LeavesMore S.Store self.old.store self.new.store }
     {
@@ -60,7 +60,7 @@ impl<S: Alter> Session<S> {
     ) -> Result<AnswerLine, JournalError>
         requires { IsDurable S.Store self.old.store }
         ensures does { IfOk result (λ a. DoesCall self.old.life self.old.store.store t x name a self.new.store.store) }
-        ensures goes_on { OnOk result (GoesOn S.Store self.old self.new) }
+        ensures stays_in_epoch { OnOk result (StaysInEpoch S.Store self.old self.new) }
         ensures clean { Clean S.Store self.new.store.journal → Clean S.Store self.old.store.journal }
         ensures crash { LeavesMore S.Store self.old.store self.new.store }
     {
@@ -68,14 +68,14 @@ impl<S: Alter> Session<S> {
             return Ok(not_open());
         }
         let answer = self.store.call(t.number, x, name.as_bytes())?;
-        Ok(answered(self.store.store(), self.life, x, answer))
+        Ok(call_answer(self.store.store(), self.life, x, answer))
     }
 
-    /// Commits a transaction. The client isn't told before it is settled.
+    /// Commits a transaction. It is answered only once it is settled.
     pub(crate) fn commit(&mut self, t: TransactionName) -> Result<AnswerLine, JournalError>
         requires { IsDurable S.Store self.old.store }
         ensures does { IfOk result (λ a. DoesCommit self.old.life self.old.store.store t a self.new.store.store) }
-        ensures goes_on { OnOk result (GoesOn S.Store self.old self.new) }
+        ensures stays_in_epoch { OnOk result (StaysInEpoch S.Store self.old self.new) }
         ensures clean { Clean S.Store self.new.store.journal → Clean S.Store self.old.store.journal }
         ensures crash { LeavesMore S.Store self.old.store self.new.store }
     {
@@ -90,7 +90,7 @@ impl<S: Alter> Session<S> {
     pub(crate) fn abort(&mut self, t: TransactionName) -> Result<AnswerLine, JournalError>
         requires { IsDurable S.Store self.old.store }
         ensures does { IfOk result (λ a. DoesAbort self.old.life self.old.store.store t a self.new.store.store) }
-        ensures goes_on { OnOk result (GoesOn S.Store self.old self.new) }
+        ensures stays_in_epoch { OnOk result (StaysInEpoch S.Store self.old self.new) }
         ensures clean { Clean S.Store self.new.store.journal → Clean S.Store self.old.store.journal }
         ensures crash { LeavesMore S.Store self.old.store self.new.store }
     {
@@ -109,7 +109,7 @@ impl<S: Alter> Session<S> {
     ) -> Result<AnswerLine, JournalError>
         requires { IsDurable S.Store self.old.store }
         ensures does { IfOk result (λ a. DoesRollback self.old.life self.old.store.store t count a self.new.store.store) }
-        ensures goes_on { OnOk result (GoesOn S.Store self.old self.new) }
+        ensures stays_in_epoch { OnOk result (StaysInEpoch S.Store self.old self.new) }
         ensures clean { Clean S.Store self.new.store.journal → Clean S.Store self.old.store.journal }
         ensures crash { LeavesMore S.Store self.old.store self.new.store }
     {
@@ -121,7 +121,7 @@ impl<S: Alter> Session<S> {
     }
 }
 
-/// Whether an epoch is full with so many events as this one has.
+/// Whether an epoch is full with as many events as this one has.
 pub(crate) fn is_full(store: &Store<Object>, most_events: u32) -> bool
     ensures { result ≡ is_full most_events store.now }
 {

@@ -96,7 +96,7 @@ fn renew<S: Alter>(alloc: Global, store: Durable<S>) -> (Durable<S>, Result<(), 
 }
 
 impl<W: Out> Client<W> {
-    /// Tells the client that the end is there, where a line asked for it.
+    /// Answers the client that the end is there, where a line asked for it.
     ///
     /// # Errors
     ///

@@ -3,8 +3,8 @@ use std::time::Duration;
 /// When an epoch ends by itself.
 #[derive(Clone, Copy, Debug)]
 pub struct EpochLimits {
-    /// With so many events an epoch is full: no further transaction begins in it.
+    /// With this many events an epoch is full: no further transaction begins in it.
     pub most_events: u32,
-    /// So long those that are open then may go on.
+    /// How long those that are open then may go on.
     pub drain: Duration,
 }

@@ -67,7 +67,7 @@ impl<S: Alter> Server<S> {
     ///
     /// # Errors
     ///
-    /// As `serve_group`, and as `end_epoch` where the client was told all answers.
+    /// As `serve_group`, and as `end_epoch` where the client got all answers.
     pub(crate) fn take_turn<C: Clock, A: Archive, R: Read, W: Out>(
         self,
         clock: &C,
@@ -173,7 +173,7 @@ impl<S: Alter> Server<S> {
     }
 }
 
-/// Whether so long has passed since then, by a clock; one that fails doesn't hold up what waits.
+/// Whether this long has passed since then, by a clock; one that fails doesn't hold up what waits.
 fn has_passed<C: Clock>(clock: &C, since: Instant, time: Duration) -> bool {
     match since.elapsed(clock) {
         Ok(passed) => time <= passed,

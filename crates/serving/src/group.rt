@@ -1,4 +1,4 @@
-//! What a client asks at once: its lines are done, what they wrote becomes durable, and then it is told.
+//! What a client asks at once: its lines are done, what they wrote becomes durable, and then it gets the answers.
 
 ghost use Rattle.std.specs.Prelude.{◌≡◌, ◌<◌, [], None, Option, List, ℕ, length, IfOk, OnErr, OnOk, IsTrue, true, false};
 ghost use Rattle.outputs.specs.Gathered.{taken_by, under};
@@ -8,7 +8,7 @@ ghost use Rattle.serving.specs.declared.session.Session.{Session as Began};
 ghost use Rattle.serving.specs.Acknowledged.{StopsSafely, TellsSafely};
 ghost use Rattle.serving.specs.Follows.{LeavesMore};
 ghost use Rattle.serving.specs.Group.{IsMore};
-ghost use Rattle.serving.specs.Serving.{GoesOn};
+ghost use Rattle.serving.specs.Serving.{StaysInEpoch};
 
 use crate::client::Client;
 use crate::serve_fault::ServeFault;
@@ -19,14 +19,14 @@ use std::alloc::Global;
 use std::io::Read;
 
 impl<S: Alter> Server<S> {
-    /// Takes what is there of the input, at most so many bytes as the buffer has, and does its whole lines. Where a
-    /// commit is among them all that was written becomes durable. Then the client is told the answers, in their order.
+    /// Takes what is there of the input, at most as many bytes as the buffer has, and does its whole lines. Where a
+    /// commit is among them all that was written becomes durable. Then the client gets the answers, in their order.
     /// Whether more may come.
     ///
     /// # Errors
     ///
     /// The file, the input or the output failed, or memory was refused: the server isn't to be used any more. Where it
-    /// wasn't the output, the client was told nothing.
+    /// wasn't the output, the client got nothing.
     pub(crate) fn serve_group<R: Read, W: Out>(
         &mut self,
         alloc: Global,
@@ -45,7 +45,7 @@ impl<S: Alter> Server<S> {
             → StopsSafely S.Store began taken self.new.session.store (taken_by W.taken client.new.out)) }
         ensures more { IfOk result (λ more. IsMore more self.new (R.remaining input.new)) }
         ensures told { OnOk result (self.new.answers.items ≡ []) }
-        ensures goes_on { OnOk result (GoesOn S.Store self.old.session self.new.session) }
+        ensures stays_in_epoch { OnOk result (StaysInEpoch S.Store self.old.session self.new.session) }
         ensures out_takes { OnOk result (W.fault (under client.new.out) ≡ None) }
         ensures clean { Clean S.Store self.new.session.store.journal → Clean S.Store self.old.session.store.journal }
         ensures crash { LeavesMore S.Store self.old.session.store self.new.session.store }

@@ -9,7 +9,7 @@ ghost use Rattle.serving.specs.CommitsFound.{CommitsAreFound};
 
 use sqlite_trees::store::Alter;
 
-/// Where answers that tell of commits survive a crash, whatever file it leaves has each of these commits: it is one of the
+/// Where answers to commits survive a crash, whatever file it leaves has each of these commits: it is one of the
 /// events while the file is in the transaction's life, and a file of a later life began at states that a store with the
 /// commit had kept.
 pub fn told_commits_are_found<S: Alter>()

@@ -7,7 +7,7 @@ ghost use Rattle.serving.specs.declared.answer_line.Answered.{Answered as Told};
 ghost use Rattle.serving.specs.declared.session.Session.{Session as Began};
 ghost use Rattle.serving.specs.Follows.{LeavesMore};
 ghost use Rattle.serving.specs.Lines.{is_end};
-ghost use Rattle.serving.specs.Serving.{DoesLine, GoesOn, HasServed, ServesBytes, TakesByte};
+ghost use Rattle.serving.specs.Serving.{DoesLine, StaysInEpoch, HasServed, ServesBytes, TakesByte};
 
 use crate::answer_line::Answered;
 use crate::serve_fault::ServeFault;
@@ -30,7 +30,7 @@ impl<S: Alter> Server<S> {
         requires asked { self.old.end ≡ None }
         ensures serves { OnOk result ((began : Began S) (told : List Told) (seen : List ℕ) → HasServed S.Store began told seen self.old
             → ServesBytes S.Store began told seen bytes.now self.new) }
-        ensures goes_on { OnOk result (GoesOn S.Store self.old.session self.new.session) }
+        ensures stays_in_epoch { OnOk result (StaysInEpoch S.Store self.old.session self.new.session) }
         ensures clean { Clean S.Store self.new.session.store.journal → Clean S.Store self.old.session.store.journal }
         ensures crash { LeavesMore S.Store self.old.session.store self.new.session.store }
     {

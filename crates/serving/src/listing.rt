@@ -1,4 +1,4 @@
-//! The answers of several lines, each behind the tag.
+//! The answers of several lines, each after the tag.
 
 ghost use Rattle.std.specs.Prelude.{◌≡◌, ◌+◌, ◌<◌, ◌==◌, ◌++◌, None, IfSome, drop, length, position};
 ghost use Rattle.std.specs.List.{flat_map};
@@ -118,13 +118,13 @@ fn put_text<W: Out>(out: &mut W, tag: &[u8], text: &[u8]) -> Result<(), OutFault
     let mut rest = text;
     while let Some(at) = line_end(rest) {
         put_behind(out, tag, &rest[..at])?;
-        rest = after(rest, at);
+        rest = text_after(rest, at);
     }
     put_behind(out, tag, rest)
 }
 
-/// What is behind a place of a text.
-fn after(text: &[u8], at: usize) -> &[u8]
+/// What comes after a place of a text.
+fn text_after(text: &[u8], at: usize) -> &[u8]
     requires { at < length text.now }
     ensures { result.now ≡ drop (at + 1) text.now }
 {
@@ -139,7 +139,7 @@ fn line_end(text: &[u8]) -> Option<usize>
     text.iter().position(|b| *b == b'\n')
 }
 
-/// Writes a line behind a tag.
+/// Writes a line after a tag.
 fn put_behind<W: Out>(out: &mut W, tag: &[u8], line: &[u8]) -> Result<(), OutFault>
     requires { W.fault out.old ≡ None }
     ensures { Puts (W.taken out.old) (W.taken out.new) (W.fault out.new) (behind tag.now line.now) result }

@@ -5,7 +5,7 @@ ghost use Rattle.journal.specs.Journal.{Clean, written};
 ghost use Rattle.durable_store.specs.Durable.{IsDurable};
 ghost use Rattle.serving.specs.Follows.{LeavesMore};
 ghost use Rattle.serving.specs.Requests.{LetsGo, TellsEvents, TellsObjects, TellsTypes, events_from};
-ghost use Rattle.serving.specs.Serving.{GoesOn};
+ghost use Rattle.serving.specs.Serving.{StaysInEpoch};
 
 use crate::answer_line::AnswerLine;
 use crate::session::Session;
@@ -26,7 +26,7 @@ impl<S: Alter> Session<S> {
         requires { IsDurable S.Store self.old.store }
         ensures tells { IfOk result (λ a. Clean S.Store self.new.store.journal → TellsObjects a (written S.Store self.old.store.journal).objects) }
         ensures lets_go { OnOk result (LetsGo self.old.store.store self.new.store.store) }
-        ensures goes_on { OnOk result (GoesOn S.Store self.old self.new) }
+        ensures stays_in_epoch { OnOk result (StaysInEpoch S.Store self.old self.new) }
         ensures clean { Clean S.Store self.new.store.journal → Clean S.Store self.old.store.journal }
         ensures crash { LeavesMore S.Store self.old.store self.new.store }
     {
@@ -44,7 +44,7 @@ impl<S: Alter> Session<S> {
         requires { IsDurable S.Store self.old.store }
         ensures tells { IfOk result (λ a. Clean S.Store self.new.store.journal → TellsTypes a (written S.Store self.old.store.journal).types) }
         ensures lets_go { OnOk result (LetsGo self.old.store.store self.new.store.store) }
-        ensures goes_on { OnOk result (GoesOn S.Store self.old self.new) }
+        ensures stays_in_epoch { OnOk result (StaysInEpoch S.Store self.old self.new) }
         ensures clean { Clean S.Store self.new.store.journal → Clean S.Store self.old.store.journal }
         ensures crash { LeavesMore S.Store self.old.store self.new.store }
     {
@@ -53,7 +53,7 @@ impl<S: Alter> Session<S> {
         Ok(AnswerLine::Types { texts })
     }
 
-    /// So many events from a position on, and at most 65,536. What was written becomes durable before.
+    /// This many events from a position on, and at most 65,536. What was written becomes durable before.
     ///
     /// # Errors
     ///
@@ -67,7 +67,7 @@ impl<S: Alter> Session<S> {
         requires { IsDurable S.Store self.old.store }
         ensures tells { IfOk result (λ a. Clean S.Store self.new.store.journal → TellsEvents a (events_from self.old.store.store from count)) }
         ensures lets_go { OnOk result (LetsGo self.old.store.store self.new.store.store) }
-        ensures goes_on { OnOk result (GoesOn S.Store self.old self.new) }
+        ensures stays_in_epoch { OnOk result (StaysInEpoch S.Store self.old self.new) }
         ensures clean { Clean S.Store self.new.store.journal → Clean S.Store self.old.store.journal }
         ensures crash { LeavesMore S.Store self.old.store self.new.store }
     {

@@ -5,7 +5,7 @@ ghost use Rattle.journal.specs.Journal.{Clean, written};
 ghost use Rattle.durable_store.specs.Durable.{IsDurable};
 ghost use Rattle.serving.specs.Follows.{LeavesMore};
 ghost use Rattle.serving.specs.Requests.{DoesRequest};
-ghost use Rattle.serving.specs.Serving.{GoesOn};
+ghost use Rattle.serving.specs.Serving.{StaysInEpoch};
 
 use crate::answer_line::AnswerLine;
 use crate::session::Session;
@@ -15,7 +15,7 @@ use sqlite_trees::store::Alter;
 use std::alloc::Global;
 
 impl<S: Alter> Session<S> {
-    /// Does what a line asks, or tells its fault.
+    /// Does what a line asks, or answers its fault.
     ///
     /// # Errors
     ///
@@ -29,7 +29,7 @@ impl<S: Alter> Session<S> {
         ensures does { IfOk result (λ a. Clean S.Store self.new.store.journal
             → MatchResult asked (λ request. DoesRequest self.old.most_events self.old.life (written S.Store self.old.store.journal) self.old.store.store request a self.new.store.store)
             (λ fault. (a ≡ AnswerLine.Fault fault) × (self.new.store.store ≡ self.old.store.store))) }
-        ensures goes_on { OnOk result (GoesOn S.Store self.old self.new) }
+        ensures stays_in_epoch { OnOk result (StaysInEpoch S.Store self.old self.new) }
         ensures clean { Clean S.Store self.new.store.journal → Clean S.Store self.old.store.journal }
         ensures crash { LeavesMore S.Store self.old.store self.new.store }
     {
@@ -39,7 +39,7 @@ impl<S: Alter> Session<S> {
         }
     }
 
-    /// Does a request. That a commit is done isn't to be told before it is settled; that the end was asked for
+    /// Does a request. That a commit is done is to be answered only once it is settled; that the end was asked for
     /// changes nothing here.
     ///
     /// # Errors
@@ -49,7 +49,7 @@ impl<S: Alter> Session<S> {
         requires { IsDurable S.Store self.old.store }
         ensures does { IfOk result (λ a. Clean S.Store self.new.store.journal
             → DoesRequest self.old.most_events self.old.life (written S.Store self.old.store.journal) self.old.store.store request a self.new.store.store) }
-        ensures goes_on { OnOk result (GoesOn S.Store self.old self.new) }
+        ensures stays_in_epoch { OnOk result (StaysInEpoch S.Store self.old self.new) }
         ensures clean { Clean S.Store self.new.store.journal → Clean S.Store self.old.store.journal }
         ensures crash { LeavesMore S.Store self.old.store self.new.store }
     {

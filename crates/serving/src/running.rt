@@ -24,7 +24,7 @@ use std::rt::Clock;
 use std::time::Duration;
 
 impl<S: Alter> Server<S> {
-    /// A server of this store, which was asked nothing yet, with epochs that are full with so many events.
+    /// A server of this store, which was asked nothing yet, with epochs that are full with this many events.
     pub fn new(alloc: Global, store: Durable<S>, most_events: u32) -> Server<S>
         ensures fresh { IsFresh result }
         ensures store { result.session.store ≡ store }
@@ -72,15 +72,15 @@ impl<S: Alter> Server<S> {
     }
 
     /// Serves the client, group by group: what it asks is read into the buffer, as much as is there. An epoch that is full
-    /// ends where nothing is open, or where what is open had so long to go on; the archive keeps its history, where it
-    /// wants any, before the file begins anew. At `Ok` the client asked for the end, or the input has ended, and it was told
-    /// the answers to all whole lines before, in their order. However it ends, each commit that the client was told survives a
+    /// ends where nothing is open, or where what is open went on as long as the limits say; the archive keeps its history, where it
+    /// asks for any, before the file begins anew. At `Ok` the client asked for the end, or the input has ended, and it got
+    /// the answers to all whole lines before, in their order. However it ends, each commit that was answered survives a
     /// crash, where all that was written was durable as it began.
     ///
     /// # Errors
     ///
-    /// The file, the archive, the input or the output failed, or memory was refused: the client was told a beginning of what
-    /// some of its lines are answered, and the server isn't to be used any more.
+    /// The file, the archive, the input or the output failed, or memory was refused: the client got a beginning of the
+    /// answers to some of its lines, and the server isn't to be used any more.
     pub fn run<C: Clock, A: Archive, R: Read, W: Out>(
         self,
         clock: &C,

@@ -9,7 +9,7 @@ pub struct Server<S: Alter> {
     pub(crate) session: Session<S>,
     /// The first bytes, at most 256, of the line that isn't whole yet.
     pub(crate) line: Vec<u8>,
-    /// The answers that the client wasn't told yet.
+    /// The answers that the client didn't get yet.
     pub(crate) answers: Vec<Answered>,
     /// The line that asked for the end.
     pub(crate) end: Option<Asked>,

@@ -5,7 +5,7 @@ ghost use Rattle.journal.specs.Journal.{Clean, ShowsCommit, durable, written};
 ghost use Rattle.durable_store.specs.Durable.{IsDurable};
 ghost use Rattle.serving.specs.Follows.{LeavesMore};
 ghost use Rattle.serving.specs.Requests.{LetsGo};
-ghost use Rattle.serving.specs.Serving.{GoesOn};
+ghost use Rattle.serving.specs.Serving.{StaysInEpoch};
 ghost use Rattle.serving.specs.Told.{has_commit, is_commit};
 
 use crate::answer_line::{AnswerLine, Answered};
@@ -22,7 +22,7 @@ impl<S: Alter> Session<S> {
     /// The file failed, or memory was refused for it: the session isn't to be asked any more.
     pub(crate) fn settle(&mut self) -> Result<(), JournalError>
         requires { IsDurable S.Store self.old.store }
-        ensures goes_on { OnOk result (GoesOn S.Store self.old self.new) }
+        ensures stays_in_epoch { OnOk result (StaysInEpoch S.Store self.old self.new) }
         ensures lets_go { OnOk result (LetsGo self.old.store.store self.new.store.store) }
         ensures settled { OnOk result (Clean S.Store self.new.store.journal → durable S.Store self.new.store.journal ≡ written S.Store self.new.store.journal) }
         ensures shows { OnOk result (ShowsCommit S.Store self.new.store.journal) }
@@ -43,7 +43,7 @@ impl<S: Alter> Server<S> {
     pub(crate) fn settle_commits(&mut self) -> Result<(), JournalError>
         requires { IsDurable S.Store self.old.session.store }
         ensures others { self.new ≡ record self.old { session = self.new.session } }
-        ensures goes_on { OnOk result (GoesOn S.Store self.old.session self.new.session) }
+        ensures stays_in_epoch { OnOk result (StaysInEpoch S.Store self.old.session self.new.session) }
         ensures lets_go { OnOk result (LetsGo self.old.session.store.store self.new.session.store.store) }
         ensures settled { OnOk result (has_commit self.old.answers.items ≡ true → Clean S.Store self.new.session.store.journal
             → durable S.Store self.new.session.store.journal ≡ written S.Store self.new.session.store.journal) }

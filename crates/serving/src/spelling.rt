@@ -12,7 +12,7 @@ use request_text::{RequestFault, TransactionName};
 use script_run::name_of;
 use type_table::Name;
 
-/// Writes the lines of an answer behind its tag, which is `-` where there is none.
+/// Writes the lines of an answer after its tag, which is `-` where there is none.
 ///
 /// # Errors
 ///

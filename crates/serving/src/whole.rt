@@ -25,17 +25,17 @@ use std::alloc::Global;
 use std::io::Read;
 use std::rt::Clock;
 
-/// Serves a client: greets it, and tells it the answers to its lines, group by group as they are read into the buffer.
+/// Serves a client: greets it, and writes it the answers to its lines, group by group as they are read into the buffer.
 /// Where an epoch is full, as the limits say, no further transaction begins before another epoch has begun. Where the
 /// client has asked for the end, or its input has ended, what is open is aborted and the file begins another epoch. The
-/// history of each epoch that ends is kept by the archive, where it wants any, before the file begins anew. Then the client
-/// is told that the end is there, where it asked for that. However it ends, each commit that the client was told survives a
-/// crash, where all that was written was durable as it began.
+/// history of each epoch that ends is kept by the archive, where it asks for any, before the file begins anew. Then the
+/// end is answered, where the client asked for it. However it ends, each commit that was answered survives a crash,
+/// where all that was written was durable as it began.
 ///
 /// # Errors
 ///
-/// The file, the archive, the input or the output failed, or memory was refused. The client was told a beginning of what
-/// it is told otherwise; no commit was told it that isn't durable.
+/// The file, the archive, the input or the output failed, or memory was refused. The client got a beginning of
+/// what it gets otherwise, and each commit that was answered is durable.
 pub fn serve<C: Clock, S: Alter, A: Archive, R: Read, W: Out>(
     clock: &C,
     alloc: Global,
@@ -73,7 +73,7 @@ pub fn serve<C: Clock, S: Alter, A: Archive, R: Read, W: Out>(
     }
 }
 
-/// Ends what a client was served: another epoch begins, and then it is told.
+/// Ends what a client was served: another epoch begins, and then that is answered.
 ///
 /// # Errors
 ///

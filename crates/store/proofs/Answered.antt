@@ -11,7 +11,7 @@ use Rattle.object_trait.specs.Meaning.{Meaning, object}
 use Rattle.object_trait.specs.Steps.{MayApply}
 use Rattle.object_trait.specs.declared.event.Event.{Event}
 use Rattle.object_trait.specs.declared.event.EventKind.{EventKind}
-use Rattle.serial_order.specs.History.{seen, is_open}
+use Rattle.serial_order.specs.History.{summary, is_open}
 use Rattle.serial_order.specs.Machine.{IsFirstOfCall, MayFollow}
 use Rattle.serial_order.specs.Answer.{event_of_call}
 use Rattle.serial_order.specs.Replay.{open_count, is_full, call_event}
@@ -55,17 +55,17 @@ IsThere s x call = (o : Object) × (slice_get (objects s) x ≡ Some o) × IsCal
 -- an open transaction's call at the object of this meaning
 pub record IsCalled (ms : List Meaning) (rows : List (Option Row)) (H : List Event) (t x : ℕ) (call : Call) (m : Meaning) : Type 0 where
   pub kept : IsKept (keeping ms rows) H
-  pub going : is_open (seen H) t ≡ true
+  pub going : is_open (summary H) t ≡ true
   pub there : slice_get ms x ≡ Some m
   pub is_call : IsCall m.checked.file.table call
 
 -- and its answer, whose event the history defines
 pub record IsGiven (ms : List Meaning) (rows : List (Option Row)) (H : List Event) (t x : ℕ) (call : Call) (m : Meaning) (a : Answer) : Type 0 where
   pub kept : IsKept (keeping ms rows) H
-  pub going : is_open (seen H) t ≡ true
+  pub going : is_open (summary H) t ≡ true
   pub there : slice_get ms x ≡ Some m
   pub is_call : IsCall m.checked.file.table call
-  pub defined : call_event (slice_get (objects_of ms) x) (seen H) x t (Some call.first) ≡ Some (as_event t x call.first a)
+  pub defined : call_event (slice_get (objects_of ms) x) (summary H) x t (Some call.first) ≡ Some (as_event t x call.first a)
 
 module _ (ms : List Meaning) (rows : List (Option Row)) (H : List Event) (max forgotten : ℕ) (s : Stored) (x : ℕ) (call : Call)
     (same : shown (keeping ms rows) H max forgotten ≡ s) (known : IsThere s x call) where
@@ -79,31 +79,31 @@ module _ (ms : List Meaning) (rows : List (Option Row)) (H : List Event) (max fo
       subst (λ k. x < k) (length-map (types_of ms) object_of ∙ length-map ms (λ (m : Meaning). m.checked) ∙ many) (slice_get_within (objects_of ms) x known.0 known-at)
 
   -- and has this call
-  pub called-at : (t : ℕ) (m : Meaning) → IsKept (keeping ms rows) H → is_open (seen s.history) t ≡ true
+  pub called-at : (t : ℕ) (m : Meaning) → IsKept (keeping ms rows) H → is_open (summary s.history) t ≡ true
       → slice_get ms x ≡ Some m → IsCalled ms rows H t x call m
   called-at t m kept going there =
       record {
         kept = kept;
-        going = subst (λ (z : Stored). is_open (seen z.history) t ≡ true) (sym same) going;
+        going = subst (λ (z : Stored). is_open (summary z.history) t ≡ true) (sym same) going;
         there = there;
         is_call = subst (λ (z : Object). IsCall z.table call) (one-at (objects_of ms) x known.0 (object m) known-at (object-at ms x m there)) known.2;
       }
 
   -- whose answer is given
-  pub given-at : (t : ℕ) (a : Answer) (m : Meaning) → IsKept (keeping ms rows) H → is_open (seen s.history) t ≡ true → slice_get ms x ≡ Some m
-      → call_event (slice_get (objects s) x) (seen s.history) x t (Some call.first) ≡ Some (as_event t x call.first a) → IsGiven ms rows H t x call m a
+  pub given-at : (t : ℕ) (a : Answer) (m : Meaning) → IsKept (keeping ms rows) H → is_open (summary s.history) t ≡ true → slice_get ms x ≡ Some m
+      → call_event (slice_get (objects s) x) (summary s.history) x t (Some call.first) ≡ Some (as_event t x call.first a) → IsGiven ms rows H t x call m a
   given-at t a m kept going there defined =
       record {
         kept = kept;
-        going = subst (λ (z : Stored). is_open (seen z.history) t ≡ true) (sym same) going;
+        going = subst (λ (z : Stored). is_open (summary z.history) t ≡ true) (sym same) going;
         there = there;
         is_call = subst (λ (z : Object). IsCall z.table call) (one-at (objects_of ms) x known.0 (object m) known-at (object-at ms x m there)) known.2;
-        defined = subst (λ (z : Stored). call_event (slice_get (objects z) x) (seen z.history) x t (Some call.first) ≡ Some (as_event t x call.first a)) (sym same) defined;
+        defined = subst (λ (z : Stored). call_event (slice_get (objects z) x) (summary z.history) x t (Some call.first) ≡ Some (as_event t x call.first a)) (sym same) defined;
       }
 
   -- at the object that is there
-  pub given : (t : ℕ) (a : Answer) → IsKept (keeping ms rows) H → is_open (seen s.history) t ≡ true
-      → call_event (slice_get (objects s) x) (seen s.history) x t (Some call.first) ≡ Some (as_event t x call.first a) → (m : Meaning) × IsGiven ms rows H t x call m a
+  pub given : (t : ℕ) (a : Answer) → IsKept (keeping ms rows) H → is_open (summary s.history) t ≡ true
+      → call_event (slice_get (objects s) x) (summary s.history) x t (Some call.first) ≡ Some (as_event t x call.first a) → (m : Meaning) × IsGiven ms rows H t x call m a
   given t a kept going defined =
       let found = element_at ms x (called-inside (length ms) refl) in
       (found.0, given-at t a found.0 kept going found.1 defined)
@@ -111,7 +111,7 @@ module _ (ms : List Meaning) (rows : List (Option Row)) (H : List Event) (max fo
 -- so for objects that mean it
 pub called-of : {A : Type 0} (meaning : A → Meaning) (objects : List A) (rows : List (Option Row)) (H : List Event) (max forgotten : ℕ) (s : Stored) (t x : ℕ) (call : Call)
     (o : A) → shown (keeping (map meaning objects) rows) H max forgotten ≡ s → IsKept (keeping (map meaning objects) rows) H
-    → is_open (seen s.history) t ≡ true → IsThere s x call → o ≡ get_or objects x o
+    → is_open (summary s.history) t ≡ true → IsThere s x call → o ≡ get_or objects x o
     → IsCalled (map meaning objects) rows H t x call (meaning o)
 called-of meaning objects rows H max forgotten s t x call o same kept going known is_object =
     let ms = map meaning objects in
@@ -120,9 +120,9 @@ called-of meaning objects rows H max forgotten s t x call o same kept going know
 
 -- whose transaction has a row
 pub still-open : RowsSayWhoIsOpen → (ms : List Meaning) (rows : List (Option Row)) (H : List Event) (max forgotten : ℕ) (s : Stored) (t : ℕ)
-    → shown (keeping ms rows) H max forgotten ≡ s → IsKept (keeping ms rows) H → is_open (seen s.history) t ≡ true → table.is_open rows t ≡ true
+    → shown (keeping ms rows) H max forgotten ≡ s → IsKept (keeping ms rows) H → is_open (summary s.history) t ≡ true → table.is_open rows t ≡ true
 still-open says ms rows H max forgotten s t same kept going =
-    sym (open-alike says ms rows H t kept) ∙ subst (λ (z : Stored). is_open (seen z.history) t ≡ true) (sym same) going
+    sym (open-alike says ms rows H t kept) ∙ subst (λ (z : Stored). is_open (summary z.history) t ≡ true) (sym same) going
 
 -- and of the least of its operations
 call-least : FirstOpIsLeast → (o : Object) (call : Call) → IsCall o.table call → IsFirstOfCall o call.first
@@ -136,7 +136,7 @@ pub room-tested : RowsAreCounted → (ms : List Meaning) (rows : List (Option Ro
     → is_full max (past ++ Hm) 1 ≡ not said
 room-tested counted ms rows past Hm K forgotten opened max has said kept exact many same test says =
     let H = past ++ Hm in
-    let counts : opened ≡ open_count (seen H) = exact ∙ sym (counted (keeping ms rows) H kept) in
+    let counts : opened ≡ open_count (summary H) = exact ∙ sym (counted (keeping ms rows) H kept) in
     let told : nat_le (length H + opened + 1) max ≡ said = past-test past K Hm forgotten opened 1 max has said many test same says in
     elim said as (λ b. nat_le (length H + opened + 1) max ≡ b → is_full max H 1 ≡ not b) [
       | true ↦ full-else H opened 1 max counts
@@ -144,7 +144,7 @@ room-tested counted ms rows past Hm K forgotten opened max has said kept exact m
     ] told
 
 -- where it isn't full there is room
-pub room-left : (H : List Event) (max : ℕ) → is_full max H 1 ≡ false → length H + open_count (seen H) + 1 ≤ max
+pub room-left : (H : List Event) (max : ℕ) → is_full max H 1 ≡ false → length H + open_count (summary H) + 1 ≤ max
 room-left H max room = grind (arith, nat_tests, room)
 
 -- ---- its answer
@@ -152,19 +152,19 @@ room-left H max room = grind (arith, nat_tests, room)
 -- is that of the event that the history defines
 pub answer-defined : {ms : List Meaning} {rows : List (Option Row)} {H : List Event} {t x : ℕ} {call : Call} {m : Meaning} {a : Answer}
     → IsCalled ms rows H t x call m → a ≡ answer_of m t call.first → AnswersAsDefined
-    → call_event (slice_get (objects_of ms) x) (seen H) x t (Some call.first) ≡ Some (as_event t x call.first a)
+    → call_event (slice_get (objects_of ms) x) (summary H) x t (Some call.first) ≡ Some (as_event t x call.first a)
 answer-defined {ms} {H = H} {t = t} {x = x} {call = call} {m = m} called is_answer defined =
     let event =
     ap (as_event t x call.first) is_answer
     ∙ defined (objects_of ms) m x H t call.first called.kept.run (called.kept.objects x m called.there).represents called.going in
-    ap (λ o. call_event o (seen H) x t (Some call.first)) (object-at ms x m called.there) ∙ ap Some (sym event)
+    ap (λ o. call_event o (summary H) x t (Some call.first)) (object-at ms x m called.there) ∙ ap Some (sym event)
 
 module _ {ms : List Meaning} {rows : List (Option Row)} {H : List Event} {t x : ℕ} {call : Call} {m : Meaning} {a : Answer}
     (given : IsGiven ms rows H t x call m a) where
-  answer-event : as_event t x call.first a ≡ event_of_call (object m) (seen H) x t call.first
+  answer-event : as_event t x call.first a ≡ event_of_call (object m) (summary H) x t call.first
   answer-event =
-      same_Some (as_event t x call.first a) (event_of_call (object m) (seen H) x t call.first)
-      (sym given.defined ∙ ap (λ o. call_event o (seen H) x t (Some call.first)) (object-at ms x m given.there))
+      same_Some (as_event t x call.first a) (event_of_call (object m) (summary H) x t call.first)
+      (sym given.defined ∙ ap (λ o. call_event o (summary H) x t (Some call.first)) (object-at ms x m given.there))
 
   -- its event may follow
   pub answer-follows : FirstOpIsLeast → AnswerMayFollow → (w : ℕ) → MayFollow (objects_of ms) H (record { worker = w; kind = as_event t x call.first a })
@@ -233,7 +233,7 @@ module _ (quiet : QuietMoves) (op : OpMoves) (types : TypesStay) (ms now : List 
       → length H + opened + 1 ≤ more → is_full max H 1 ≡ false → IsWhole now calls left after more max
   answer-whole stays room_after counted calls room more max opened whole may exact fits reserved free =
       let takes_one = answer-takes t x c a in
-      let counts : open_count (seen H) ≡ count_open rows = counted (keeping ms rows) H kept in
+      let counts : open_count (summary H) ≡ count_open rows = counted (keeping ms rows) H kept in
       let limited = room-left H max free in
       event-whole stays room_after types ms now calls rows left H after (record { worker = w; kind = as_event t x c a }) room more max whole may
       (answer-moved quiet op ms now rows left H w t x c a kept going done) appended (omega (arith, limited, fits))
@@ -241,7 +241,7 @@ module _ (quiet : QuietMoves) (op : OpMoves) (types : TypesStay) (ms now : List 
 
   -- what comes of it
   pub answer-comes : (max forgotten : ℕ) (s : Stored) → shown (keeping ms rows) H max forgotten ≡ s → is_full max H 1 ≡ false
-      → call_event (slice_get (objects_of ms) x) (seen H) x t (Some c) ≡ Some (as_event t x c a) → Comes s w t x c (Ok a) (shown (keeping now left) after max forgotten)
+      → call_event (slice_get (objects_of ms) x) (summary H) x t (Some c) ≡ Some (as_event t x c a) → Comes s w t x c (Ok a) (shown (keeping now left) after max forgotten)
   answer-comes max forgotten s same room defined =
       let same_types : types_of now ≡ types_of ms =
       types (keeping ms rows) (keeping now left) H (record { worker = w; kind = as_event t x c a })
@@ -258,9 +258,9 @@ module _ (ms : List Meaning) (rows : List (Option Row)) (H : List Event) (max fo
   full-comes full = (refl, inl (subst (λ (z : Stored). is_full z.max z.history 1 ≡ true) same full, refl))
 
   -- memory was refused
-  pub wanting-comes : (now : List Meaning) (left : List (Option Row)) (after : List Event) → now ≡ ms → after ≡ H → is_full max H 1 ≡ false
+  pub memory_refused-comes : (now : List Meaning) (left : List (Option Row)) (after : List Event) → now ≡ ms → after ≡ H → is_full max H 1 ≡ false
       → Comes s w t x c (Err NoMemory) (shown (keeping now left) after max forgotten)
-  wanting-comes now left after unchanged stays room = (
+  memory_refused-comes now left after unchanged stays room = (
     ap (λ ns. stored (types_of ns) after max forgotten) unchanged ∙ ap (λ K. stored (types_of ms) K max forgotten) stays ∙ same,
     inr (subst (λ (z : Stored). is_full z.max z.history 1 ≡ false) same room, refl),
   )

@@ -4,7 +4,7 @@ use Rattle.std.specs.Prelude.{if◌then◌else◌}
 use Rattle.object_trait.specs.Object.{Object}
 use Rattle.object_trait.specs.Meaning.{Meaning}
 use Rattle.object_trait.specs.declared.event.Event.{Event}
-use Rattle.serial_order.specs.History.{Seen, seen, is_open}
+use Rattle.serial_order.specs.History.{Summary, summary, is_open}
 use Rattle.serial_order.specs.Machine.{MayFollow}
 use Rattle.serial_order.specs.Replay.{open_count, refusal, event_of}
 use Rattle.serial_order.specs.declared.refusal.Refusal.TheVariants.{NotOpen}
@@ -27,18 +27,18 @@ use Rattle.store.proofs.Opens.{its-row, row-places, open-alike}
 -- ---- either end
 
 -- a transaction that isn't open has none
-pub end-refusal : (how : End) (objects : List Object) (most : ℕ) (H : List Event) (t : ℕ) (going : Bool) → is_open (seen H) t ≡ going
+pub end-refusal : (how : End) (objects : List Object) (most : ℕ) (H : List Event) (t : ℕ) (going : Bool) → is_open (summary H) t ≡ going
     → refusal objects most H (end_command how t) ≡ (if not going then Some NotOpen else None)
 end-refusal end.Commit objects most H t going same = ap (λ b. if not b then Some NotOpen else None) same
 end-refusal end.Abort objects most H t going same = ap (λ b. if not b then Some NotOpen else None) same
 
 -- one that is open may end
-end-may : (how : End) (objects : List Object) (H : List Event) (w t : ℕ) → is_open (seen H) t ≡ true → MayFollow objects H (record { worker = w; kind = end_event how t })
+end-may : (how : End) (objects : List Object) (H : List Event) (w t : ℕ) → is_open (summary H) t ≡ true → MayFollow objects H (record { worker = w; kind = end_event how t })
 end-may end.Commit objects H w t opened = opened
 end-may end.Abort objects H w t opened = opened
 
 -- which is an event, and takes no room
-end-makes : (how : End) (objects : List Object) (s : Seen) (t : ℕ) → event_of objects s (end_command how t) ≡ Some (end_event how t)
+end-makes : (how : End) (objects : List Object) (s : Summary) (t : ℕ) → event_of objects s (end_command how t) ≡ Some (end_event how t)
 end-makes end.Commit objects s t = refl
 end-makes end.Abort objects s t = refl
 
@@ -52,7 +52,7 @@ end-takes end.Abort t = refl
 pub end-room : RowsAreCounted → (ms : List Meaning) (rows : List (Option Row)) (H : List Event) (room max left : ℕ)
     → IsStore (keeping ms rows) H room max → left + 1 ≡ count_open rows → (length H < room) × (length H < max)
 end-room counted ms rows H room max left store one =
-    let counts : open_count (seen H) ≡ count_open rows = counted (keeping ms rows) H store.kept in
+    let counts : open_count (summary H) ≡ count_open rows = counted (keeping ms rows) H store.kept in
     let reserved : length H + count_open rows ≤ room = subst (λ n. length H + n ≤ room) counts store.reserved in
     let limited : length H + count_open rows ≤ max = subst (λ n. length H + n ≤ max) counts store.limited in
     (omega (arith, reserved, one), omega (arith, limited, one))
@@ -62,7 +62,7 @@ module _ (how : End) (moves : EndMoves) (says : RowsSayWhoIsOpen) (ms ms_now : L
     (rows now : List (Option Row)) (H after : List Event) (w t : ℕ) (places : List ℕ) (kept : IsKept (keeping ms rows) H)
     (going : table.is_open rows t ≡ true) (its : places ≡ places_of (row rows t)) (objects : ChangesAt places (λ x m n. IsEnd how m t n) ms ms_now)
     (gone : now ≡ set rows t None) (appended : after ≡ H ++ (record { worker = w; kind = end_event how t }) ∷ []) where
-  opened : is_open (seen H) t ≡ true
+  opened : is_open (summary H) t ≡ true
   opened = open-alike says ms rows H t kept ∙ going
 
   -- so it is what its event does to what is kept
@@ -84,12 +84,12 @@ module _ (how : End) (moves : EndMoves) (says : RowsSayWhoIsOpen) (ms ms_now : L
       let free : takes (end_event how t) ≡ 0 = end-takes how t in
       event-whole stays room_after types ms ms_now calls rows now H after (record { worker = w; kind = end_event how t }) room more max whole
       (end-may how (objects_of ms) H w t opened) end-moved appended (omega (arith, low, fits))
-      (subst (λ n. length H + open_count (seen H) + n ≤ more) (sym free) (omega (arith, reserved, grown)))
-      (subst (λ n. length H + open_count (seen H) + n ≤ max) (sym free) (omega (arith, limited)))
+      (subst (λ n. length H + open_count (summary H) + n ≤ more) (sym free) (omega (arith, reserved, grown)))
+      (subst (λ n. length H + open_count (summary H) + n ≤ max) (sym free) (omega (arith, limited)))
 
   -- and callers see the event
   pub end-shown : TypesStay → (T : Type 0) (x : T) (max forgotten : ℕ) (s : Stored) → shown (keeping ms rows) H max forgotten ≡ s
       → Steps {T = T} s w (end_command how t) (Ok x) (shown (keeping ms_now now) after max forgotten)
   end-shown types T x max forgotten s same =
       event-shown types T (keeping ms rows) (keeping ms_now now) H after w max forgotten (end_event how t) (end_command how t) x s same end-moved appended
-      (end-refusal how (objects_of ms) max H t true opened) (end-makes how (objects_of ms) (seen H) t)
+      (end-refusal how (objects_of ms) max H t true opened) (end-makes how (objects_of ms) (summary H) t)

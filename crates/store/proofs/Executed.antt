@@ -11,11 +11,6 @@ use Rattle.object_trait.specs.Steps.{applied}
 use Rattle.open_transactions.specs.Transactions.{Row, pushed, changed}
 use Rattle.store.specs.Executed.{IsExecuted}
 
--- what holds in any case holds of an error
-pub on-err : {T E P : Type 0} (r : Result T E) → P → OnErr r P
-on-err (Ok x) fact = tt
-on-err (Err e) fact = fact
-
 -- what is said of an error holds of a call that is one
 pub failed : {T E P : Type 0} (r : Result T E) → is_err r ≡ true → OnErr r P → P
 failed (Ok x) wrong fact = absurd (true≢false (sym wrong))
@@ -25,7 +20,7 @@ failed (Err e) wrong fact = fact
 pub seen-at : {A B : Type 0} (f : A → B) (xs : List A) (x : ℕ) (a : A) → x < length xs → a ≡ get_or xs x a → slice_get (map f xs) x ≡ Some (f a)
 seen-at f xs x a inside is = slice_get-map f xs x ∙ ap (option_map f) (slice_get_read xs (length xs) x a refl inside is)
 
--- what takes the place of another from which f can't tell it
+-- what takes the place of another to which f gives the same value
 pub unseen-at : {A B : Type 0} (f : A → B) (xs : List A) (x : ℕ) (a b : A) → a ≡ get_or xs x a → f b ≡ f a → map f (set xs x b) ≡ map f xs
 unseen-at f xs x a b is same = map-set_same f xs x b a (same ∙ ap f is)
 

@@ -14,14 +14,14 @@ use Rattle.object_trait.specs.declared.event.EventKind.{EventKind}
 use Rattle.object_trait.specs.declared.event.EventKind.TheVariants as kind
 use Rattle.object_trait.specs.declared.event.Event.{Event}
 use Rattle.object_calls.specs.declared.answer.Answer.{Answer}
-use Rattle.serial_order.specs.History.{Seen, seen}
+use Rattle.serial_order.specs.History.{Summary, summary}
 use Rattle.serial_order.specs.declared.refusal.Refusal.{Refusal}
 use Rattle.serial_order.specs.declared.refusal.Refusal.TheVariants as refusal
 use Rattle.serial_order.specs.Answer as definition
 use Rattle.store_laws.specs.Stored.{Stored, objects, refusal_of}
 use Rattle.store_laws.specs.Words.{as_event}
 use Rattle.store.specs.Calls.{op_call_at, CallsIf}
-use Rattle.store.specs.Follows.{Follows, IsMade, IsOfCallAlone, answered}
+use Rattle.store.specs.Follows.{Follows, IsMade, IsOfCallAlone, made_or_stray}
 use Rattle.serial_order.specs.View.{is_of_call}
 use Rattle.type_table.specs.Least.{first_below, found_or}
 use Rattle.serial_order.specs.Answer.{blocker, busy_with, refused, is_free_reply, event_of_call}
@@ -50,15 +50,15 @@ busy-no-op : (found : Option Entry) (t x c : ℕ) → op-of (busy_with found t x
 busy-no-op None t x c = refl
 busy-no-op (Some e) t x c = refl
 
-refused-no-op : (o : Object) (s : Seen) (x t c : ℕ) (found : Option ℕ) → op-of (refused o s x t c found) ≡ None
+refused-no-op : (o : Object) (s : Summary) (x t c : ℕ) (found : Option ℕ) → op-of (refused o s x t c found) ≡ None
 refused-no-op o s x t c None = refl
 refused-no-op o s x t c (Some k) = busy-no-op (blocker o s x t k) t x c
 
 -- an operation that comes of a call is one of the call
-op-of-call : (o : Object) (s : Seen) (x t c k : ℕ) → op-of (event_of_call o s x t c) ≡ Some k → is_of_call o c k ≡ true
+op-of-call : (o : Object) (s : Summary) (x t c k : ℕ) → op-of (event_of_call o s x t c) ≡ Some k → is_of_call o c k ≡ true
 op-of-call o s x t c k is = by (first_below (length o.table.ops) (is_free_reply o s x t c)) refl is
   where
-    by : (found : Option ℕ) → first_below (length o.table.ops) (is_free_reply o s x t c) ≡ found → op-of (definition.answered o s x t c found) ≡ Some k → is_of_call o c k ≡ true
+    by : (found : Option ℕ) → first_below (length o.table.ops) (is_free_reply o s x t c) ≡ found → op-of (definition.event_of_first o s x t c found) ≡ Some k → is_of_call o c k ≡ true
     by None at same = absurd (none-some k (sym (refused-no-op o s x t c _) ∙ same))
     by (Some j) at same =
         let passes = found-passes (length o.table.ops) (is_free_reply o s x t c) k (at ∙ same) in
@@ -86,7 +86,7 @@ one-call (kind.Abort n) t x u y a b = absurd a
 one-call (kind.Rollback n m) t x u y a b = absurd a
 
 -- whatever command makes an event of t at x is a call of t at x
-pub call-alone : (os : List Object) (s : Seen) (t x : ℕ) (happened : EventKind) → IsOfCall t x happened → (d : Command) → event_of os s d ≡ Some happened
+pub call-alone : (os : List Object) (s : Summary) (t x : ℕ) (happened : EventKind) → IsOfCall t x happened → (d : Command) → event_of os s d ≡ Some happened
     → (name : List ℕ) × (d ≡ command.Call t x name) × (call_event (slice_get os x) s x t (call_at (slice_get os x) name) ≡ Some happened)
 call-alone os s t x happened of command.Begin is = absurd (subst (λ (e : Option EventKind). of-call-or t x e) (sym is) of)
 call-alone os s t x happened of (command.Call u y name) is =
@@ -103,7 +103,7 @@ call-alone os s t x happened of (command.Rollback u n) is = absurd (subst (λ (e
 -- ---- the call of an operation
 
 -- the name of a call that makes an operation finds that operation's call
-pub op-alone : (at : Option Object) (s : Seen) (t x k : ℕ) (name : List ℕ) → call_event at s x t (call_at at name) ≡ Some (kind.Op t x k)
+pub op-alone : (at : Option Object) (s : Summary) (t x k : ℕ) (name : List ℕ) → call_event at s x t (call_at at name) ≡ Some (kind.Op t x k)
     → (c : ℕ) × (call_at at name ≡ Some c) × (op_call_at at k ≡ Some c)
 op-alone None s t x k name is = absurd (none-some (kind.Op t x k) is)
 op-alone (Some o) s t x k name is = found (first_op o.table name) refl is
@@ -126,11 +126,11 @@ module _ (old new : Stored) (e : Event) (t x c : ℕ) (a : Answer) (alone : IsOf
       let one = alone made.command made.makes in
       elim (calls one.0 one.2).1 [
         | inl reason ↦ none-some r (sym (ap (refusal_of old) (sym one.1) ∙ made.accepted) ∙ reason)
-        | inr wanting ↦ other wanting.1
+        | inr memory_refused ↦ other memory_refused.1
       ]
 
   pub called-follows : (result : Result Bool Refusal) → IfOk result (λ made. (name : List ℕ) × (call_at (slice_get (objects old) x) name ≡ Some c)) → OnErr result (new ≡ old)
-      → ((name : List ℕ) → call_at (slice_get (objects old) x) name ≡ Some c → CallsIf old e.worker t x name c a result new) → Follows old e (answered result) new
+      → ((name : List ℕ) → call_at (slice_get (objects old) x) name ≡ Some c → CallsIf old e.worker t x name c a result new) → Follows old e (made_or_stray result) new
   called-follows (Ok true) its err calls =
       let made = calls its.0 its.1 in (
         record { command = command.Call t x its.0; accepted = made.0; makes = made.1 ∙ ap Some same },
@@ -139,7 +139,7 @@ module _ (old new : Stored) (e : Event) (t x c : ℕ) (a : Answer) (alone : IsOf
   called-follows (Ok false) its err calls = (
     (λ made.
         let one = alone made.command made.makes in
-        (calls one.0 one.2).0 (ap (event_of (objects old) (seen old.history)) (sym one.1) ∙ made.makes ∙ ap Some (sym same))),
+        (calls one.0 one.2).0 (ap (event_of (objects old) (summary old.history)) (sym one.1) ∙ made.makes ∙ ap Some (sym same))),
     (calls its.0 its.1).1,
   )
   called-follows (Err refusal.NotOpen) its err calls = (refused-makes refusal.NotOpen (λ is. cc) calls, err)

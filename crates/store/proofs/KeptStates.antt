@@ -15,11 +15,11 @@ use Rattle.object_trait.specs.declared.event.Event.{Event}
 use Rattle.object_trait.specs.declared.log_entry.LogEntry.{LogEntry}
 use Rattle.serial_order.specs.Operations.{ops}
 use Rattle.serial_order.specs.History.{commits}
-use Rattle.serial_order.specs.Serial.{IsSerial, standing_at}
-use Rattle.serial_order.specs.Stand.{plain, StandsUndo, StandsBy, KeptAgreesBy}
+use Rattle.serial_order.specs.Serial.{IsSerial, surviving_at}
+use Rattle.serial_order.specs.Represent.{plain, RepresentsUndo, RepresentsBy, KeptAgreesBy}
 use Rattle.serial_order.specs.Laws.{AreChecked, IsSerialAndKept, CheckedHeadline}
 use Rattle.serial_order.specs.declared.entry.Entry.{Entry}
-use Rattle.serial_order.proofs.StandLogs.{ops-plain}
+use Rattle.serial_order.proofs.RepresentLogs.{ops-plain}
 use Rattle.open_transactions.specs.Transactions.{Row}
 use Rattle.store_laws.specs.Stored.{Stored, objects, types_of}
 use Rattle.store_laws.specs.Kept.{keeping, objects_of, IsKept}
@@ -28,22 +28,22 @@ use Rattle.store.proofs.Stored.{shown}
 
 -- ---- update in place
 
--- all that lives leads to the state after the log
-stands-run : RunsAlong → (o : Object) (base : ℕ) (log : List LogEntry) (x : ℕ) (C : List ℕ) (V : List Entry) → StandsUndo o base log x C V
+-- all that survives leads to the state after the log
+represents-run : RunsAlong → (o : Object) (base : ℕ) (log : List LogEntry) (x : ℕ) (C : List ℕ) (V : List Entry) → RepresentsUndo o base log x C V
     → run o.table (Some o.table.initial) (ops V) ≡ run_log o base log
-stands-run along o base log x C V stands =
-    ap (λ W. run o.table (Some o.table.initial) (ops W)) (sym stands.whole)
-    ∙ ap (run o.table (Some o.table.initial)) (map-append (λ (e : Entry). e.op) stands.past (map (plain x) log))
-    ∙ along o.table (Some o.table.initial) (ops stands.past) (ops (map (plain x) log))
-    ∙ ap (λ from. run o.table from (ops (map (plain x) log))) stands.reached
+represents-run along o base log x C V represents =
+    ap (λ W. run o.table (Some o.table.initial) (ops W)) (sym represents.whole)
+    ∙ ap (run o.table (Some o.table.initial)) (map-append (λ (e : Entry). e.op) represents.past (map (plain x) log))
+    ∙ along o.table (Some o.table.initial) (ops represents.past) (ops (map (plain x) log))
+    ∙ ap (λ from. run o.table from (ops (map (plain x) log))) represents.reached
     ∙ ap (run o.table (Some base)) (ops-plain x log)
 
 -- and so to the kept state, where that is of update in place
-in-place : RunsAlong → (kind : Kind) (o : Object) (base : ℕ) (log : List LogEntry) (x : ℕ) (C : List ℕ) (V : List Entry) (state : ℕ) → StandsBy kind o base log x C V
+in-place : RunsAlong → (kind : Kind) (o : Object) (base : ℕ) (log : List LogEntry) (x : ℕ) (C : List ℕ) (V : List Entry) (state : ℕ) → RepresentsBy kind o base log x C V
     → state_by kind o base log ≡ Some state → kind ≡ Undo → run o.table (Some o.table.initial) (ops V) ≡ Some state
-in-place along Undo o base log x C V state stands is undo = stands-run along o base log x C V stands ∙ is
-in-place along Intentions o base log x C V state stands is undo = cc
-in-place along Escrow o base log x C V state stands is undo = cc
+in-place along Undo o base log x C V state represents is undo = represents-run along o base log x C V represents ∙ is
+in-place along Intentions o base log x C V state represents is undo = cc
+in-place along Escrow o base log x C V state represents is undo = cc
 
 -- ---- a store
 
@@ -81,7 +81,7 @@ module _ (headline : CheckedHeadline) (ms : List Meaning) (rows : List (Option R
       (record {
         o = object m;
         there = object-at x m there;
-        in_place = in-place along m.checked.kind (object m) m.base m.log x (commits H) (standing_at x H) state represents is;
+        in_place = in-place along m.checked.kind (object m) m.base m.log x (commits H) (surviving_at x H) state represents is;
         agrees = subst (λ state. KeptAgreesBy m.checked.kind (object m) state x H) is (owed.kept x m (object-at x m there) represents);
         short = short;
       })

@@ -7,7 +7,7 @@ use Rattle.object_trait.specs.declared.event.EventKind.{EventKind}
 use Rattle.object_trait.specs.declared.event.EventKind.TheVariants as kind
 use Rattle.object_calls.specs.declared.answer.Answer.{Answer}
 use Rattle.object_calls.specs.declared.answer.Answer.TheVariants as answer
-use Rattle.serial_order.specs.History.{seen, is_open}
+use Rattle.serial_order.specs.History.{summary, is_open}
 use Rattle.serial_order.specs.Replay.{is_full, call_at, call_event}
 use Rattle.serial_order.specs.declared.command.Command.TheVariants.{Call}
 use Rattle.serial_order.specs.declared.refusal.Refusal.{Refusal}
@@ -16,7 +16,7 @@ use Rattle.store_laws.specs.Stored.{Stored, objects, refusal_of}
 use Rattle.store_laws.specs.Words.{as_event}
 use Rattle.store.specs.Calls.{Comes, ComesIf, CallsIf}
 
--- ---- one event tells one answer
+-- ---- one event says one answer
 
 answer-of : EventKind → Answer
 answer-of (kind.Op t x k) = answer.Reply k
@@ -35,10 +35,10 @@ one-answer found t x c a b is also =
     sym (answer-told t x c a) ∙ ap answer-of same ∙ answer-told t x c b
 
 -- so the answer that was given is the one that was chosen
-pub comes-as : (old new : Stored) (w t x c : ℕ) (a chosen b : Answer) → call_event (slice_get (objects old) x) (seen old.history) x t (Some c) ≡ Some (as_event t x c chosen) → chosen ≡ b
+pub comes-as : (old new : Stored) (w t x c : ℕ) (a chosen b : Answer) → call_event (slice_get (objects old) x) (summary old.history) x t (Some c) ≡ Some (as_event t x c chosen) → chosen ≡ b
     → Comes old w t x c (Ok a) new → Comes old w t x c (Ok b) new
 comes-as old new w t x c a chosen b is same comes =
-    let given : a ≡ b = one-answer (call_event (slice_get (objects old) x) (seen old.history) x t (Some c)) t x c a chosen comes.1 is ∙ same in
+    let given : a ≡ b = one-answer (call_event (slice_get (objects old) x) (summary old.history) x t (Some c)) t x c a chosen comes.1 is ∙ same in
     subst (λ (z : Answer). Comes old w t x c (Ok z) new) given comes
 
 -- ---- what is known of each outcome
@@ -55,7 +55,7 @@ if-err old new w t x c a (Err r) comes = comes.0
 
 -- ---- a call that is named
 
-module _ (old new : Stored) (w t x c : ℕ) (name : List ℕ) (o : Object) (there : slice_get (objects old) x ≡ Some o) (going : is_open (seen old.history) t ≡ true)
+module _ (old new : Stored) (w t x c : ℕ) (name : List ℕ) (o : Object) (there : slice_get (objects old) x ≡ Some o) (going : is_open (summary old.history) t ≡ true)
     (named : call_at (slice_get (objects old) x) name ≡ Some c) where
   with-room : is_full old.max old.history 1 ≡ false → refusal_of old (Call t x name) ≡ None
   with-room room = rw (going, named, there, room) refl
@@ -63,8 +63,8 @@ module _ (old new : Stored) (w t x c : ℕ) (name : List ℕ) (o : Object) (ther
   without-room : is_full old.max old.history 1 ≡ true → refusal_of old (Call t x name) ≡ Some HistoryFull
   without-room full = rw (going, named, there, full) refl
 
-  its-event : call_event (slice_get (objects old) x) (seen old.history) x t (call_at (slice_get (objects old) x) name) ≡ call_event (slice_get (objects old) x) (seen old.history) x t (Some c)
-  its-event = ap (call_event (slice_get (objects old) x) (seen old.history) x t) named
+  its-event : call_event (slice_get (objects old) x) (summary old.history) x t (call_at (slice_get (objects old) x) name) ≡ call_event (slice_get (objects old) x) (summary old.history) x t (Some c)
+  its-event = ap (call_event (slice_get (objects old) x) (summary old.history) x t) named
 
   pub calls-if : (a : Answer) (result : Result Bool Refusal) → ComesIf old w t x c a result new → CallsIf old w t x name c a result new
   calls-if a (Ok true) comes = (with-room comes.0, its-event ∙ comes.1, comes.2)
@@ -73,6 +73,6 @@ module _ (old new : Stored) (w t x c : ℕ) (name : List ℕ) (o : Object) (ther
     comes.0,
     elim comes.1 [
       | inl full ↦ inl (without-room full.0 ∙ ap Some (sym full.1))
-      | inr wanting ↦ inr (with-room wanting.0, wanting.1)
+      | inr memory_refused ↦ inr (with-room memory_refused.0, memory_refused.1)
     ],
   )

@@ -5,7 +5,7 @@ use Rattle.std.proofs.lemmas.List.Elements.{All-drop}
 use Rattle.object_trait.specs.Meaning.{Meaning}
 use Rattle.object_trait.specs.declared.event.Event.{Event}
 use Rattle.serial_order.specs.Operations.{of}
-use Rattle.serial_order.specs.History.{seen, is_open}
+use Rattle.serial_order.specs.History.{summary, is_open}
 use Rattle.object_calls.specs.Ends.{HasLast}
 use Rattle.open_transactions.specs.Transactions as table
 use Rattle.open_transactions.specs.Transactions.{Row, row, places_of}
@@ -19,7 +19,7 @@ some-of (Some a) there = (a, refl)
 
 -- what the table says of a transaction is what the history says
 pub open-alike : RowsSayWhoIsOpen → (ms : List Meaning) (rows : List (Option Row)) (H : List Event) (t : ℕ) → IsKept (keeping ms rows) H
-    → is_open (seen H) t ≡ table.is_open rows t
+    → is_open (summary H) t ≡ table.is_open rows t
 open-alike says ms rows H t kept = says (keeping ms rows) H t kept
 
 module _ (ms : List Meaning) (rows : List (Option Row)) (H : List Event) (t : ℕ) (places : List ℕ) (kept : IsKept (keeping ms rows) H)
@@ -37,7 +37,7 @@ module _ (ms : List Meaning) (rows : List (Option Row)) (H : List Event) (t : �
       subst (λ k. All (λ x. x < k) places) many
       (subst (λ ps. All (λ x. x < length ms) ps) row-places (inside (keeping ms rows) H t its-row.0 kept its-row.1))
 
-  pub places-counted : PlacesAreCounted → length (of t (seen H).stands) ≡ length places
+  pub places-counted : PlacesAreCounted → length (of t (summary H).survives) ≡ length places
   places-counted counted = counted (keeping ms rows) H t its-row.0 kept its-row.1 ∙ ap length row-places
 
   pub places-few : PlacesAreFew → length places ≤ length H

@@ -1,4 +1,4 @@
--- Events that were forgotten, and those in memory behind them.
+-- Events that were forgotten, and those in memory after them.
 use Rattle.std.proofs.Common.{◌≡◌, ℕ, ◌+◌, ◌≤◌, min, Bool, nat_le, List, [], ◌∷◌, ◌++◌, length, take, drop, Option, sym, ap, subst, ◌∙◌, arith}
 use Rattle.std.proofs.lemmas.List.{length-append, length-take-le, append_assoc, drop_at, take-append-drop}
 use Rattle.table_checker.specs.Checked.{Checked}

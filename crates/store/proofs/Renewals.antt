@@ -8,7 +8,7 @@ use Rattle.table_checker.specs.At.{checked_at}
 use Rattle.table_checker.specs.Checked.{Checked, IsChecked}
 use Rattle.object_trait.specs.Meaning.{Meaning, state_of}
 use Rattle.object_trait.specs.declared.event.Event.{Event}
-use Rattle.serial_order.specs.History.{seen, is_open}
+use Rattle.serial_order.specs.History.{summary, is_open}
 use Rattle.serial_order.specs.Laws.{AreChecked, CheckedHeadline}
 use Rattle.serial_order.specs.Epochs.{types_at, ClosedIsEpoch}
 use Rattle.open_transactions.specs.Transactions.{Row}
@@ -102,7 +102,7 @@ module _ (ms : List Meaning) (rows : List (Option Row)) (K : List Event) (kept :
       kept-shown headline ms rows K max forgotten kept (shown (keeping ms rows) K max forgotten) refl along x s found.0 found.1 is.0 is.1
 
   -- its history is an epoch, and the new one is of the types at the kept states
-  pub renews-shown : CheckedHeadline → RunsAlong → ClosedIsEpoch → (now : List Meaning) (max forgotten : ℕ) (new : Stored) → ((t : ℕ) → is_open (seen K) t ≡ false) → AreRenewed ms now
+  pub renews-shown : CheckedHeadline → RunsAlong → ClosedIsEpoch → (now : List Meaning) (max forgotten : ℕ) (new : Stored) → ((t : ℕ) → is_open (summary K) t ≡ false) → AreRenewed ms now
       → new ≡ stored (types_of now) [] max 0 → Renews (shown (keeping ms rows) K max forgotten) new
   renews-shown headline along closed now max forgotten new none all made =
       let its = kept-of ms now all in
@@ -117,8 +117,8 @@ module _ (ms : List Meaning) (rows : List (Option Row)) (K : List Event) (kept :
 
 -- and so as its callers see it
 pub renews : CheckedHeadline → RunsAlong → ClosedIsEpoch → (ms now : List Meaning) (rows : List (Option Row)) (K : List Event) (max forgotten : ℕ) (s new : Stored)
-    → shown (keeping ms rows) K max forgotten ≡ s → IsKept (keeping ms rows) K → ((t : ℕ) → is_open (seen s.history) t ≡ false) → AreRenewed ms now
+    → shown (keeping ms rows) K max forgotten ≡ s → IsKept (keeping ms rows) K → ((t : ℕ) → is_open (summary s.history) t ≡ false) → AreRenewed ms now
     → new ≡ stored (types_of now) [] max 0 → Renews s new
 renews headline along closed ms now rows K max forgotten s new same kept none all made =
     subst (λ (z : Stored). Renews z new) same
-    (renews-shown ms rows K kept headline along closed now max forgotten new (subst (λ (z : Stored). (t : ℕ) → is_open (seen z.history) t ≡ false) (sym same) none) all made)
+    (renews-shown ms rows K kept headline along closed now max forgotten new (subst (λ (z : Stored). (t : ℕ) → is_open (summary z.history) t ≡ false) (sym same) none) all made)

@@ -3,13 +3,14 @@ use Rattle.std.proofs.Common.{◌≡◌, ℕ, ◌+◌, ◌-◌, ◌<◌, ◌≤�
 use Rattle.std.specs.Prelude.{if◌then◌else◌}
 use Rattle.std.proofs.lemmas.Bool.Decides.{nat_tests}
 use Rattle.std.proofs.lemmas.List.{take_rest}
+use Rattle.std.proofs.Math.Bool.{or-true}
 use Rattle.object_trait.specs.Object.{Object}
 use Rattle.object_trait.specs.Meaning.{Meaning}
 use Rattle.object_trait.specs.Steps.{IsStrike}
 use Rattle.object_trait.specs.declared.event.Event.{Event}
 use Rattle.object_trait.specs.declared.event.EventKind.TheVariants.{Rollback}
 use Rattle.serial_order.specs.Operations.{of}
-use Rattle.serial_order.specs.History.{seen, is_open}
+use Rattle.serial_order.specs.History.{summary, is_open}
 use Rattle.serial_order.specs.Machine.{MayFollow}
 use Rattle.serial_order.specs.Replay.{open_count, refusal, is_full}
 use Rattle.serial_order.specs.declared.command.Command.TheVariants as command
@@ -31,21 +32,16 @@ use Rattle.store.proofs.Opens.{its-row, row-places, open-alike, places-counted}
 -- ---- whether it is refused
 
 -- by three tests, in this order
-rollback-refusal : (objects : List Object) (most : ℕ) (H : List Event) (t n : ℕ) (going bad full : Bool) → is_open (seen H) t ≡ going
-    → (n == 0 || nat_lt (length (of t (seen H).stands)) n) ≡ bad → is_full most H 1 ≡ full
+rollback-refusal : (objects : List Object) (most : ℕ) (H : List Event) (t n : ℕ) (going bad full : Bool) → is_open (summary H) t ≡ going
+    → (n == 0 || nat_lt (length (of t (summary H).survives)) n) ≡ bad → is_full most H 1 ≡ full
     → refusal objects most H (command.Rollback t n)
     ≡ (if not going then Some NotOpen else (if bad then Some BadRollback else (if full then Some HistoryFull else None)))
 rollback-refusal objects most H t n going bad full open_is bad_is full_is =
-    ap (λ b. if not b then Some NotOpen else (if n == 0 || nat_lt (length (of t (seen H).stands)) n then Some BadRollback else (if is_full most H 1 then Some HistoryFull else None))) open_is
+    ap (λ b. if not b then Some NotOpen else (if n == 0 || nat_lt (length (of t (summary H).survives)) n then Some BadRollback else (if is_full most H 1 then Some HistoryFull else None))) open_is
     ∙ ap (λ b. if not going then Some NotOpen else (if b then Some BadRollback else (if is_full most H 1 then Some HistoryFull else None))) bad_is
     ∙ ap (λ b. if not going then Some NotOpen else (if bad then Some BadRollback else (if b then Some HistoryFull else None))) full_is
 
--- what is true makes a disjunction true
-or-true : (b : Bool) → (b || true) ≡ true
-or-true true = refl
-or-true false = refl
-
--- a transaction with so many operations that live can't strike none of them, or more than these
+-- a transaction can't strike none of its operations that survive, or more than there are
 none-or-more : (living n : ℕ) → (n ≡ 0) ⊎ (living < n) → (n == 0 || nat_lt living n) ≡ true
 none-or-more living n bad =
     elim bad [
@@ -70,37 +66,37 @@ rollback-closed says ms rows H t n max kept ended =
 module _ (says : RowsSayWhoIsOpen) (living : PlacesAreCounted) (ms : List Meaning) (rows : List (Option Row)) (H : List Event) (t n max : ℕ) (places : List ℕ)
     (kept : IsKept (keeping ms rows) H) (going : table.is_open rows t ≡ true) (its : places ≡ places_of (row rows t)) where
   -- it is open
-  going-on : is_open (seen H) t ≡ true
+  going-on : is_open (summary H) t ≡ true
   going-on = open-alike says ms rows H t kept ∙ going
 
-  -- as many of its operations live as its row has places
-  as-living : (bad : Bool) → (n == 0 || nat_lt (length places) n) ≡ bad → (n == 0 || nat_lt (length (of t (seen H).stands)) n) ≡ bad
+  -- as many of its operations survive as its row has places
+  as-living : (bad : Bool) → (n == 0 || nat_lt (length places) n) ≡ bad → (n == 0 || nat_lt (length (of t (summary H).survives)) n) ≡ bad
   as-living bad test = ap (λ m. n == 0 || nat_lt m n) (places-counted ms rows H t places kept going its living) ∙ test
 
-  -- none is to be struck, or more than live
+  -- none is to be struck, or more than survive
   pub rollback-bad : (n ≡ 0) ⊎ (length places < n) → refusal (objects_of ms) max H (command.Rollback t n) ≡ Some BadRollback
   rollback-bad bad =
       rollback-refusal (objects_of ms) max H t n true true _ going-on (as-living true (none-or-more (length places) n bad)) refl
 
-  -- or so many that live
+  -- or as many as survive, or fewer
   module _ (counted : RowsAreCounted) (opened : ℕ) (counts : opened ≡ count_open rows) (some : 0 < n) (few : n ≤ length places) where
-    -- so many transactions are open
-    open-seen : opened ≡ open_count (seen H)
-    open-seen = counts ∙ sym (counted (keeping ms rows) H kept)
+    -- the number of open transactions is known
+    open-summary : opened ≡ open_count (summary H)
+    open-summary = counts ∙ sym (counted (keeping ms rows) H kept)
 
     -- its number is right
-    there : (n == 0 || nat_lt (length (of t (seen H).stands)) n) ≡ false
+    there : (n == 0 || nat_lt (length (of t (summary H).survives)) n) ≡ false
     there = as-living false (some-living (length places) n some few)
 
     -- with no room
     pub rollback-full : nat_le (length H + opened + 1) max ≡ false → refusal (objects_of ms) max H (command.Rollback t n) ≡ Some HistoryFull
     rollback-full none =
-        rollback-refusal (objects_of ms) max H t n true false true going-on there (full-then H opened 1 max open-seen none)
+        rollback-refusal (objects_of ms) max H t n true false true going-on there (full-then H opened 1 max open-summary none)
 
     -- else it isn't refused
     pub rollback-unrefused : nat_le (length H + opened + 1) max ≡ true → refusal (objects_of ms) max H (command.Rollback t n) ≡ None
     rollback-unrefused room =
-        rollback-refusal (objects_of ms) max H t n true false false going-on there (full-else H opened 1 max open-seen room)
+        rollback-refusal (objects_of ms) max H t n true false false going-on there (full-else H opened 1 max open-summary room)
 
   -- its event may follow
   pub rollback-may : (w : ℕ) → 0 < n → n ≤ length places → MayFollow (objects_of ms) H (record { worker = w; kind = Rollback t n })
@@ -140,7 +136,7 @@ module _ (moves : RollbackMoves) (ms ms_now : List Meaning) (rows now : List (Op
       → (calls : List (List NamedCall)) (opened room more max : ℕ) → IsWhole ms calls rows H room max → opened ≡ count_open rows → max ≤ 4294967295
       → length H + opened + 1 ≤ more → length H + opened + 1 ≤ max → IsWhole ms_now calls now after more max
   rollback-whole stays room_after types counted may calls opened room more max whole counts fits reserved limited =
-      let same : opened ≡ open_count (seen H) = counts ∙ sym (counted (keeping ms rows) H kept) in
+      let same : opened ≡ open_count (summary H) = counts ∙ sym (counted (keeping ms rows) H kept) in
       event-whole stays room_after types ms ms_now calls rows now H after (record { worker = w; kind = Rollback t n }) room more max whole may
       rollback-moved appended (omega (arith, limited, fits)) (subst (λ m. length H + m + 1 ≤ more) same reserved) (subst (λ m. length H + m + 1 ≤ max) same limited)
 

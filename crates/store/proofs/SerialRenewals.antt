@@ -1,5 +1,5 @@
 -- Stores that went on from one another are epochs, so what is known of epochs holds of them.
-use Rattle.std.proofs.Common.{◌≡◌, ℕ, suc, ◌<◌, List, [], ◌∷◌, ◌++◌, map, length, Some, slice_get, refl, sym, ap, subst, ◌∙◌, append_assoc, arith}
+use Rattle.std.proofs.Common.{◌≡◌, ℕ, ◌<◌, List, [], ◌∷◌, ◌++◌, map, length, Some, slice_get, refl, sym, ap, subst, ◌∙◌, append_assoc, arith}
 use Rattle.std.proofs.lemmas.List.{append-nil}
 use Rattle.std.proofs.lemmas.Option.{slice_get_within}
 use Rattle.type_table.proofs.Elements.{element_at}
@@ -11,6 +11,7 @@ use Rattle.serial_order.specs.Machine.{IsRun}
 use Rattle.serial_order.specs.Operations.{ops}
 use Rattle.serial_order.specs.Serial.{serial_at}
 use Rattle.serial_order.specs.Epochs.{Epoch, IsEpoch, AreEpochs, types_at, types_after, serial_over, EpochsAreSerial, EpochsGoOn}
+use Rattle.serial_order.proofs.EpochTypes.{length-types_at}
 use Rattle.store_laws.specs.Stored.{Stored, objects}
 use Rattle.store.specs.Renews.{Renews}
 use Rattle.store.specs.Renewals.{AreRenewals, last_of, serial_through, BeginsAsSerial, RenewalsAreSerial}
@@ -22,12 +23,6 @@ record Before (first : Stored) (more : List Stored) : Type 0 where
   types : (last_of first more).types ≡ types_after first.types es
   as_many : length (last_of first more).types ≡ length first.types
   serial : (x : ℕ) → serial_through x first more ≡ serial_over x es ++ ops (serial_at x (last_of first more).history)
-
--- a type for each object, also at the states that were kept
-length-types_at : (types : List Checked) (kept : List ℕ) → length kept ≡ length types → length (types_at types kept) ≡ length types
-length-types_at [] kept as_many = refl
-length-types_at (c ∷ types) [] as_many = absurd (omega (arith, as_many))
-length-types_at (c ∷ types) (s ∷ kept) as_many = ap suc (length-types_at types kept (omega (arith, as_many)))
 
 before : (first : Stored) (more : List Stored) → AreRenewals first more → Before first more
 before first [] chain = record { es = []; epochs = tt; types = refl; as_many = refl; serial = λ x. refl }

@@ -4,7 +4,7 @@ use Rattle.std.proofs.lemmas.List.{length-map}
 use Rattle.table_checker.specs.Checked.{Checked}
 use Rattle.object_trait.specs.declared.event.Event.{Event}
 use Rattle.object_trait.specs.declared.event.EventKind.{EventKind}
-use Rattle.serial_order.specs.History.{seen}
+use Rattle.serial_order.specs.History.{summary}
 use Rattle.serial_order.specs.Machine.{MayFollow}
 use Rattle.serial_order.specs.Replay.{open_count, refusal, event_of}
 use Rattle.serial_order.specs.declared.command.Command.{Command}
@@ -18,7 +18,7 @@ use Rattle.open_transactions.specs.Transactions.{Row}
 use Rattle.object_trait.specs.Meaning.{Meaning}
 use Rattle.object_calls.specs.declared.call.NamedCall.{NamedCall}
 use Rattle.store.specs.Whole.{HasCalls, IsWhole}
-use Rattle.store.proofs.Steps.{refused-steps, accepted-steps, wanting-steps}
+use Rattle.store.proofs.Steps.{refused-steps, accepted-steps, memory_refused-steps}
 
 -- ---- what callers see
 
@@ -35,16 +35,16 @@ refused-shown T k H w max forgotten command r s same reason =
     subst (λ (z : Stored). Steps {T = T} z w command (Err r) z) same (refused-steps T (shown k H max forgotten) w command r reason)
 
 -- where memory was refused: the history has the same events
-pub wanting-shown : (T : Type 0) (k : Keeping) (H after : List Event) (w max forgotten : ℕ) (command : Command) (s : Stored) → shown k H max forgotten ≡ s
+pub memory_refused-shown : (T : Type 0) (k : Keeping) (H after : List Event) (w max forgotten : ℕ) (command : Command) (s : Stored) → shown k H max forgotten ≡ s
     → refusal (objects_of k.meanings) max H command ≡ None → after ≡ H → MayStep {T = T} s w command (Err NoMemory) (shown k after max forgotten)
-wanting-shown T k H after w max forgotten command s same unrefused stays =
+memory_refused-shown T k H after w max forgotten command s same unrefused stays =
     subst (λ (z : Stored). MayStep {T = T} z w command (Err NoMemory) (shown k after max forgotten)) same
-    (wanting-steps T (shown k H max forgotten) w command (shown k after max forgotten) unrefused (ap (λ K. stored (types_of k.meanings) K max forgotten) stays))
+    (memory_refused-steps T (shown k H max forgotten) w command (shown k after max forgotten) unrefused (ap (λ K. stored (types_of k.meanings) K max forgotten) stays))
 
 -- where there is an event
 pub event-shown : TypesStay → (T : Type 0) (old new : Keeping) (H after : List Event) (w max forgotten : ℕ) (happened : EventKind) (command : Command) (x : T) (s : Stored)
     → shown old H max forgotten ≡ s → Moves old new H (record { worker = w; kind = happened }) → after ≡ H ++ (record { worker = w; kind = happened }) ∷ []
-    → refusal (objects_of old.meanings) max H command ≡ None → event_of (objects_of old.meanings) (seen H) command ≡ Some happened
+    → refusal (objects_of old.meanings) max H command ≡ None → event_of (objects_of old.meanings) (summary H) command ≡ Some happened
     → Steps {T = T} s w command (Ok x) (shown new after max forgotten)
 event-shown types T old new H after w max forgotten happened command x s same moves appended unrefused makes =
     let same_types : types_of new.meanings ≡ types_of old.meanings = types old new H (record { worker = w; kind = happened }) moves in
@@ -57,7 +57,7 @@ event-shown types T old new H after w max forgotten happened command x s same mo
 -- an event for which there is room
 pub event-store : StaysKept → RoomAfter → (old new : Keeping) (H after : List Event) (e : Event) (room more max : ℕ)
     → IsStore old H room max → MayFollow (objects_of old.meanings) H e → Moves old new H e → after ≡ H ++ e ∷ [] → length H < 4294967295
-    → length H + open_count (seen H) + takes e.kind ≤ more → length H + open_count (seen H) + takes e.kind ≤ max → IsStore new after more max
+    → length H + open_count (summary H) + takes e.kind ≤ more → length H + open_count (summary H) + takes e.kind ≤ max → IsStore new after more max
 event-store stays room_after old new H after e room more max store may moves appended short reserved limited =
     let longer = room_after (objects_of old.meanings) H e store.kept.run may in
     subst (λ K. IsStore new K more max) (sym appended)
@@ -71,7 +71,7 @@ event-store stays room_after old new H after e room more max store may moves app
 pub event-whole : StaysKept → RoomAfter → TypesStay → (ms now : List Meaning) (calls : List (List NamedCall)) (rows left : List (Option Row))
     (H after : List Event) (e : Event) (room more max : ℕ) → IsWhole ms calls rows H room max → MayFollow (objects_of ms) H e
     → Moves (keeping ms rows) (keeping now left) H e → after ≡ H ++ e ∷ [] → length H < 4294967295
-    → length H + open_count (seen H) + takes e.kind ≤ more → length H + open_count (seen H) + takes e.kind ≤ max → IsWhole now calls left after more max
+    → length H + open_count (summary H) + takes e.kind ≤ more → length H + open_count (summary H) + takes e.kind ≤ max → IsWhole now calls left after more max
 event-whole stays room_after types ms now calls rows left H after e room more max whole may moves appended short reserved limited =
     let same : types_of now ≡ types_of ms = types (keeping ms rows) (keeping now left) H e moves in
     let as_many : length now ≡ length ms = sym (length-map now (λ m. m.checked)) ∙ ap length same ∙ length-map ms (λ m. m.checked) in

@@ -6,7 +6,7 @@ use Rattle.object_trait.specs.Meaning.{Meaning}
 use Rattle.object_trait.specs.Steps.{IsFresh, open_transactions}
 use Rattle.object_trait.specs.declared.event.Event.{Event}
 use Rattle.object_trait.specs.declared.event.EventKind.TheVariants.{Abort}
-use Rattle.serial_order.specs.History.{Seen, seen, is_open}
+use Rattle.serial_order.specs.History.{Summary, summary, is_open}
 use Rattle.serial_order.specs.Operations.{is_among}
 use Rattle.serial_order.specs.After.{beginners}
 use Rattle.serial_order.specs.declared.command.Command.{Command}
@@ -57,15 +57,15 @@ closing_abort H t = record { worker = slice_index_or (beginners H) t 0; kind = A
 
 -- the abort of each open transaction, in ascending order of their numbers
 abbrev pub closing : List Event → List Event
-closing H = map (closing_abort H) (filter (is_open (seen H)) (range_with_len 0 (seen H).begun))
+closing H = map (closing_abort H) (filter (is_open (summary H)) (range_with_len 0 (summary H).begun))
 
 -- t is open, and none of those
-abbrev pub is_other : List ℕ → Seen → ℕ → Bool
+abbrev pub is_other : List ℕ → Summary → ℕ → Bool
 is_other those s t = not (is_among those t) && is_open s t
 
 -- the abort of each open transaction but those, in the same order
 abbrev pub closing_but : List ℕ → List Event → List Event
-closing_but those H = map (closing_abort H) (filter (is_other those (seen H)) (range_with_len 0 (seen H).begun))
+closing_but those H = map (closing_abort H) (filter (is_other those (summary H)) (range_with_len 0 (summary H).begun))
 
 -- an object that a store hands out at its end: it represents the history, and no transaction is open there
 pub record IsHandedOut (m : Meaning) (x : ℕ) (H : List Event) : Type 0 where

@@ -1,7 +1,7 @@
 -- A store follows events that it made before.
 use Rattle.std.specs.Prelude.{◌≡◌, ℕ, List, [], ◌∷◌, ◌++◌, Bool, true, false, Some, None, slice_get, Result, Ok, Err}
 use Rattle.object_trait.specs.declared.event.Event.{Event}
-use Rattle.serial_order.specs.History.{seen}
+use Rattle.serial_order.specs.History.{summary}
 use Rattle.object_trait.specs.declared.event.EventKind.{EventKind}
 use Rattle.serial_order.specs.Replay.{call_at, event_of}
 use Rattle.serial_order.specs.declared.command.Command.TheVariants.{Call}
@@ -16,12 +16,12 @@ use Rattle.store.specs.declared.stray.Stray.TheVariants.{NotMade, NoMemory}
 pub record IsMade (s : Stored) (e : Event) : Type 0 where
   pub command : Command
   pub accepted : refusal_of s command ≡ None
-  pub makes : event_of (objects s) (seen s.history) command ≡ Some e.kind
+  pub makes : event_of (objects s) (summary s.history) command ≡ Some e.kind
 
 -- whatever command makes the event is t's call c at x
 abbrev pub IsOfCallAlone : Stored → EventKind → ℕ → ℕ → ℕ → Type 0
 IsOfCallAlone s happened t x c =
-    (d : Command) → event_of (objects s) (seen s.history) d ≡ Some happened
+    (d : Command) → event_of (objects s) (summary s.history) d ≡ Some happened
     → (name : List ℕ) × (d ≡ Call t x name) × (call_at (slice_get (objects s) x) name ≡ Some c)
 
 -- with the event
@@ -36,10 +36,10 @@ abbrev pub told : {T : Type 0} → Result T Refusal → Result (Unit {0}) Stray
 told (Ok x) = Ok tt
 told (Err r) = Err (stray_of r)
 
-abbrev pub answered : Result Bool Refusal → Result (Unit {0}) Stray
-answered (Ok true) = Ok tt
-answered (Ok false) = Err NotMade
-answered (Err r) = Err (stray_of r)
+abbrev pub made_or_stray : Result Bool Refusal → Result (Unit {0}) Stray
+made_or_stray (Ok true) = Ok tt
+made_or_stray (Ok false) = Err NotMade
+made_or_stray (Err r) = Err (stray_of r)
 
 -- what becomes of an event that is to be made again
 abbrev pub Follows : Stored → Event → Result (Unit {0}) Stray → Stored → Type 0

@@ -3,7 +3,7 @@ use Rattle.std.specs.Prelude.{◌≡◌, ℕ, ◌<◌, List, [], length, true, f
 use Rattle.table_checker.specs.At.{checked_at, IsInside}
 use Rattle.object_trait.specs.Meaning.{Meaning, state_of}
 use Rattle.object_trait.specs.Steps.{IsFresh}
-use Rattle.serial_order.specs.History.{seen, is_open}
+use Rattle.serial_order.specs.History.{summary, is_open}
 use Rattle.serial_order.specs.Epochs.{IsEpoch, types_at}
 use Rattle.store_laws.specs.Stored.{Stored}
 use Rattle.store.specs.KeptState.{IsKeptState}
@@ -40,5 +40,5 @@ pub record Renews (old new : Stored) : Type 0 where
 
 -- why none begins: a transaction is open, or none is and memory was refused
 abbrev pub RefusesRenew : Stored → RenewRefusal → Type 0
-RefusesRenew s StillOpen = (t : ℕ) × (is_open (seen s.history) t ≡ true)
-RefusesRenew s NoMemory = (t : ℕ) → is_open (seen s.history) t ≡ false
+RefusesRenew s StillOpen = (t : ℕ) × (is_open (summary s.history) t ≡ true)
+RefusesRenew s NoMemory = (t : ℕ) → is_open (summary s.history) t ≡ false

@@ -2,7 +2,7 @@
 
 ghost use Rattle.std.specs.Prelude.{◌≡◌, true, Some, slice_get};
 ghost use Rattle.object_trait.specs.Object.{Object};
-ghost use Rattle.serial_order.specs.History.{seen, is_open};
+ghost use Rattle.serial_order.specs.History.{summary, is_open};
 ghost use Rattle.serial_order.specs.Laws.{FirstOpIsLeast, AnswerMayFollow, MachineMayApply};
 ghost use Rattle.serial_order.specs.After.{LogsAreCounted};
 ghost use Rattle.serial_order.specs.Replay.{call_event};
@@ -28,7 +28,7 @@ impl<R: Recovery> Store<R> {
     /// Answers t's call at object x, which has it.
     #[inline(always)]
     pub(crate) fn answer(&mut self, w: u8, t: u32, x: u8, call: Call) -> Result<Answer, Refusal>
-        requires still_open { is_open (seen self.old.history) t ≡ true }
+        requires still_open { is_open (summary self.old.history) t ≡ true }
         requires call { (o : Object) × (slice_get (objects self.old) x ≡ Some o) × IsCall o.table call }
         ensures { Comes self.old w t x call.first result self.new }
     {
@@ -46,9 +46,9 @@ impl<R: Recovery> Store<R> {
         call: Call,
         answer: Answer,
     ) -> Result<Answer, Refusal>
-        requires still_open { is_open (seen self.old.history) t ≡ true }
+        requires still_open { is_open (summary self.old.history) t ≡ true }
         requires call { (o : Object) × (slice_get (objects self.old) x ≡ Some o) × IsCall o.table call }
-        requires chosen { call_event (slice_get (objects self.old) x) (seen self.old.history) x t (Some call.first) ≡ Some (as_event t x call.first answer) }
+        requires chosen { call_event (slice_get (objects self.old) x) (summary self.old.history) x t (Some call.first) ≡ Some (as_event t x call.first answer) }
         ensures { Comes self.old w t x call.first result self.new }
     {
         rows_say_who_is_open();

@@ -3,7 +3,7 @@
 ghost use Rattle.std.specs.Prelude.{◌≡◌, ℕ, ◌<◌, List, true, Some, Err, IfOk, IfErr, OnOk, slice_get};
 ghost use Rattle.object_calls.specs.Calls.{IsCallTable};
 ghost use Rattle.object_trait.specs.Object.{Object};
-ghost use Rattle.serial_order.specs.History.{seen, is_open};
+ghost use Rattle.serial_order.specs.History.{summary, is_open};
 ghost use Rattle.serial_order.specs.Replay.{call_at};
 ghost use Rattle.serial_order.specs.declared.command.Command.TheVariants as command;
 ghost use Rattle.store_laws.specs.Stored.{objects, refusal_of, MayStep};
@@ -88,7 +88,7 @@ impl<R: Recovery> Store<R> {
     ///
     /// `NotOpen` or `NoObject`.
     pub(crate) fn calls_for(&self, t: u32, x: u32) -> Result<&CallTable, Refusal>
-        ensures still_open { OnOk result (is_open (seen self.now.history) t ≡ true) }
+        ensures still_open { OnOk result (is_open (summary self.now.history) t ≡ true) }
         ensures few { OnOk result (x < 256) }
         ensures calls { IfOk result (λ calls. (o : Object) × (slice_get (objects self.now) x ≡ Some o) × IsCallTable o.table calls.now) }
         ensures refused { IfErr result (λ r. (name : List ℕ) → refusal_of self.now (command.Call t x name) ≡ Some r) }

@@ -2,7 +2,7 @@
 
 ghost use Rattle.std.specs.Prelude.{◌≡◌, ℕ, [], ◌∷◌, ◌++◌, true, false, ◌&&◌, map, drop, Some, slice_get};
 ghost use Rattle.object_trait.specs.Meaning.{Meaning};
-ghost use Rattle.serial_order.specs.History.{seen, is_open};
+ghost use Rattle.serial_order.specs.History.{summary, is_open};
 ghost use Rattle.serial_order.specs.Operations.{is_among};
 ghost use Rattle.serial_order.specs.Machine.{IsRun};
 ghost use Rattle.store_laws.specs.Stored.{objects, types_of};
@@ -11,7 +11,7 @@ ghost use Rattle.store.specs.Ends.{closing, closing_abort, closing_but, is_other
 use crate::store::Store;
 use object_trait::{Event, Recovery};
 use serial_order::{
-    beginners_after, idle_is_closed, opens_after, run_goes_on, seen_after, transactions_in_run,
+    beginners_after, idle_is_closed, opens_after, run_goes_on, summary_after, transactions_in_run,
 };
 use store_laws::rows_say_who_is_open;
 
@@ -42,7 +42,7 @@ impl<R: Recovery> Store<R> {
     /// takes no memory.
     pub fn abort_all(&mut self)
         ensures aborts { self.new ≡ record self.old { history = self.old.history ++ closing self.old.history } }
-        ensures none { (t : ℕ) → is_open (seen self.new.history) t ≡ false }
+        ensures none { (t : ℕ) → is_open (summary self.new.history) t ≡ false }
     {
         self.abort_all_but(&[]);
     }
@@ -51,11 +51,11 @@ impl<R: Recovery> Store<R> {
     /// it. It takes no memory.
     pub fn abort_all_but(&mut self, those: &[u32])
         ensures aborts { self.new ≡ record self.old { history = self.old.history ++ closing_but those.now self.old.history } }
-        ensures left { (t : ℕ) → is_open (seen self.new.history) t ≡ (is_among those.now t && is_open (seen self.old.history) t) }
+        ensures left { (t : ℕ) → is_open (summary self.new.history) t ≡ (is_among those.now t && is_open (summary self.old.history) t) }
     {
         rows_say_who_is_open();
         run_goes_on();
-        seen_after();
+        summary_after();
         transactions_in_run();
         opens_after();
         beginners_after();
@@ -66,8 +66,8 @@ impl<R: Recovery> Store<R> {
 
     /// Aborts t where it is open and none of those.
     fn abort_other(&mut self, those: &[u32], t: u32)
-        ensures aborts { is_other those.now (seen self.old.history) t ≡ true → self.new ≡ record self.old { history = self.old.history ++ closing_abort self.old.history t ∷ [] } }
-        ensures stays { is_other those.now (seen self.old.history) t ≡ false → self.new ≡ self.old }
+        ensures aborts { is_other those.now (summary self.old.history) t ≡ true → self.new ≡ record self.old { history = self.old.history ++ closing_abort self.old.history t ∷ [] } }
+        ensures stays { is_other those.now (summary self.old.history) t ≡ false → self.new ≡ self.old }
     {
         if !is_among(those, t) {
             self.abort_open(t);
@@ -76,8 +76,8 @@ impl<R: Recovery> Store<R> {
 
     /// Aborts t where it is open, as the worker that began it.
     fn abort_open(&mut self, t: u32)
-        ensures aborts { is_open (seen self.old.history) t ≡ true → self.new ≡ record self.old { history = self.old.history ++ closing_abort self.old.history t ∷ [] } }
-        ensures stays { is_open (seen self.old.history) t ≡ false → self.new ≡ self.old }
+        ensures aborts { is_open (summary self.old.history) t ≡ true → self.new ≡ record self.old { history = self.old.history ++ closing_abort self.old.history t ∷ [] } }
+        ensures stays { is_open (summary self.old.history) t ≡ false → self.new ≡ self.old }
     {
         rows_say_who_is_open();
         if self.transactions.is_open(t) {

@@ -3,7 +3,7 @@
 ghost use Rattle.std.specs.Prelude.{◌≡◌, ℕ, List, true, Some, Err, IfOk, OnErr, slice_get};
 ghost use Rattle.object_calls.specs.Calls.{IsCall};
 ghost use Rattle.object_trait.specs.Object.{Object};
-ghost use Rattle.serial_order.specs.History.{seen, is_open};
+ghost use Rattle.serial_order.specs.History.{summary, is_open};
 ghost use Rattle.serial_order.specs.Replay.{call_at};
 ghost use Rattle.store_laws.specs.Stored.{objects};
 ghost use Rattle.store.specs.Calls.{CallsIf, ComesIf, unnumbered};
@@ -42,7 +42,7 @@ impl<R: Recovery> Store<R> {
         call: Call,
         answer: Answer,
     ) -> Result<bool, Refusal>
-        requires still_open { is_open (seen self.old.history) t ≡ true }
+        requires still_open { is_open (summary self.old.history) t ≡ true }
         requires call { (o : Object) × (slice_get (objects self.old) x ≡ Some o) × IsCall o.table call }
         ensures { ComesIf self.old w t x call.first answer result self.new }
     {

@@ -3,7 +3,7 @@
 ghost use Rattle.std.specs.Prelude.{◌≡◌};
 ghost use Rattle.object_trait.specs.declared.event.EventKind.TheVariants as kind;
 ghost use Rattle.store_laws.specs.Words.{as_event};
-ghost use Rattle.store.specs.Follows.{Follows, IsOfCallAlone, answered, told, stray_of};
+ghost use Rattle.store.specs.Follows.{Follows, IsOfCallAlone, made_or_stray, told, stray_of};
 
 use crate::store::Store;
 use crate::stray::Stray;
@@ -51,12 +51,12 @@ fn follow_call<R: Recovery>(
     requires told { as_event t x c answer ≡ event.kind }
     ensures { Follows store.old event result store.new }
 {
-    answered(store.call_if(event.worker, t, x, c, answer))
+    made_or_stray(store.call_if(event.worker, t, x, c, answer))
 }
 
 /// What becomes of the event of a call.
-fn answered(made: Result<bool, Refusal>) -> Result<(), Stray>
-    ensures { result ≡ answered made }
+fn made_or_stray(made: Result<bool, Refusal>) -> Result<(), Stray>
+    ensures { result ≡ made_or_stray made }
 {
     match made {
         Ok(true) => Ok(()),

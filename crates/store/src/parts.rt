@@ -48,7 +48,7 @@ pub(crate) fn checked_calls<R: Recovery>(
     Ok(calls)
 }
 
-/// Whether a history may have so many events at the most.
+/// Whether this may be the most events of a history.
 fn is_limit(max_events: u32) -> bool
     ensures { result ≡ is_limit max_events }
 {

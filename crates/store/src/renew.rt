@@ -1,7 +1,7 @@
 //! A new epoch.
 
 ghost use Rattle.std.specs.Prelude.{◌≡◌, ◌++◌, ℕ, true, false, drop, IfOk, IfErr};
-ghost use Rattle.serial_order.specs.History.{seen, is_open};
+ghost use Rattle.serial_order.specs.History.{summary, is_open};
 ghost use Rattle.store.specs.Ends.{closing};
 ghost use Rattle.store.specs.Renews.{RefusesRenew, Renews};
 
@@ -10,8 +10,8 @@ use crate::renewed::renewed_objects;
 use crate::store::Store;
 use object_trait::{Event, Recovery, Renew};
 use serial_order::{
-    beginners_after, checked_headline, closed_is_epoch, opens_after, run_goes_on, seen_after,
-    states_are_inside, transactions_in_run,
+    beginners_after, checked_headline, closed_is_epoch, opens_after, run_goes_on,
+    states_are_inside, summary_after, transactions_in_run,
 };
 use std::alloc::{AllocError, Global};
 use store_laws::rows_say_who_is_open;
@@ -48,7 +48,7 @@ impl<R: Renew> Store<R> {
     ///
     /// Memory was refused.
     fn renewed(&self, alloc: Global) -> Result<Store<R>, AllocError>
-        requires { (t : ℕ) → is_open (seen self.now.history) t ≡ false }
+        requires { (t : ℕ) → is_open (summary self.now.history) t ≡ false }
         ensures { IfOk result (λ store. Renews self.now store) }
     {
         checked_headline();
@@ -66,13 +66,13 @@ impl<R: Renew> Store<R> {
 impl<R: Recovery> Store<R> {
     /// Whether a transaction is open.
     pub(crate) fn has_open(&self) -> bool
-        ensures some { result ≡ true → (t : ℕ) × (is_open (seen self.now.history) t ≡ true) }
-        ensures none { result ≡ false → (t : ℕ) → is_open (seen self.now.history) t ≡ false }
+        ensures some { result ≡ true → (t : ℕ) × (is_open (summary self.now.history) t ≡ true) }
+        ensures none { result ≡ false → (t : ℕ) → is_open (summary self.now.history) t ≡ false }
         ensures closed { result ≡ false → self.now.history ++ closing self.now.history ≡ self.now.history }
     {
         rows_say_who_is_open();
         run_goes_on();
-        seen_after();
+        summary_after();
         transactions_in_run();
         opens_after();
         beginners_after();

@@ -14,7 +14,7 @@ use store_laws::{
 };
 
 impl<R: Recovery> Store<R> {
-    /// Strikes the last n operations of transaction t that live, over all objects together, as worker w.
+    /// Strikes the last n surviving operations of transaction t, over all objects together, as worker w.
     /// The transaction stays open.
     ///
     /// # Errors

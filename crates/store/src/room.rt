@@ -4,7 +4,7 @@ ghost use Rattle.std.specs.Prelude.{◌≡◌, ◌+◌, length, nat_le};
 
 use object_trait::Event;
 
-/// Whether the limit leaves room for so many further events and the end of each open transaction.
+/// Whether the limit leaves room for this many further events and the end of each open transaction.
 pub(crate) fn has_room(
     forgotten: u32,
     history: &[Event],

@@ -1,7 +1,7 @@
 //! The store, and what is read of it.
 
 ghost use Rattle.std.specs.Prelude.{◌≡◌, ◌≤◌, [], map, length, drop, nat_lt, slice_get, is_some, Some, IfOk, IfErr, IfSome};
-ghost use Rattle.serial_order.specs.History.{begins, seen};
+ghost use Rattle.serial_order.specs.History.{begins, summary};
 ghost use Rattle.serial_order.specs.Laws.{AreChecked};
 ghost use Rattle.serial_order.specs.Machine.{IsRun};
 ghost use Rattle.serial_order.specs.Replay.{open_count};
@@ -29,7 +29,7 @@ use type_table::runs_along;
 /// Contracts see the objects' types, the history, the most events that it may have, and how many of them
 /// were forgotten. That a store is as it was, after a call that was refused, says that these are: they
 /// determine the state of an object in place, and that of a deferred one up to equieffectiveness, as
-/// `kept` tells it. A store can't be dropped: `close` is its one end.
+/// `kept` says it. A store can't be dropped: `close` is its one end.
 pub struct Store<R: Recovery> {
     pub(crate) objects: Vec<R>,
     // The calls of each object's type.
@@ -117,7 +117,7 @@ impl<R: Recovery> Store<R> {
 
     /// How many transactions are open.
     pub fn open_count(&self) -> u32
-        ensures { result ≡ open_count (seen self.now.history) }
+        ensures { result ≡ open_count (summary self.now.history) }
     {
         rows_are_counted();
         self.transactions.open_count()
@@ -133,7 +133,7 @@ impl<R: Recovery> Store<R> {
     /// The state of the object at x, None where there is none. It agrees with the serial state.
     ///
     /// With update in place the history determines it. In escrow it is the serial state. With deferred
-    /// update it is equieffective to that: of a type whose states 3 and 4 nothing tells apart, 4 may be
+    /// update it is equieffective to that: of a type whose states 3 and 4 no operation distinguishes, 4 may be
     /// kept where the serial state is 3.
     pub fn kept(&self, x: u32) -> Option<u32>
         ensures there { is_some result ≡ nat_lt x (length (objects self.now)) }

@@ -28,7 +28,7 @@ pub fn the_open_are_aborted_in_order()
     ensures { closing two_left_open ≡ by 4 (EventKind.Abort 0) ∷ by 4 (EventKind.Abort 2) ∷ [] }
 {}
 
-/// A history may have 2 events at the least, and 4,294,967,295 at the most.
+/// A history may have at least 2 events, and at most 4,294,967,295.
 pub fn limits_have_a_range()
     ensures too_low { is_limit 1 ≡ false }
     ensures least { is_limit 2 ≡ true }
@@ -54,12 +54,12 @@ pub fn an_open_object_is_not_handed_out()
     ensures { IsHandedOut (counter_at Kind.Intentions 0 (held 0 0 ∷ [])) 1 (take 2 one_up) → ⊥ }
 {}
 
-/// With update in place the kept state is that after all that lives, and no other.
+/// With update in place the kept state is that after all that survives, and no other.
 pub fn a_state_may_not_be_the_kept_one()
     ensures { IsKeptState (stored one_back) 0 0 → ⊥ }
 {}
 
-/// Each answer is told by its event.
+/// Each event says its answer.
 pub fn an_answer_is_told_by_its_event()
     ensures reply { Answers (stored two_left_open) 9 0 1 0 (Ok (Answer.Reply 0)) (stored (two_left_open ++ by 9 (EventKind.Op 0 1 0) ∷ [])) }
     ensures busy { Answers (stored two_left_open) 9 2 1 0 (Ok (Answer.Busy 0)) (stored (two_left_open ++ by 9 (EventKind.Busy 0 2 1 0) ∷ [])) }
@@ -81,7 +81,7 @@ pub fn an_event_is_made_or_not()
     ensures another { IsMade (stored (take 1 one_up)) (by 7 (EventKind.Op 0 1 1)) → ⊥ }
 {}
 
-/// A store that follows an event has it behind the others, or is as it was.
+/// A store that follows an event has it after the others, or is as it was.
 pub fn a_store_follows_or_stays()
     ensures follows { Follows (stored (take 1 one_up)) (by 7 (EventKind.Op 0 1 0)) (Ok tt) (stored (take 2 one_up)) }
     ensures stays { Follows (stored one_up) (by 7 (EventKind.Commit 0)) (Err Stray.NotMade) (stored one_up) }
@@ -91,7 +91,7 @@ pub fn a_store_follows_or_stays()
     an_event_is_made_or_not();
 }
 
-/// What a call would be answered: the reply of the operation that is legal, who is in the way, or nothing.
+/// What a call would be answered: the reply of the operation that is legal, who blocks it, or nothing.
 #[tactic(auto, unfolding(type_table::specs::Table::next))]
 pub fn a_call_would_be_answered()
     ensures reply { Would (stored (take 1 one_up)) 0 1 (codes "inc:1") (Ok (Answer.Reply 0)) }
@@ -120,7 +120,7 @@ pub fn an_epoch_begins_at_what_was_kept()
 {}
 
 /// A store has one end, after which it isn't there: with it, how many events there were. A store that
-/// is let go in another way, or used behind it, is refused.
+/// is let go in another way, or used after it, is refused.
 pub fn a_store_is_closed<R: Recovery>(store: Store<R>) -> usize
     ensures { result ≡ length (drop store.forgotten (store.history ++ closing store.history)) }
 {

@@ -3,7 +3,7 @@
 ghost use Rattle.std.specs.Prelude.{◌≡◌, ℕ, List, true, Some, Err, slice_get};
 ghost use Rattle.object_calls.specs.Calls.{IsCall};
 ghost use Rattle.object_trait.specs.Object.{Object};
-ghost use Rattle.serial_order.specs.History.{seen, is_open};
+ghost use Rattle.serial_order.specs.History.{summary, is_open};
 ghost use Rattle.serial_order.specs.Replay.{call_at, call_event};
 ghost use Rattle.store_laws.specs.Stored.{objects};
 ghost use Rattle.store_laws.specs.Words.{as_event};
@@ -29,7 +29,7 @@ impl<R: Recovery> Store<R> {
         self.would_bytes(t, x, name.as_bytes())
     }
 
-    /// The same of a name that lies as bytes.
+    /// The same of a name that is given as bytes.
     ///
     /// # Errors
     ///
@@ -62,7 +62,7 @@ impl<R: Recovery> Store<R> {
 
     /// What t's call at object x, which has it, would be given.
     fn would_give(&self, t: u32, x: u8, call: Call) -> Result<Answer, Refusal>
-        requires still_open { is_open (seen self.now.history) t ≡ true }
+        requires still_open { is_open (summary self.now.history) t ≡ true }
         requires call { (o : Object) × (slice_get (objects self.now) x ≡ Some o) × IsCall o.table call }
         ensures { WouldCome self.now t x call.first result }
     {
@@ -77,9 +77,9 @@ impl<R: Recovery> Store<R> {
     /// The answer that t's call at object x has, which is there.
     #[inline(always)]
     pub(crate) fn chosen(&self, t: u32, x: u8, call: Call) -> Answer
-        requires still_open { is_open (seen self.now.history) t ≡ true }
+        requires still_open { is_open (summary self.now.history) t ≡ true }
         requires call { (o : Object) × (slice_get (objects self.now) x ≡ Some o) × IsCall o.table call }
-        ensures { call_event (slice_get (objects self.now) x) (seen self.now.history) x t (Some call.first) ≡ Some (as_event t x call.first result) }
+        ensures { call_event (slice_get (objects self.now) x) (summary self.now.history) x t (Some call.first) ≡ Some (as_event t x call.first result) }
     {
         answers_as_defined();
         choose(&self.objects[x as usize], t, call)

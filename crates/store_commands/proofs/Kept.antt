@@ -1,4 +1,4 @@
--- What a source tells stays while files are read, and so does what was read.
+-- What a source says stays while files are read, and so does what was read.
 use Rattle.std.proofs.Common.{◌≡◌, ℕ, List, Option, IfSome, subst}
 use Rattle.table_checker.specs.Checked.{Checked}
 use Rattle.table_checker.specs.declared.refusal.CheckRefusal.{CheckRefusal}

@@ -20,10 +20,8 @@ use Rattle.serial_order.specs.History.{commits, committed_by}
 use Rattle.serial_order.specs.Operations.{ops}
 use Rattle.serial_order.specs.Serial.{serial_at}
 use Rattle.store_laws.specs.Stored.{Stored, objects}
-use Rattle.store_text.specs.declared.line.ObjectLine.{ObjectLine}
 use Rattle.history_audit.specs.Audit.{Audits, IsAudit}
 use Rattle.history_audit.specs.declared.outcome.Audit.{Audit}
-use Rattle.object_types.specs.Types.{AreTypesOf}
 use Rattle.work_text.specs.Reading.{IsShortYes}
 use Rattle.store_commands.specs.Passing.{HasSerialRun, tables}
 
@@ -36,15 +34,7 @@ mapped f P xs each i y at = let found = found-map f xs i y at in subst P found.2
 
 -- ---- types
 
--- each type of an object was checked
-pub types_checked : (files : List TypeFile) (lines : List ObjectLine) (types : List Checked) → AreTypesOf files lines types → (x : ℕ) (c : Checked)
-    → slice_get types x ≡ Some c → IsChecked c
-types_checked files lines types are x c there =
-    let low : x < length lines = omega (arith, slice_get_within types x c there, are.as_many) in
-    let found = element_at lines x low in
-    (are.each x found.0 c found.1 there).checked.1
-
--- and has a table
+-- what was checked has a table
 has-table : (kind : Kind) (file : TypeFile) → IsCheckedBy kind file → IsTable file.table
 has-table Undo file is = is.table
 has-table Intentions file is = is.table

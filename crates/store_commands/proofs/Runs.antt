@@ -33,10 +33,10 @@ pub record HasText (old : Stored) (script : Script) (before after : Option (List
 text_of_run : (old : Stored) (script : Script) (before after : Option (List ℕ)) (fault : Option OutFault) (left : Stored) (done : Unit {0})
     → RunsScript old script before after fault left (Ok done) → HasText old script before after left
 text_of_run old script before after fault left done ran = record {
-  text = text_of (script_turns (objects old) old.max ran.wanting ran.kept old.history script.objects.items script.commands);
+  text = text_of (script_turns (objects old) old.max ran.memory_refused ran.kept old.history script.objects.items script.commands);
   ran = record {
-    wanting = ran.wanting;
-    may_want = ran.may_want;
+    memory_refused = ran.memory_refused;
+    may_refuse_memory = ran.may_refuse_memory;
     kept = ran.kept;
     are_kept = ran.are_kept;
     all_kept = ran.all_kept;
@@ -89,7 +89,7 @@ module _ (script : Script) (types : List Checked) (old : Stored) (before after :
   here = subst (λ (s : Stored). RunsScript s script before after fault left (Err e)) fresh ran
 
   taken : List ℕ
-  taken = text_of (take here.writes.written.place (script_turns (objects (new_store types script.max)) script.max here.wanting here.kept [] script.objects.items script.commands))
+  taken = text_of (take here.writes.written.place (script_turns (objects (new_store types script.max)) script.max here.memory_refused here.kept [] script.objects.items script.commands))
       ++ take here.writes.written.taken (line_of here.writes.written.turn)
 
   stops : StopsRun script types taken
@@ -98,8 +98,8 @@ module _ (script : Script) (types : List Checked) (old : Stored) (before after :
     left = left;
     fault = e;
     ran = record {
-      wanting = here.wanting;
-      may_want = here.may_want;
+      memory_refused = here.memory_refused;
+      may_refuse_memory = here.may_refuse_memory;
       kept = here.kept;
       are_kept = here.are_kept;
       all_kept = here.all_kept;

@@ -71,14 +71,14 @@ module _ (script : Script) (types : List Checked) (text : List ℕ) (fit : IsFit
   run_read script_read by_one in_range numbers within canonical =
       let left = its.left in
       let lines = script.objects.items in
-      let turns = script_turns (objects start) start.max its.ran.wanting its.ran.kept [] lines script.commands in
+      let turns = script_turns (objects start) start.max its.ran.memory_refused its.ran.kept [] lines script.commands in
       let H = history_after [] turns in
       let store_is : left ≡ record start { history = H } = its.ran.writes.written.store in
       let history_is : left.history ≡ H = ap (λ (s : Stored). s.history) store_is in
       let types_are : left.types ≡ types = ap (λ (s : Stored). s.types) store_is in
       let limit : left.max ≤ 1000000 = subst (λ n. n ≤ 1000000) (sym (ap (λ (s : Stored). s.max) store_is)) fit.high in
       let mine : AllByRecursion (λ (e : Event). e.worker ≤ 255) left.history =
-      subst (λ (es : List Event). AllByRecursion (λ (e : Event). e.worker ≤ 255) es) (sym history_is) (workers_low H (by_one (objects start) start.max its.ran.wanting its.ran.kept lines script.commands))
+      subst (λ (es : List Event). AllByRecursion (λ (e : Event). e.worker ≤ 255) es) (sym history_is) (workers_low H (by_one (objects start) start.max its.ran.memory_refused its.ran.kept lines script.commands))
       in
       let each : (x : ℕ) (c : Checked) → slice_get left.types x ≡ Some c → IsChecked c =
       subst (λ (ts : List Checked). (x : ℕ) (c : Checked) → slice_get ts x ≡ Some c → IsChecked c) (sym types_are) checked
@@ -100,7 +100,7 @@ module _ (script : Script) (types : List Checked) (text : List ℕ) (fit : IsFit
       in
       let comments = audit_comments (Ok its.audit) (audit_short within numbers left each its.history limit few its.audit its.audited) in
       let ranges_here = subst (AreInRange lines) history_is ranges in
-      let read = script_read (objects start) start.max its.ran.wanting its.ran.kept lines script.commands comments.lines ranges_here
+      let read = script_read (objects start) start.max its.ran.memory_refused its.ran.kept lines script.commands comments.lines ranges_here
       (omega (arith, its.ran.all_kept, few)) (kept_short left its.ran.kept its.ran.are_kept) comments.are
       in
       let whole : text ≡ text_of turns ++ lines_text comments.lines =

@@ -35,7 +35,7 @@ all_say_yes first later files tables given objects Hs outcome objects_are histor
 
 -- ---- what was read
 
--- what a source tells stays while the files are read
+-- what a source says stays while the files are read
 pub all_read : (holds behind_first behind_later : Held) → ((other : List ℕ) → behind_first other ≡ holds other) → ((other : List ℕ) → behind_later other ≡ behind_first other)
     → (path : List ℕ) (others words : List (List ℕ)) (first : HistoryFile) (later : List HistoryFile) (files : List TypeFile) → IfSome (holds path) (λ text. DescribesHistory text first)
     → AreHistoriesAt behind_first others later → AreFilesAt behind_later words files → AreAuditFiles holds path others words first later files

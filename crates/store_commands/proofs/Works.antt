@@ -10,7 +10,7 @@ use Rattle.store_text.specs.declared.line.ObjectLine.{ObjectLine}
 use Rattle.history_audit.specs.declared.outcome.Audit.{Audit}
 use Rattle.history_audit.specs.declared.outcome.AuditFault.{AuditFault}
 use Rattle.worker_turns.specs.declared.outcome.Report.{Report}
-use Rattle.workers.specs.Standing.{Opening}
+use Rattle.workers.specs.SharedState.{Start}
 use Rattle.workers.specs.Worked.{Works}
 use Rattle.workers.specs.declared.fault.WorkFault.{WorkFault}
 use Rattle.work_text.specs.Text.{PutsWork, work_text}
@@ -23,14 +23,14 @@ use Rattle.command_files.specs.declared.fault.Fault.{Fault}
 use Rattle.command_files.specs.declared.fault.Fault.TheVariants.{Usage, Text, NoType, OtherObjects, HasEvents, BadParameter, TooLarge, CannotRead, Database, NoStore, NoMemory, Output}
 use Rattle.command_files.specs.declared.status.Verdict.{Verdict}
 use Rattle.command_files.specs.declared.status.Verdict.TheVariants.{Yes, No}
-use Rattle.store_commands.specs.Works.{AreJobsAt, BeginsWork, BeginsWorkFile, IsTextOf, IsWholeTextOf, IsWholeWork, TellsWork, WorksFile, WorksOf, WritesWorkFile, opening_of}
+use Rattle.store_commands.specs.Works.{AreJobsAt, BeginsWork, BeginsWorkFile, IsTextOf, IsWholeTextOf, IsWholeWork, TellsWork, WorksFile, WorksOf, WritesWorkFile, start_of_work}
 
-module _ (file : JobsFile) (types : List Checked) (tries : ℕ) (o : Opening) (left : Stored) (reports : List Report) (lines : List ObjectLine) (fault : Option WorkFault)
-    (opens : o ≡ opening_of file types tries) (lines_are : lines ≡ file.objects.items) (works : Works o fault left reports) where
-  here : Works (opening_of file types tries) fault left reports
-  here = subst (λ (p : Opening). Works p fault left reports) opens works
+module _ (file : JobsFile) (types : List Checked) (tries : ℕ) (o : Start) (left : Stored) (reports : List Report) (lines : List ObjectLine) (fault : Option WorkFault)
+    (opens : o ≡ start_of_work file types tries) (lines_are : lines ≡ file.objects.items) (works : Works o fault left reports) where
+  here : Works (start_of_work file types tries) fault left reports
+  here = subst (λ (p : Start). Works p fault left reports) opens works
 
-  -- what is told of workers is what comes of their jobs
+  -- what is written of workers is what comes of their jobs
   pub told : (result : Result Verdict Fault) (old new : Option (List ℕ)) → TellsWork left lines reports fault result old new
       → ComesOr (IsWholeWork file types tries) (BeginsWork file types tries) (WorksOf file types tries) ⊥ result old new
   told (Ok Yes) old new t =
@@ -39,7 +39,7 @@ module _ (file : JobsFile) (types : List Checked) (tries : ℕ) (o : Opening) (l
         record {
           left = left;
           reports = reports;
-          worked = subst (λ (f : Option WorkFault). Works (opening_of file types tries) f left reports) t.0 here;
+          worked = subst (λ (f : Option WorkFault). Works (start_of_work file types tries) f left reports) t.0 here;
           audit = t.1;
           audited = passed.0;
           history = passed.1;
@@ -90,7 +90,7 @@ module _ (file : JobsFile) (types : List Checked) (tries : ℕ) (o : Opening) (l
 
 -- the work begins at a new store of these types
 pub begins : (file : JobsFile) (tries : ℕ) (store : Stored) (types given : List Checked) → store ≡ record { types = given; history = []; max = file.max; forgotten = 0 } → given ≡ types
-    → record { store = store; jobs = map calls_in file.jobs.items; tries = tries } ≡ opening_of file types tries
+    → record { store = store; jobs = map calls_in file.jobs.items; tries = tries } ≡ start_of_work file types tries
 begins file tries store types given made are =
     ap (λ (s : Stored). record { store = s; jobs = map calls_in file.jobs.items; tries = tries }) (made ∙ ap (λ (l : List Checked). record { types = l; history = []; max = file.max; forgotten = 0 }) are)
 

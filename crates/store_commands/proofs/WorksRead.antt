@@ -28,7 +28,7 @@ use Rattle.worker_turns.specs.declared.outcome.Report.{Report}
 use Rattle.workers.specs.Worked.{HasWorked}
 use Rattle.work_text.specs.Reading.{IsShort, IsShortOutcome, IsShortReport, WorkIsRead}
 use Rattle.store_commands.specs.Reading.{IsReadAs}
-use Rattle.store_commands.specs.Works.{IsWorkOf, opening_of}
+use Rattle.store_commands.specs.Works.{IsWorkOf, start_of_work}
 use Rattle.store_commands.proofs.Reading.{audit_short, commits_short, ops_few}
 use Rattle.store_commands.proofs.RunsRead.{kept_short, read_as}
 
@@ -41,8 +41,8 @@ outcome_short NotRun short = tt
 
 module _ (file : JobsFile) (types : List Checked) (tries : ℕ) (text : List ℕ) (fit : IsFit file) (checked : (x : ℕ) (c : Checked) → slice_get types x ≡ Some c → IsChecked c)
     (as_many : length types ≡ length file.objects.items) (its : IsWorkOf file types tries text) where
-  worked : HasWorked (opening_of file types tries) (length file.jobs.items) its.left its.reports
-  worked = subst (λ n. HasWorked (opening_of file types tries) n its.left its.reports) (length-map file.jobs.items calls_in) its.worked.2
+  worked : HasWorked (start_of_work file types tries) (length file.jobs.items) its.left its.reports
+  worked = subst (λ n. HasWorked (start_of_work file types tries) n its.left its.reports) (length-map file.jobs.items calls_in) its.worked.2
 
   jobs_few : length file.jobs.items ≤ 16
   jobs_few =

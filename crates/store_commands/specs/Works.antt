@@ -12,7 +12,7 @@ use Rattle.history_audit.specs.declared.outcome.AuditFault.{AuditFault}
 use Rattle.script_run.specs.Running.{AreKept}
 use Rattle.work_text.specs.Text.{work_text}
 use Rattle.worker_turns.specs.declared.outcome.Report.{Report}
-use Rattle.workers.specs.Standing.{Opening}
+use Rattle.workers.specs.SharedState.{Start}
 use Rattle.workers.specs.Worked.{Works}
 use Rattle.workers.specs.declared.fault.WorkFault.{WorkFault}
 use Rattle.command_files.specs.Answers.{Answers}
@@ -25,9 +25,9 @@ use Rattle.store_files.specs.ObjectTypes.{AreTypesAt, HasFault, SaysRefused}
 use Rattle.store_files.specs.Types.{Held}
 use Rattle.store_commands.specs.Passing.{HasSerialRun, IsPassed, new_store, tables}
 
--- the work that begins at a new store of these types: these jobs, each tried so often
-abbrev pub opening_of : JobsFile → List Checked → ℕ → Opening
-opening_of file types tries = record { store = new_store types file.max; jobs = map calls_in file.jobs.items; tries = tries }
+-- the work that begins at a new store of these types: these jobs, each tried this often
+abbrev pub start_of_work : JobsFile → List Checked → ℕ → Start
+start_of_work file types tries = record { store = new_store types file.max; jobs = map calls_in file.jobs.items; tries = tries }
 
 -- the text is that of what workers did at a store, with an audit and their reports, and with kept states of its first objects
 pub record IsTextOf (lines : List ObjectLine) (left : Stored) (outcome : Result Audit AuditFault) (reports : List Report) (text : List ℕ) : Type 0 where
@@ -46,7 +46,7 @@ pub record IsWholeTextOf (lines : List ObjectLine) (left : Stored) (outcome : Re
 pub record IsWorkOf (file : JobsFile) (types : List Checked) (tries : ℕ) (text : List ℕ) : Type 0 where
   pub left : Stored
   pub reports : List Report
-  pub worked : Works (opening_of file types tries) None left reports
+  pub worked : Works (start_of_work file types tries) None left reports
   pub audit : Audit
   pub audited : Audits (tables left) left.history (Ok audit)
   pub history : HasSerialRun left
@@ -62,7 +62,7 @@ pub record IsWholeWork (file : JobsFile) (types : List Checked) (tries : ℕ) (t
   pub left : Stored
   pub reports : List Report
   pub fault : Option WorkFault
-  pub worked : Works (opening_of file types tries) fault left reports
+  pub worked : Works (start_of_work file types tries) fault left reports
   pub some : did_nothing fault reports ≡ false
   pub outcome : Result Audit AuditFault
   pub passed : IsPassed left outcome
@@ -73,13 +73,13 @@ pub record BeginsWork (file : JobsFile) (types : List Checked) (tries : ℕ) (te
   pub left : Stored
   pub reports : List Report
   pub fault : Option WorkFault
-  pub worked : Works (opening_of file types tries) fault left reports
+  pub worked : Works (start_of_work file types tries) fault left reports
   pub some : did_nothing fault reports ≡ false
   pub outcome : Result Audit AuditFault
   pub passed : IsPassed left outcome
   pub told : IsTextOf file.objects.items left outcome reports text
 
--- what is told of workers that came to such a fault, or to none: an answer is yes, where there is no fault and the audit is a yes; where
+-- what is written of workers that came to such a fault, or to none: an answer is yes, where there is no fault and the audit is a yes; where
 -- memory was refused nothing was written before the first turn, else the whole text; and where the output failed a beginning of a text
 abbrev pub TellsWork : Stored → List ObjectLine → List Report → Option WorkFault → Result Verdict Fault → Option (List ℕ) → Option (List ℕ) → Type 0
 TellsWork s lines reports fault (Ok Yes) old new =
@@ -97,7 +97,7 @@ abbrev pub WorksOf : JobsFile → List Checked → ℕ → Answers
 WorksOf file types tries Yes text = IsWorkOf file types tries text
 WorksOf file types tries No text = ⊥
 
--- the jobs of so many workers are those at their path
+-- the jobs of the workers are those at their path
 abbrev pub AreJobsAt : Held → ℕ → List ℕ → JobsFile → Type 0
 AreJobsAt holds workers path file = IfSome (holds path) (λ text. DescribesJobs workers text file) × AreJobsFor workers file
 

@@ -71,7 +71,7 @@ pub fn work_file<'a, H: AllocGlobal + Threads + Wait + Sync, S: Source, W: Out>(
     }
 }
 
-/// Does the jobs of a text at a new store of these types, and tells it.
+/// Does the jobs of a text at a new store of these types, and writes what comes of it.
 fn work_at<'a, H: AllocGlobal + Threads + Wait + Sync, W: Out>(
     rt: &H,
     work: Work,
@@ -114,7 +114,7 @@ fn do_jobs<R: Recovery + Send, H: AllocGlobal + Threads + Wait + Sync>(
     }
 }
 
-/// Tells what came back of workers at a store of these types, of whose history nothing is forgotten, and
+/// Writes what came back of workers at a store of these types, of whose history nothing is forgotten, and
 /// closes it.
 fn end_work<'a, R: Recovery, W: Out>(
     alloc: Global,
@@ -138,7 +138,7 @@ fn end_work<'a, R: Recovery, W: Out>(
     told
 }
 
-/// Tells what workers did at a store of these types: nothing where they came to a fault before their first
+/// Writes what workers did at a store of these types: nothing where they came to a fault before their first
 /// turn.
 ///
 /// # Errors

@@ -9,13 +9,13 @@ use Rattle.jobs_text.specs.Jobs.{IsJobsOf, IsFit}
 use Rattle.jobs_text.specs.declared.job_line.JobLine.{JobLine}
 use Rattle.jobs_text.specs.declared.jobs_file.JobsFile.{JobsFile}
 
--- the jobs of so many workers that a text describes
+-- the jobs of this many workers that a text describes
 pub record DescribesJobs (workers : ℕ) (text : List ℕ) (file : JobsFile) : Type 0 where
   pub lines : List (Line JobLine)
   pub accepted : outcome_of (store_rules (jobs workers)) text ≡ Ok lines
   pub described : IsJobsOf workers lines file
 
--- for so many workers the text has a fault
+-- for this many workers the text has a fault
 abbrev pub IsFaultyJobs : ℕ → List ℕ → Type 0
 IsFaultyJobs workers text = (f : TextFault) × (outcome_of (store_rules (jobs workers)) text ≡ Err f)
 

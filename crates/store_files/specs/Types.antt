@@ -7,11 +7,11 @@ use Rattle.command_files.specs.Files.{Describes, IsFaulty}
 
 -- ---- files
 
--- what is held at each path, where the source tells it
+-- what is held at each path, where the source says it
 abbrev pub Held : Type 0
 Held = List ℕ → Option (List ℕ)
 
--- each path has its value, which its text describes where the source tells it
+-- each path has its value, which its text describes where the source says it
 pub record AreReadAt {T : Type 0} (describes : List ℕ → T → Type 0) (holds : Held) (paths : List (List ℕ)) (values : List T) : Type 0 where
   pub as_many : length values ≡ length paths
   pub each : (k : ℕ) (path : List ℕ) (value : T) → slice_get paths k ≡ Some path → slice_get values k ≡ Some value

@@ -31,7 +31,7 @@ impl Format for ScriptFormat {
     }
 }
 
-/// The format of jobs for so many workers, 1 to 16.
+/// The format of jobs for this many workers, 1 to 16.
 #[derive(Clone, Copy, Debug, PartialEq, Eq)]
 pub struct JobsFormat {
     pub workers: u8,

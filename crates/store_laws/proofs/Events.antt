@@ -13,9 +13,9 @@ use Rattle.object_trait.specs.declared.event.Event.{Event}
 use Rattle.object_trait.specs.declared.event.EventKind.{EventKind}
 use Rattle.object_trait.specs.declared.event.EventKind.TheVariants as kind
 use Rattle.object_trait.specs.declared.event.EventKind.TheVariants.{Begin, Op, Busy, Commit, Abort, Rollback}
-use Rattle.serial_order.specs.History.{Seen, seen}
-use Rattle.serial_order.specs.Stand.{struck_at, Changes}
-use Rattle.serial_order.specs.After.{CountsTo, SeenAfter, TransactionsInRun, OpensAfter, LogsAreCounted}
+use Rattle.serial_order.specs.History.{Summary, summary}
+use Rattle.serial_order.specs.Represent.{struck_at, Changes}
+use Rattle.serial_order.specs.After.{CountsTo, SummaryAfter, TransactionsInRun, OpensAfter, LogsAreCounted}
 use Rattle.serial_order.specs.Replay.{open_count}
 use Rattle.object_calls.specs.Ends.{count_at, ChangesAt, IsEnd}
 use Rattle.object_calls.specs.declared.end.End.{End}
@@ -64,7 +64,7 @@ begin_moves = λ old new H w t kept meanings rows.
 module _ (old new : Keeping) (H : List Event) (kept : IsKept old H) (t y op : ℕ) where
   -- at the objects
   op-objects : (was : Meaning) → slice_get old.meanings y ≡ Some was → new.meanings ≡ set old.meanings y (applied was t op)
-      → (x : ℕ) (m n : Meaning) → slice_get old.meanings x ≡ Some m → slice_get new.meanings x ≡ Some n → Changes x (seen H) (Op t y op) m n
+      → (x : ℕ) (m n : Meaning) → slice_get old.meanings x ≡ Some m → slice_get new.meanings x ≡ Some n → Changes x (summary H) (Op t y op) m n
   op-objects was there becomes x m n before is =
       elim (cases-set old.meanings y (applied was t op) x n (ap (λ ms. slice_get ms x) (sym becomes) ∙ is)) [
         | inl here ↦
@@ -113,7 +113,7 @@ module _ (counted : LogsAreCounted) (k : Keeping) (H : List Event) (t : ℕ) (ro
       ]
 
 -- its event says the same of an object and of the rows
-end-changes : (how : End) (x : ℕ) (s : Seen) (t : ℕ) (m n : Meaning) → IsEnd how m t n → Changes x s (end_event how t) m n
+end-changes : (how : End) (x : ℕ) (s : Summary) (t : ℕ) (m n : Meaning) → IsEnd how m t n → Changes x s (end_event how t) m n
 end-changes end.Commit x s t m n is = is
 end-changes end.Abort x s t m n is = is
 
@@ -126,7 +126,7 @@ end_moves untouched counted = λ how old new H w t row kept there objects rows.
     record {
       as_many = objects.as_many;
       objects = λ x m n is_m is_n.
-          end-changes how x (seen H) t m n (end-objects counted old H t row kept there untouched how new.meanings objects x m n is_m is_n);
+          end-changes how x (summary H) t m n (end-objects counted old H t row kept there untouched how new.meanings objects x m n is_m is_n);
       rows = end-rows how w t old.rows new.rows (record { row = row; was = row-at old H t row kept there; becomes = rows });
     }
 
@@ -134,18 +134,18 @@ end_moves untouched counted = λ how old new H w t row kept there objects rows.
 
 module _ (k : Keeping) (H : List Event) (t n : ℕ) (row : Row) (kept : IsKept k H) (there : IsOpenRow k t row) where
   -- none of its last operations is at a place that is none of theirs
-  none-struck : (x : ℕ) → list_any (λ y. y == x) (last_places n row.places) ≡ false → struck_at x (seen H) t n ≡ 0
+  none-struck : (x : ℕ) → list_any (λ y. y == x) (last_places n row.places) ≡ false → struck_at x (summary H) t n ≡ 0
   none-struck x none = struck-count k H t row kept there x n ∙ count-none (λ y. y == x) (last_places n row.places) none
 
   -- as many entries are struck at each object as its event says
   rollback-objects : (new : List Meaning) → ChangesAt (last_places n row.places) (λ x m now. IsStrike m t (count_at x (last_places n row.places)) now) k.meanings new
-      → (x : ℕ) (m now : Meaning) → slice_get k.meanings x ≡ Some m → slice_get new x ≡ Some now → IsStrike m t (struck_at x (seen H) t n) now
+      → (x : ℕ) (m now : Meaning) → slice_get k.meanings x ≡ Some m → slice_get new x ≡ Some now → IsStrike m t (struck_at x (summary H) t n) now
   rollback-objects new changes x m now was is =
       elim (cases-at (last_places n row.places) (λ y a b. IsStrike a t (count_at y (last_places n row.places)) b) k.meanings new changes x m now was is) [
         | inl here ↦ subst (λ c. IsStrike m t c now) (sym (struck-count k H t row kept there x n)) here
         | inr apart ↦
-            subst (λ (b : Meaning). IsStrike m t (struck_at x (seen H) t n) b) (sym apart.1)
-            (strike-untouched m t (struck_at x (seen H) t n) (none-struck x apart.0))
+            subst (λ (b : Meaning). IsStrike m t (struck_at x (summary H) t n) b) (sym apart.1)
+            (strike-untouched m t (struck_at x (summary H) t n) (none-struck x apart.0))
       ]
 
 pub rollback_moves : RollbackMoves
@@ -160,9 +160,9 @@ rollback_moves = λ old new H w t n row kept there objects rows.
 
 pub types_stay : TypesStay
 types_stay = λ old new H e moves.
-    same-types old.meanings new.meanings moves.as_many (λ x m n was is. same-type x (seen H) e.kind m n (moves.objects x m n was is))
+    same-types old.meanings new.meanings moves.as_many (λ x m n was is. same-type x (summary H) e.kind m n (moves.objects x m n was is))
 
--- how much room an event takes, where so many are open before and after it
+-- how much room an event takes, where this many are open before and after it
 room : (happened : EventKind) (before now n : ℕ) → CountsTo happened before now → n + 1 + now ≡ n + before + takes happened
 room (Begin t) before now n counts = omega (arith, counts)
 room (Op t x k) before now n counts = omega (arith, counts)
@@ -172,8 +172,8 @@ room (Commit t) before now n counts = omega (arith, counts)
 room (Abort t) before now n counts = omega (arith, counts)
 room (Rollback t m) before now n counts = omega (arith, counts)
 
-pub room_after : SeenAfter → TransactionsInRun → OpensAfter → RoomAfter
+pub room_after : SummaryAfter → TransactionsInRun → OpensAfter → RoomAfter
 room_after now in_run opens = λ objects H e run may.
-    ap (λ n. n + open_count (seen (H ++ e ∷ []))) (length-append H (e ∷ []))
-    ∙ ap (λ (s : Seen). length H + 1 + open_count s) (now H e)
-    ∙ room e.kind (open_count (seen H)) _ (length H) (opens objects (seen H) e.kind (in_run objects H run) may).1
+    ap (λ n. n + open_count (summary (H ++ e ∷ []))) (length-append H (e ∷ []))
+    ∙ ap (λ (s : Summary). length H + 1 + open_count s) (now H e)
+    ∙ room e.kind (open_count (summary H)) _ (length H) (opens objects (summary H) e.kind (in_run objects H run) may).1

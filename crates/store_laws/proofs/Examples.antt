@@ -9,8 +9,8 @@ use Rattle.type_table.specs.Table.{next}
 use Rattle.object_trait.specs.Meaning.{Meaning}
 use Rattle.object_trait.specs.declared.event.EventKind.{EventKind}
 use Rattle.object_trait.specs.declared.event.EventKind.TheVariants.{Begin, Op, Commit, Rollback}
-use Rattle.serial_order.specs.History.{Seen, seen}
-use Rattle.serial_order.specs.Stand.{Changes}
+use Rattle.serial_order.specs.History.{Summary, summary}
+use Rattle.serial_order.specs.Represent.{Changes}
 use Rattle.object_calls.specs.Ends.{is_at, ChangesAt}
 use Rattle.object_calls.specs.declared.end.End.TheVariants as end
 use Rattle.store_laws.specs.Kept.{IsKept}
@@ -21,7 +21,7 @@ use Rattle.store_laws.specs.Examples.{by_seven, one_up, new_counters, begun, cou
 -- ---- two objects
 
 -- what happens to each of two objects happens at each place
-both-change : (s : Seen) (happened : EventKind) (a b c d : Meaning) → Changes 0 s happened a c → Changes 1 s happened b d
+both-change : (s : Summary) (happened : EventKind) (a b c d : Meaning) → Changes 0 s happened a c → Changes 1 s happened b d
     → (x : ℕ) (m n : Meaning) → slice_get (a ∷ b ∷ []) x ≡ Some m → slice_get (c ∷ d ∷ []) x ≡ Some n → Changes x s happened m n
 both-change s happened a b c d first second zero m n was is =
     subst (λ k. Changes 0 s happened k n) (same_Some a m was) (subst (λ k. Changes 0 s happened a k) (same_Some c n is) first)
@@ -35,7 +35,7 @@ both-change s happened a b c d first second (suc (suc x)) m n was is = absurd (n
 begins : Moves new_counters begun [] (record { worker = 7; kind = Begin 0 })
 begins = record {
   as_many = refl;
-  objects = both-change (seen []) (Begin 0) _ _ _ _ refl refl;
+  objects = both-change (summary []) (Begin 0) _ _ _ _ refl refl;
   rows = refl;
 }
 
@@ -43,7 +43,7 @@ begins = record {
 counts : Moves begun counted (take 1 one_up) (record { worker = 7; kind = Op 0 1 0 })
 counts = record {
   as_many = refl;
-  objects = both-change (seen (take 1 one_up)) (Op 0 1 0) _ _ _ _ refl refl;
+  objects = both-change (summary (take 1 one_up)) (Op 0 1 0) _ _ _ _ refl refl;
   rows = record { row = by_seven []; was = refl; becomes = refl };
 }
 
@@ -57,7 +57,7 @@ unfolding next
 commits = record {
   as_many = refl;
   objects =
-      both-change (seen (take 2 one_up)) (Commit 0) _ _ _ _
+      both-change (summary (take 2 one_up)) (Commit 0) _ _ _ _
       (record { checked = refl; commit = record { moved = []; front = refl; done = tt; reached = refl } })
       (record { checked = refl; commit = record { rest = refl; inside = refl; reached = (λ ks legal. legal, λ ks legal. legal); still = λ none. absurd (has_entry none) } });
   rows = record { row = by_seven (1 ∷ []); was = refl; becomes = refl };

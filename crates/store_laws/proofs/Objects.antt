@@ -11,18 +11,18 @@ use Rattle.object_trait.specs.declared.event.Event.{Event}
 use Rattle.object_trait.specs.declared.event.EventKind.{EventKind}
 use Rattle.object_trait.specs.declared.event.EventKind.TheVariants as kind
 use Rattle.object_trait.specs.declared.event.EventKind.TheVariants.{Begin, Op, Busy, Commit, Abort, Rollback}
-use Rattle.serial_order.specs.History.{Seen, seen}
+use Rattle.serial_order.specs.History.{Summary, summary}
 use Rattle.serial_order.specs.Machine.{May, MayFollow, IsRun}
-use Rattle.serial_order.specs.Stand.{Changes}
+use Rattle.serial_order.specs.Represent.{Changes}
 use Rattle.serial_order.specs.After.{LogsAreCounted}
-use Rattle.serial_order.specs.Laws.{StandsOn, MachineMayApply}
+use Rattle.serial_order.specs.Laws.{RepresentsOn, MachineMayApply}
 use Rattle.store_laws.specs.Stored.{types_of}
 use Rattle.store_laws.specs.Kept.{objects_of, IsObject}
 
 -- ---- types
 
 -- an event leaves the object's type
-pub same-type : (x : ℕ) (s : Seen) (happened : EventKind) (old new : Meaning) → Changes x s happened old new → new.checked ≡ old.checked
+pub same-type : (x : ℕ) (s : Summary) (happened : EventKind) (old new : Meaning) → Changes x s happened old new → new.checked ≡ old.checked
 same-type x s (Begin t) old new change = ap (λ (m : Meaning). m.checked) change
 same-type x s (Op t y k) old new change =
     elim (cases_Bool (y == x)) [
@@ -56,7 +56,7 @@ object-at ms x m there =
 
 module _ (applies : SoundAfterApply) (commits : SoundAfterCommit) (strikes : SoundAfterStrike) where
   -- an event keeps a meaning sound, where an operation of its may be executed
-  sound-after : (x : ℕ) (s : Seen) (happened : EventKind) (old new : Meaning) → IsCovered (object old) → IsSound old
+  sound-after : (x : ℕ) (s : Summary) (happened : EventKind) (old new : Meaning) → IsCovered (object old) → IsSound old
       → ((t k : ℕ) → happened ≡ Op t x k → MayApply old t k) → Changes x s happened old new → IsSound new
   sound-after x s (Begin t) old new covered sound may change = subst IsSound (sym change) sound
   sound-after x s (Op t y k) old new covered sound may change =
@@ -75,15 +75,15 @@ module _ (applies : SoundAfterApply) (commits : SoundAfterCommit) (strikes : Sou
 -- ---- an object
 
 module _ (covers : CheckedIsCovered) (applies : SoundAfterApply) (commits : SoundAfterCommit) (strikes : SoundAfterStrike) where
-  module _ (on : StandsOn) (may_apply : MachineMayApply) (counted : LogsAreCounted) where
+  module _ (on : RepresentsOn) (may_apply : MachineMayApply) (counted : LogsAreCounted) where
     -- by an event that may follow
     pub object-after : (objects : List Object) (H : List Event) (e : Event) (x : ℕ) (old new : Meaning) → IsRun objects H → MayFollow objects H e
-        → length H < 4294967295 → slice_get objects x ≡ Some (object old) → IsObject old x H → Changes x (seen H) e.kind old new → IsObject new x (H ++ e ∷ [])
+        → length H < 4294967295 → slice_get objects x ≡ Some (object old) → IsObject old x H → Changes x (summary H) e.kind old new → IsObject new x (H ++ e ∷ [])
     object-after objects H e x old new run may short place known change = record {
-      checked = rw (same-type x (seen H) e.kind old new change) known.checked;
+      checked = rw (same-type x (summary H) e.kind old new change) known.checked;
       sound =
-          sound-after applies commits strikes x (seen H) e.kind old new (covers old.checked known.checked).0 known.sound
-          (λ t k is. may_apply objects H e.worker t x k old run (subst (May objects (seen H)) is may) place known.represents room)
+          sound-after applies commits strikes x (summary H) e.kind old new (covers old.checked known.checked).0 known.sound
+          (λ t k is. may_apply objects H e.worker t x k old run (subst (May objects (summary H)) is may) place known.represents room)
           change;
       represents = on objects H e x old new run may place known.represents change;
     }

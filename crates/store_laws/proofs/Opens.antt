@@ -2,35 +2,32 @@
 use Rattle.std.proofs.Common.{◌≡◌, ℕ, suc, ◌+◌, ◌≤◌, Bool, cond, List, [], ◌∷◌, filter, length, Option, Some, None, is_some, slice_get, refl, sym, ap, ◌∙◌, inl, inr, arith}
 use Rattle.std.specs.List.{count_by, range_with_len}
 use Rattle.std.proofs.lemmas.Bool.{cases_Bool, cases_lt, le-ltb, and_left}
-use Rattle.std.proofs.lemmas.List.{length-append, length-map, get_or_past}
+use Rattle.std.proofs.lemmas.List.{length-map, get_or_past}
 use Rattle.std.proofs.lemmas.List.Sums.{sum_by-cons}
 use Rattle.std.proofs.lemmas.Option.{none-some, get_or_from_slice_get}
 use Rattle.type_table.proofs.Elements.{element_at, filter-length}
 use Rattle.object_trait.specs.Laws.{FreshIsSound, CheckedIsCovered}
 use Rattle.object_trait.specs.declared.event.Event.{Event}
-use Rattle.object_trait.specs.declared.event.EventKind.{EventKind}
-use Rattle.object_trait.specs.declared.event.EventKind.TheVariants as kind
-use Rattle.object_trait.specs.declared.event.EventKind.TheVariants.{Begin, Op, Busy, Commit, Abort, Rollback}
-use Rattle.serial_order.specs.Operations.{is_by, of}
-use Rattle.serial_order.specs.History.{seen, is_open, is_begin, standing}
-use Rattle.serial_order.specs.Readings.{stays, staying_op, staying}
-use Rattle.serial_order.specs.Laws.{FreshStands, StandsAsRead}
+use Rattle.serial_order.specs.Operations.{of}
+use Rattle.serial_order.specs.History.{summary, is_open, is_begin, surviving}
+use Rattle.serial_order.specs.Laws.{FreshRepresents}
 use Rattle.serial_order.specs.declared.entry.Entry.{Entry}
 use Rattle.open_transactions.specs.Transactions.{Row}
 use Rattle.store_laws.specs.Kept.{Keeping, IsKept}
 use Rattle.store_laws.specs.Before.{NewIsKept, row_of, RowsSayWhoIsOpen, RowsAreCounted, PlacesAreCounted, RowsAreFew, PlacesAreFew}
+use Rattle.serial_order.proofs.Living.{living_of-length}
 use Rattle.store_laws.proofs.Places.{row-places}
 
 -- ---- a new store
 
-pub new_is_kept : CheckedIsCovered → FreshIsSound → FreshStands → NewIsKept
-new_is_kept covers sound stands = λ k new.
+pub new_is_kept : CheckedIsCovered → FreshIsSound → FreshRepresents → NewIsKept
+new_is_kept covers sound represents = λ k new.
     record {
       run = tt;
       objects = λ x m is.
           let checked = new.checked x m is in
           let fresh = new.fresh x m is in
-          record { checked = checked; sound = sound m (covers m.checked checked).0 fresh; represents = stands m x fresh };
+          record { checked = checked; sound = sound m (covers m.checked checked).0 fresh; represents = represents m x fresh };
       begun = ap length new.rows;
       transactions = λ t row is. absurd (none-some row (ap (λ rows. slice_get rows t) (sym new.rows) ∙ is));
     }
@@ -38,14 +35,14 @@ new_is_kept covers sound stands = λ k new.
 -- ---- who is open
 
 -- by a row that is there
-open-row : (k : Keeping) (H : List Event) (t : ℕ) (row : Option Row) → IsKept k H → slice_get k.rows t ≡ Some row → is_open (seen H) t ≡ is_some (row_of k t)
+open-row : (k : Keeping) (H : List Event) (t : ℕ) (row : Option Row) → IsKept k H → slice_get k.rows t ≡ Some row → is_open (summary H) t ≡ is_some (row_of k t)
 open-row k H t row kept there = sym (kept.transactions t row there).going ∙ ap is_some (sym (get_or_from_slice_get k.rows t row None there))
 
 -- a transaction that never began
-never-began : (k : Keeping) (H : List Event) (t : ℕ) → IsKept k H → length k.rows ≤ t → is_open (seen H) t ≡ is_some (row_of k t)
+never-began : (k : Keeping) (H : List Event) (t : ℕ) → IsKept k H → length k.rows ≤ t → is_open (summary H) t ≡ is_some (row_of k t)
 never-began k H t kept past =
     let begun = kept.begun in
-    and_left _ _ (le-ltb t (seen H).begun (omega (arith, begun, past))) ∙ ap is_some (sym (get_or_past k.rows t None past))
+    and_left _ _ (le-ltb t (summary H).begun (omega (arith, begun, past))) ∙ ap is_some (sym (get_or_past k.rows t None past))
 
 pub rows_say_who_is_open : RowsSayWhoIsOpen
 rows_say_who_is_open k H t kept =
@@ -64,7 +61,7 @@ count-cons test e V =
       | inr fails ↦ rw fails (omega arith)
     ]
 
--- so many numbers pass as there are elements, where a number passes where the element there is something
+-- as many numbers pass as elements are something, where a number passes exactly where the element there is something
 count-open : {X : Type 0} (first : ℕ) (rows : List (Option X)) (test : ℕ → Bool)
     → ((i : ℕ) (row : Option X) → slice_get rows i ≡ Some row → test (first + i) ≡ is_some row)
     → length (filter test (range_with_len first (length rows))) ≡ count_by is_some rows
@@ -81,14 +78,14 @@ count-open first (row ∷ rows) test same =
 
 pub rows_are_counted : RowsAreCounted
 rows_are_counted = λ k H kept.
-    ap (λ n. length (filter (is_open (seen H)) (range_with_len 0 n))) (sym kept.begun)
-    ∙ count-open 0 k.rows (is_open (seen H)) (λ i row there. ap (is_open (seen H)) (omega arith) ∙ sym (kept.transactions i row there).going)
+    ap (λ n. length (filter (is_open (summary H)) (range_with_len 0 n))) (sym kept.begun)
+    ∙ count-open 0 k.rows (is_open (summary H)) (λ i row there. ap (is_open (summary H)) (omega arith) ∙ sym (kept.transactions i row there).going)
 
 -- ---- how many operations each has
 
 pub places_are_counted : PlacesAreCounted
 places_are_counted = λ k H t row kept there.
-    sym (ap length (row-places k H t row kept there) ∙ length-map (of t (standing H)) (λ (e : Entry). e.at))
+    sym (ap length (row-places k H t row kept there) ∙ length-map (of t (surviving H)) (λ (e : Entry). e.at))
 
 -- ---- no more than events
 
@@ -98,32 +95,8 @@ rows_are_few = λ k H kept.
     let begun = kept.begun in
     omega (arith, few, begun)
 
--- of one event one operation lives at most
-one-lives : (happened : EventKind) (K : List Event) → length (staying_op happened K) ≤ 1
-one-lives (Begin t) K = omega arith
-one-lives (Op t x k) K =
-    elim (cases_Bool (stays t K)) [
-      | inl is ↦ rw is (omega arith)
-      | inr isnt ↦ rw isnt (omega arith)
-    ]
-one-lives (Busy c t x u) K = omega arith
-one-lives (kind.None t x c) K = omega arith
-one-lives (Commit t) K = omega arith
-one-lives (Abort t) K = omega arith
-one-lives (Rollback t n) K = omega arith
-
--- so no more live than there are events
-few-live : (H : List Event) → length (staying H) ≤ length H
-few-live [] = omega arith
-few-live (e ∷ K) =
-    let one = one-lives e.kind K in
-    let rest = few-live K in
-    omega (arith, length-append (staying_op e.kind K) (staying K), one, rest)
-
-pub places_are_few : StandsAsRead → PlacesAreFew
-places_are_few reads = λ k H t row kept there.
-    let own = ap length (row-places k H t row kept there) ∙ length-map (of t (standing H)) (λ (e : Entry). e.at) in
-    let most = filter-length (is_by t) (standing H) in
-    let all = ap length (reads H) in
-    let few = few-live H in
-    omega (arith, own, most, all, few)
+pub places_are_few : PlacesAreFew
+places_are_few = λ k H t row kept there.
+    let own = ap length (row-places k H t row kept there) ∙ length-map (of t (surviving H)) (λ (e : Entry). e.at) in
+    let few = living_of-length t H in
+    omega (arith, own, few)

@@ -10,9 +10,9 @@ use Rattle.object_trait.specs.Meaning.{Meaning, open_of}
 use Rattle.object_trait.specs.declared.event.Event.{Event}
 use Rattle.object_trait.specs.declared.log_entry.LogEntry.{LogEntry}
 use Rattle.serial_order.specs.Operations.{is_by, of}
-use Rattle.serial_order.specs.History.{seen, is_open, standing, IsOperation}
-use Rattle.serial_order.specs.Serial.{standing_at}
-use Rattle.serial_order.specs.Stand.{struck_at}
+use Rattle.serial_order.specs.History.{summary, is_open, surviving, IsOperation}
+use Rattle.serial_order.specs.Serial.{surviving_at}
+use Rattle.serial_order.specs.Represent.{struck_at}
 use Rattle.serial_order.specs.After.{OperationsInRun, LogsAreCounted}
 use Rattle.serial_order.specs.declared.entry.Entry.{Entry}
 use Rattle.object_calls.specs.Ends.{count_at}
@@ -36,41 +36,41 @@ module _ (k : Keeping) (H : List Event) (t : ℕ) (row : Row) (kept : IsKept k H
   row-at = inside-at k.rows t row there
 
   -- it is open
-  pub open-now : is_open (seen H) t ≡ true
+  pub open-now : is_open (summary H) t ≡ true
   open-now = sym (kept.transactions t (Some row) row-at).going
 
   -- its places
-  pub row-places : row.places ≡ places_of t (seen H)
+  pub row-places : row.places ≡ places_of t (summary H)
   row-places = (kept.transactions t (Some row) row-at).places row refl
 
   -- how many of its operations are at x, by its row
-  pub own-count : (x : ℕ) → count_at x row.places ≡ length (of t (standing_at x H))
+  pub own-count : (x : ℕ) → count_at x row.places ≡ length (of t (surviving_at x H))
   own-count x =
       ap (count_at x) row-places
-      ∙ count-map (λ (e : Entry). e.at) (λ y. y == x) (of t (standing H))
-      ∙ ap length (filter-turned (λ (e : Entry). e.at == x) (is_by t) (standing H))
+      ∙ count-map (λ (e : Entry). e.at) (λ y. y == x) (of t (surviving H))
+      ∙ ap length (filter-turned (λ (e : Entry). e.at == x) (is_by t) (surviving H))
 
   -- by the object's log
-  pub entries-count : LogsAreCounted → (x : ℕ) (m : Meaning) → slice_get k.meanings x ≡ Some m → length (open_of t m.log) ≡ length (of t (standing_at x H))
+  pub entries-count : LogsAreCounted → (x : ℕ) (m : Meaning) → slice_get k.meanings x ≡ Some m → length (open_of t m.log) ≡ length (of t (surviving_at x H))
   entries-count counted x m is =
       sym (length-map (open_of t m.log) (λ (e : LogEntry). e.op))
       ∙ ap length ((counted m x H (kept.objects x m is).represents).own t open-now)
-      ∙ length-map (of t (standing_at x H)) (λ (e : Entry). e.op)
+      ∙ length-map (of t (surviving_at x H)) (λ (e : Entry). e.op)
 
   -- none, where x is none of its places
-  pub count-elsewhere : (x : ℕ) → list_any (λ y. y == x) row.places ≡ false → length (of t (standing_at x H)) ≡ 0
+  pub count-elsewhere : (x : ℕ) → list_any (λ y. y == x) row.places ≡ false → length (of t (surviving_at x H)) ≡ 0
   count-elsewhere x none = sym (own-count x) ∙ count-none (λ y. y == x) row.places none
 
   -- how many of its last n operations are at x
-  pub struck-count : (x n : ℕ) → struck_at x (seen H) t n ≡ count_at x (last_places n row.places)
+  pub struck-count : (x n : ℕ) → struck_at x (summary H) t n ≡ count_at x (last_places n row.places)
   struck-count x n =
       sym
       (ap (λ places. count_at x (last_places n places)) row-places
-      ∙ ap (λ all. count_at x (drop (all - n) (places_of t (seen H)))) (length-map (of t (standing H)) (λ (e : Entry). e.at))
-      ∙ ap (count_at x) (drop-mapped (λ (e : Entry). e.at) (length (of t (standing H)) - n) (of t (standing H)))
-      ∙ count-map (λ (e : Entry). e.at) (λ y. y == x) (drop (length (of t (standing H)) - n) (of t (standing H))))
+      ∙ ap (λ all. count_at x (drop (all - n) (places_of t (summary H)))) (length-map (of t (surviving H)) (λ (e : Entry). e.at))
+      ∙ ap (count_at x) (drop-mapped (λ (e : Entry). e.at) (length (of t (surviving H)) - n) (of t (surviving H)))
+      ∙ count-map (λ (e : Entry). e.at) (λ y. y == x) (drop (length (of t (surviving H)) - n) (of t (surviving H))))
 
--- ---- what the calls at the objects want
+-- ---- what the calls at the objects need
 
 pub has_what_is_struck : LogsAreCounted → HasWhatIsStruck
 has_what_is_struck counted = λ k H t n row kept there x m is.
@@ -97,19 +97,19 @@ tables-count [] = refl
 tables-count (m ∷ ms) = ap (λ n. suc n) (tables-count ms)
 
 module _ (operations : OperationsInRun) (k : Keeping) (H : List Event) (kept : IsKept k H) where
-  -- each operation that lives is one of its object's table
-  living : All (λ (e : Entry). IsOperation (slice_get (tables_of k.meanings) e.at) e.op) (standing H)
-  living = All-from_recursion (λ (e : Entry). IsOperation (slice_get (tables_of k.meanings) e.at) e.op) (standing H) (operations (objects_of k.meanings) H kept.run)
+  -- each operation that survives is one of its object's table
+  living : All (λ (e : Entry). IsOperation (slice_get (tables_of k.meanings) e.at) e.op) (surviving H)
+  living = All-from_recursion (λ (e : Entry). IsOperation (slice_get (tables_of k.meanings) e.at) e.op) (surviving H) (operations (objects_of k.meanings) H kept.run)
 
   -- the places of one transaction's
-  inside : (t : ℕ) → All (λ x. x < length k.meanings) (places_of t (seen H))
+  inside : (t : ℕ) → All (λ x. x < length k.meanings) (places_of t (summary H))
   inside t =
-      All-map (λ x. x < length k.meanings) (λ (e : Entry). e.at) (of t (standing H))
-      (All-filter (is_by t) (λ (e : Entry). e.at < length k.meanings) (standing H)
+      All-map (λ x. x < length k.meanings) (λ (e : Entry). e.at) (of t (surviving H))
+      (All-filter (is_by t) (λ (e : Entry). e.at < length k.meanings) (surviving H)
       (All-weaker (λ (e : Entry). IsOperation (slice_get (tables_of k.meanings) e.at) e.op) (λ (e : Entry). e.at < length k.meanings)
       (λ e is. subst (λ n. e.at < n) (tables-count k.meanings) (operation-inside (tables_of k.meanings) e.at e.op is))
-      (standing H) living))
+      (surviving H) living))
 
 pub places_are_inside : OperationsInRun → PlacesAreInside
 places_are_inside operations = λ k H t row kept there.
-    All-same (λ x. x < length k.meanings) row.places (places_of t (seen H)) (row-places k H t row kept there) (inside operations k H kept t)
+    All-same (λ x. x < length k.meanings) row.places (places_of t (summary H)) (row-places k H t row kept there) (inside operations k H kept t)

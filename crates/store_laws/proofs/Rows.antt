@@ -10,9 +10,9 @@ use Rattle.object_trait.specs.declared.event.EventKind.TheVariants as kind
 use Rattle.object_trait.specs.declared.event.EventKind.TheVariants.{Begin, Op, Busy, Commit, Abort, Rollback}
 use Rattle.object_trait.specs.Object.{Object}
 use Rattle.serial_order.specs.Operations.{is_by, of}
-use Rattle.serial_order.specs.History.{Seen, is_open}
+use Rattle.serial_order.specs.History.{Summary, is_open}
 use Rattle.serial_order.specs.Machine.{May}
-use Rattle.serial_order.specs.After.{after, AreInRun, is_open_after, beginner}
+use Rattle.serial_order.specs.After.{summary_next, AreInRun, is_open_after, beginner}
 use Rattle.serial_order.specs.Held.{own_after}
 use Rattle.serial_order.specs.declared.entry.Entry.{Entry}
 use Rattle.open_transactions.specs.Transactions.{Row}
@@ -22,17 +22,17 @@ use Rattle.store_laws.proofs.Lists.{before-more}
 
 -- ---- what a row says, by what is seen and who began each transaction
 
-pub record IsRowOf (row : Option Row) (t : ℕ) (s : Seen) (B : List ℕ) : Type 0 where
+pub record IsRowOf (row : Option Row) (t : ℕ) (s : Summary) (B : List ℕ) : Type 0 where
   pub going : is_some row ≡ is_open s t
   pub worker : (r : Row) → row ≡ Some r → slice_get B t ≡ Some r.worker
   pub places : (r : Row) → row ≡ Some r → r.places ≡ places_of t s
 
-pub record AreRows (rows : List (Option Row)) (s : Seen) (B : List ℕ) : Type 0 where
+pub record AreRows (rows : List (Option Row)) (s : Summary) (B : List ℕ) : Type 0 where
   pub begun : length rows ≡ s.begun
   pub each : (t : ℕ) (row : Option Row) → slice_get rows t ≡ Some row → IsRowOf row t s B
 
 -- the row of an open transaction, of which the worker and the places are known
-open-row : (r : Row) (t : ℕ) (s : Seen) (B : List ℕ) → is_open s t ≡ true → slice_get B t ≡ Some r.worker → r.places ≡ places_of t s → IsRowOf (Some r) t s B
+open-row : (r : Row) (t : ℕ) (s : Summary) (B : List ℕ) → is_open s t ≡ true → slice_get B t ≡ Some r.worker → r.places ≡ places_of t s → IsRowOf (Some r) t s B
 open-row r t s B open_now worker places = record {
   going = sym open_now;
   worker = λ q is. worker ∙ ap (λ (o : Row). Some o.worker) (same_Some r q is);
@@ -40,7 +40,7 @@ open-row r t s B open_now worker places = record {
 }
 
 -- that of a transaction that isn't open
-closed-row : (t : ℕ) (s : Seen) (B : List ℕ) → is_open s t ≡ false → IsRowOf None t s B
+closed-row : (t : ℕ) (s : Summary) (B : List ℕ) → is_open s t ≡ false → IsRowOf None t s B
 closed-row t s B closed = record {
   going = sym closed;
   worker = λ r is. absurd (none-some r is);
@@ -48,7 +48,7 @@ closed-row t s B closed = record {
 }
 
 -- of a transaction to which nothing happened
-same-row : (row : Option Row) (t : ℕ) (s now : Seen) (B C : List ℕ) → is_open now t ≡ is_open s t → of t now.stands ≡ of t s.stands
+same-row : (row : Option Row) (t : ℕ) (s now : Summary) (B C : List ℕ) → is_open now t ≡ is_open s t → of t now.survives ≡ of t s.survives
     → ((w : ℕ) → slice_get B t ≡ Some w → slice_get C t ≡ Some w) → IsRowOf row t s B → IsRowOf row t now C
 same-row row t s now B C opens own begun known = record {
   going = known.going ∙ sym opens;
@@ -59,10 +59,10 @@ same-row row t s now B C opens own begun known = record {
 -- ---- one row moved
 
 -- where the moved row is right, and nothing happened to other transactions
-rows-moved : (old new : List (Option Row)) (t : ℕ) (moved : Row → Option Row) (s now : Seen) (B : List ℕ)
+rows-moved : (old new : List (Option Row)) (t : ℕ) (moved : Row → Option Row) (s now : Summary) (B : List ℕ)
     → AreRows old s B → IsRowMoved old new t moved → now.begun ≡ s.begun
     → ((r : Row) → IsRowOf (Some r) t s B → IsRowOf (moved r) t now B)
-    → ((u : ℕ) → (u == t) ≡ false → is_open now u ≡ is_open s u) → ((u : ℕ) → (t == u) ≡ false → of u now.stands ≡ of u s.stands)
+    → ((u : ℕ) → (u == t) ≡ false → is_open now u ≡ is_open s u) → ((u : ℕ) → (t == u) ≡ false → of u now.survives ≡ of u s.survives)
     → AreRows new now B
 rows-moved old new t moved s now B known move begun here opens own = record {
   begun = ap length move.becomes ∙ length-set old t (moved move.row) ∙ known.begun ∙ sym begun;
@@ -78,32 +78,32 @@ rows-moved old new t moved s now B known move begun here opens own = record {
 
 -- ---- each kind of event
 
-module _ (old new : List (Option Row)) (s : Seen) (B : List ℕ) (known : AreRows old s B) where
+module _ (old new : List (Option Row)) (s : Summary) (B : List ℕ) (known : AreRows old s B) where
   -- that changes nothing
   rows-same : new ≡ old → AreRows new s B
   rows-same same = subst (λ rows. AreRows rows s B) (sym same) known
 
   -- an operation
-  rows-op : (t x k : ℕ) → is_open s t ≡ true → ((u : ℕ) → of u (after s (Op t x k)).stands ≡ own_after u s (Op t x k))
-      → IsRowMoved old new t (λ r. Some (at_too x r)) → AreRows new (after s (Op t x k)) B
+  rows-op : (t x k : ℕ) → is_open s t ≡ true → ((u : ℕ) → of u (summary_next s (Op t x k)).survives ≡ own_after u s (Op t x k))
+      → IsRowMoved old new t (λ r. Some (at_too x r)) → AreRows new (summary_next s (Op t x k)) B
   rows-op t x k open_now own move =
-      rows-moved old new t (λ r. Some (at_too x r)) s (after s (Op t x k)) B known move refl
-      (λ r was. open-row (at_too x r) t (after s (Op t x k)) B open_now (was.worker r refl) (places r (was.places r refl)))
+      rows-moved old new t (λ r. Some (at_too x r)) s (summary_next s (Op t x k)) B known move refl
+      (λ r was. open-row (at_too x r) t (summary_next s (Op t x k)) B open_now (was.worker r refl) (places r (was.places r refl)))
       (λ u other. refl)
       (λ u other. own u ∙ rw other refl)
     where
-      mine : of t (after s (Op t x k)).stands ≡ of t s.stands ++ (record { by = t; at = x; op = k }) ∷ []
+      mine : of t (summary_next s (Op t x k)).survives ≡ of t s.survives ++ (record { by = t; at = x; op = k }) ∷ []
       mine = own t ∙ rw (eq-eqb t t refl) refl
 
-      places : (r : Row) → r.places ≡ places_of t s → r.places ++ x ∷ [] ≡ places_of t (after s (Op t x k))
+      places : (r : Row) → r.places ≡ places_of t s → r.places ++ x ∷ [] ≡ places_of t (summary_next s (Op t x k))
       places r was =
           ap (λ ps. ps ++ x ∷ []) was
-          ∙ sym (map-append (λ (e : Entry). e.at) (of t s.stands) ((record { by = t; at = x; op = k }) ∷ []))
+          ∙ sym (map-append (λ (e : Entry). e.at) (of t s.survives) ((record { by = t; at = x; op = k }) ∷ []))
           ∙ ap (map (λ (e : Entry). e.at)) (sym mine)
 
   -- the end of a transaction
-  rows-end : (t : ℕ) (now : Seen) → now.begun ≡ s.begun → ((u : ℕ) → is_open now u ≡ (not (u == t) && is_open s u))
-      → ((u : ℕ) → (t == u) ≡ false → of u now.stands ≡ of u s.stands) → IsRowMoved old new t (λ r. None) → AreRows new now B
+  rows-end : (t : ℕ) (now : Summary) → now.begun ≡ s.begun → ((u : ℕ) → is_open now u ≡ (not (u == t) && is_open s u))
+      → ((u : ℕ) → (t == u) ≡ false → of u now.survives ≡ of u s.survives) → IsRowMoved old new t (λ r. None) → AreRows new now B
   rows-end t now begun opens own move =
       rows-moved old new t (λ r. None) s now B known move begun
       (λ r was. closed-row t now B (opens t ∙ rw (eq-eqb t t refl) refl))
@@ -111,35 +111,35 @@ module _ (old new : List (Option Row)) (s : Seen) (B : List ℕ) (known : AreRow
       own
 
   -- a rollback
-  rows-rollback : (t n : ℕ) → is_open s t ≡ true → ((u : ℕ) → of u (after s (Rollback t n)).stands ≡ own_after u s (Rollback t n))
-      → IsRowMoved old new t (λ r. Some (without_places n r)) → AreRows new (after s (Rollback t n)) B
+  rows-rollback : (t n : ℕ) → is_open s t ≡ true → ((u : ℕ) → of u (summary_next s (Rollback t n)).survives ≡ own_after u s (Rollback t n))
+      → IsRowMoved old new t (λ r. Some (without_places n r)) → AreRows new (summary_next s (Rollback t n)) B
   rows-rollback t n open_now own move =
-      rows-moved old new t (λ r. Some (without_places n r)) s (after s (Rollback t n)) B known move refl
-      (λ r was. open-row (without_places n r) t (after s (Rollback t n)) B open_now (was.worker r refl) (places r (was.places r refl)))
+      rows-moved old new t (λ r. Some (without_places n r)) s (summary_next s (Rollback t n)) B known move refl
+      (λ r was. open-row (without_places n r) t (summary_next s (Rollback t n)) B open_now (was.worker r refl) (places r (was.places r refl)))
       (λ u other. refl)
       (λ u other. own u ∙ rw other refl)
     where
-      mine : of t (after s (Rollback t n)).stands ≡ take (length (of t s.stands) - n) (of t s.stands)
+      mine : of t (summary_next s (Rollback t n)).survives ≡ take (length (of t s.survives) - n) (of t s.survives)
       mine = own t ∙ rw (eq-eqb t t refl) refl
 
-      places : (r : Row) → r.places ≡ places_of t s → take (length r.places - n) r.places ≡ places_of t (after s (Rollback t n))
+      places : (r : Row) → r.places ≡ places_of t s → take (length r.places - n) r.places ≡ places_of t (summary_next s (Rollback t n))
       places r was =
           ap (λ ps. take (length ps - n) ps) was
-          ∙ ap (λ l. take (l - n) (places_of t s)) (length-map (of t s.stands) (λ (e : Entry). e.at))
-          ∙ take-map (λ (e : Entry). e.at) (length (of t s.stands) - n) (of t s.stands)
+          ∙ ap (λ l. take (l - n) (places_of t s)) (length-map (of t s.survives) (λ (e : Entry). e.at))
+          ∙ take-map (λ (e : Entry). e.at) (length (of t s.survives) - n) (of t s.survives)
           ∙ ap (map (λ (e : Entry). e.at)) (sym mine)
 
   -- a begin: the next transaction, which has no operation
-  rows-begin : (w t : ℕ) → AreInRun s → length B ≡ s.begun → t ≡ s.begun → ((u : ℕ) → is_open (after s (Begin t)) u ≡ (u == t || is_open s u))
-      → new ≡ old ++ Some (record { worker = w; places = [] }) ∷ [] → AreRows new (after s (Begin t)) (B ++ w ∷ [])
+  rows-begin : (w t : ℕ) → AreInRun s → length B ≡ s.begun → t ≡ s.begun → ((u : ℕ) → is_open (summary_next s (Begin t)) u ≡ (u == t || is_open s u))
+      → new ≡ old ++ Some (record { worker = w; places = [] }) ∷ [] → AreRows new (summary_next s (Begin t)) (B ++ w ∷ [])
   rows-begin w t in_run workers next opens becomes = record {
     begun = let counted = ap length becomes ∙ length-append old (Some fresh ∷ []) in let were = known.begun in omega (arith, counted, were);
     each = λ u row there.
         elim (cases-more old (Some fresh) u row (ap (λ rows. slice_get rows u) (sym becomes) ∙ there)) [
           | inl was ↦
-              same-row row u s (after s (Begin t)) B (B ++ w ∷ []) (opens u ∙ rw (earlier u row was) refl) refl
+              same-row row u s (summary_next s (Begin t)) B (B ++ w ∷ []) (opens u ∙ rw (earlier u row was) refl) refl
               (λ v there. before-more B w u v there) (known.each u row was)
-          | inr is ↦ subst (λ r. IsRowOf r u (after s (Begin t)) (B ++ w ∷ [])) is.1 (last u (is.0 ∙ known.begun))
+          | inr is ↦ subst (λ r. IsRowOf r u (summary_next s (Begin t)) (B ++ w ∷ [])) is.1 (last u (is.0 ∙ known.begun))
         ];
   }
     where
@@ -149,26 +149,26 @@ module _ (old new : List (Option Row)) (s : Seen) (B : List ℕ) (known : AreRow
       earlier : (u : ℕ) (row : Option Row) → slice_get old u ≡ Some row → (u == t) ≡ false
       earlier u row was = let low = slice_get_within old u row was in let all = known.begun in grind (arith, nat_tests, low, all, next)
 
-      none : of s.begun s.stands ≡ []
-      none = filter-none (is_by s.begun) s.stands (each-weaker (λ e before. let low = before.0 in grind (arith, nat_tests, low)) s.stands in_run.stand)
+      none : of s.begun s.survives ≡ []
+      none = filter-none (is_by s.begun) s.survives (each-weaker (λ e before. let low = before.0 in grind (arith, nat_tests, low)) s.survives in_run.survive)
 
-      last : (u : ℕ) → u ≡ s.begun → IsRowOf (Some fresh) u (after s (Begin t)) (B ++ w ∷ [])
+      last : (u : ℕ) → u ≡ s.begun → IsRowOf (Some fresh) u (summary_next s (Begin t)) (B ++ w ∷ [])
       last u is =
-          open-row fresh u (after s (Begin t)) (B ++ w ∷ []) (opens u ∙ rw (eq-eqb u t (is ∙ sym next)) refl)
+          open-row fresh u (summary_next s (Begin t)) (B ++ w ∷ []) (opens u ∙ rw (eq-eqb u t (is ∙ sym next)) refl)
           (ap (λ n. slice_get (B ++ w ∷ []) n) (is ∙ sym workers) ∙ found-last B w)
-          (sym (ap (λ n. map (λ (e : Entry). e.at) (of n s.stands)) is ∙ ap (map (λ (e : Entry). e.at)) none))
+          (sym (ap (λ n. map (λ (e : Entry). e.at) (of n s.survives)) is ∙ ap (map (λ (e : Entry). e.at)) none))
 
 -- any event that may come next
-pub rows-after : (objects : List Object) (old new : List (Option Row)) (s : Seen) (B : List ℕ) (w : ℕ) (happened : EventKind)
+pub rows-after : (objects : List Object) (old new : List (Option Row)) (s : Summary) (B : List ℕ) (w : ℕ) (happened : EventKind)
     → AreRows old s B → AreInRun s → length B ≡ s.begun → May objects s happened
-    → ((u : ℕ) → is_open (after s happened) u ≡ is_open_after s happened u) → ((u : ℕ) → of u (after s happened).stands ≡ own_after u s happened)
-    → RowsMove w happened old new → AreRows new (after s happened) (B ++ beginner w happened)
+    → ((u : ℕ) → is_open (summary_next s happened) u ≡ is_open_after s happened u) → ((u : ℕ) → of u (summary_next s happened).survives ≡ own_after u s happened)
+    → RowsMove w happened old new → AreRows new (summary_next s happened) (B ++ beginner w happened)
 rows-after objects old new s B w (Begin t) known in_run workers may opens own move = rows-begin old new s B known w t in_run workers may opens move
 rows-after objects old new s B w (Op t x k) known in_run workers may opens own move = rw (append-nil B) (rows-op old new s B known t x k may.0 own move)
 rows-after objects old new s B w (Busy c t x u) known in_run workers may opens own move = rw (append-nil B) (rows-same old new s B known move)
 rows-after objects old new s B w (kind.None t x c) known in_run workers may opens own move = rw (append-nil B) (rows-same old new s B known move)
 rows-after objects old new s B w (Commit t) known in_run workers may opens own move =
-    rw (append-nil B) (rows-end old new s B known t (after s (Commit t)) refl opens (λ u other. refl) move)
+    rw (append-nil B) (rows-end old new s B known t (summary_next s (Commit t)) refl opens (λ u other. refl) move)
 rows-after objects old new s B w (Abort t) known in_run workers may opens own move =
-    rw (append-nil B) (rows-end old new s B known t (after s (Abort t)) refl opens (λ u other. own u ∙ rw other refl) move)
+    rw (append-nil B) (rows-end old new s B known t (summary_next s (Abort t)) refl opens (λ u other. own u ∙ rw other refl) move)
 rows-after objects old new s B w (Rollback t n) known in_run workers may opens own move = rw (append-nil B) (rows-rollback old new s B known t n may.0 own move)

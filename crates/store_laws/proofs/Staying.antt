@@ -6,10 +6,10 @@ use Rattle.object_trait.specs.Object.{object_of}
 use Rattle.object_trait.specs.Meaning.{Meaning}
 use Rattle.object_trait.specs.Laws.{SoundAfterApply, SoundAfterCommit, SoundAfterStrike, CheckedIsCovered}
 use Rattle.object_trait.specs.declared.event.Event.{Event}
-use Rattle.serial_order.specs.History.{Seen, seen}
+use Rattle.serial_order.specs.History.{Summary, summary}
 use Rattle.serial_order.specs.Machine.{MayFollow, IsRun}
-use Rattle.serial_order.specs.Laws.{RunGoesOn, StandsOn, MachineMayApply}
-use Rattle.serial_order.specs.After.{SeenAfter, TransactionsInRun, OpensAfter, beginners, BeginnersAfter, LogsAreCounted}
+use Rattle.serial_order.specs.Laws.{RunGoesOn, RepresentsOn, MachineMayApply}
+use Rattle.serial_order.specs.After.{SummaryAfter, TransactionsInRun, OpensAfter, beginners, BeginnersAfter, LogsAreCounted}
 use Rattle.serial_order.specs.Held.{OwnAfter}
 use Rattle.open_transactions.specs.Transactions.{Row}
 use Rattle.store_laws.specs.Kept.{Keeping, objects_of, IsObject, IsRow, IsKept}
@@ -24,13 +24,13 @@ module _ (old new : Keeping) (H : List Event) (e : Event) (known : IsKept old H)
   same-objects : objects_of new.meanings ≡ objects_of old.meanings
   same-objects =
       ap (map object_of)
-      (same-types old.meanings new.meanings moves.as_many (λ x m n was is. same-type x (seen H) e.kind m n (moves.objects x m n was is)))
+      (same-types old.meanings new.meanings moves.as_many (λ x m n was is. same-type x (summary H) e.kind m n (moves.objects x m n was is)))
 
   run-stays : RunGoesOn → IsRun (objects_of new.meanings) (H ++ e ∷ [])
   run-stays goes_on = rw same-objects (goes_on (objects_of old.meanings) H e known.run may)
 
   -- each object was one before
-  objects-stay : CheckedIsCovered → SoundAfterApply → SoundAfterCommit → SoundAfterStrike → StandsOn → MachineMayApply → LogsAreCounted → length H < 4294967295
+  objects-stay : CheckedIsCovered → SoundAfterApply → SoundAfterCommit → SoundAfterStrike → RepresentsOn → MachineMayApply → LogsAreCounted → length H < 4294967295
       → (x : ℕ) (n : Meaning) → slice_get new.meanings x ≡ Some n → IsObject n x (H ++ e ∷ [])
   objects-stay covers applies commits strikes on may_apply counted short x n is =
       let low = slice_get_within new.meanings x n is in
@@ -39,7 +39,7 @@ module _ (old new : Keeping) (H : List Event) (e : Event) (known : IsKept old H)
       (object-at old.meanings x was.0 was.1) (known.objects x was.0 was.1) (moves.objects x was.0 n was.1 is)
 
   -- rows as they are known
-  rows-known : AreRows old.rows (seen H) (beginners H)
+  rows-known : AreRows old.rows (summary H) (beginners H)
   rows-known = record {
     begun = known.begun;
     each = λ t row there.
@@ -47,22 +47,22 @@ module _ (old new : Keeping) (H : List Event) (e : Event) (known : IsKept old H)
         record { going = is.going; worker = is.worker; places = is.places };
   }
 
-  rows-stay : SeenAfter → TransactionsInRun → OpensAfter → OwnAfter → BeginnersAfter → AreRows new.rows (seen (H ++ e ∷ [])) (beginners (H ++ e ∷ []))
+  rows-stay : SummaryAfter → TransactionsInRun → OpensAfter → OwnAfter → BeginnersAfter → AreRows new.rows (summary (H ++ e ∷ [])) (beginners (H ++ e ∷ []))
   rows-stay now in_run opens own began =
       let transactions = in_run (objects_of old.meanings) H known.run in
-      subst (λ (s : Seen). AreRows new.rows s (beginners (H ++ e ∷ []))) (sym (now H e))
+      subst (λ (s : Summary). AreRows new.rows s (beginners (H ++ e ∷ []))) (sym (now H e))
       (rw ((began H).1 e)
-      (rows-after (objects_of old.meanings) old.rows new.rows (seen H) (beginners H) e.worker e.kind rows-known transactions (began H).0 may
-      (opens (objects_of old.meanings) (seen H) e.kind transactions may).0 (λ t. own (seen H) e.kind t) moves.rows))
+      (rows-after (objects_of old.meanings) old.rows new.rows (summary H) (beginners H) e.worker e.kind rows-known transactions (began H).0 may
+      (opens (objects_of old.meanings) (summary H) e.kind transactions may).0 (λ t. own (summary H) e.kind t) moves.rows))
 
 -- ---- all of it
 
-row-of : (row : Option Row) (t : ℕ) (H : List Event) → IsRowOf row t (seen H) (beginners H) → IsRow row t H
+row-of : (row : Option Row) (t : ℕ) (H : List Event) → IsRowOf row t (summary H) (beginners H) → IsRow row t H
 row-of row t H is = record { going = is.going; worker = is.worker; places = is.places }
 
 -- the law, from those on which it depends
-pub stays_kept : CheckedIsCovered → SoundAfterApply → SoundAfterCommit → SoundAfterStrike → RunGoesOn → StandsOn → MachineMayApply → LogsAreCounted
-    → SeenAfter → TransactionsInRun → OpensAfter → OwnAfter → BeginnersAfter → StaysKept
+pub stays_kept : CheckedIsCovered → SoundAfterApply → SoundAfterCommit → SoundAfterStrike → RunGoesOn → RepresentsOn → MachineMayApply → LogsAreCounted
+    → SummaryAfter → TransactionsInRun → OpensAfter → OwnAfter → BeginnersAfter → StaysKept
 stays_kept covers applies commits strikes goes_on on may_apply counted now in_run opens own began = λ old new H e known may moves short.
     let rows = rows-stay old new H e known may moves now in_run opens own began in
     record {

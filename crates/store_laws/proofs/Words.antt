@@ -9,9 +9,9 @@ use Rattle.object_trait.specs.Object.{Object}
 use Rattle.object_trait.specs.Meaning.{Meaning, object, view_of}
 use Rattle.object_trait.specs.Steps.{stopper}
 use Rattle.object_trait.specs.declared.event.Event.{Event}
-use Rattle.serial_order.specs.History.{seen, is_open}
+use Rattle.serial_order.specs.History.{summary, is_open}
 use Rattle.serial_order.specs.View.{is_legal_for}
-use Rattle.serial_order.specs.Stand.{StandsFor}
+use Rattle.serial_order.specs.Represent.{Represents}
 use Rattle.serial_order.specs.Answer as order
 use Rattle.type_table.specs.Least.{first_below}
 use Rattle.serial_order.specs.Answer.{blocker}
@@ -32,27 +32,27 @@ some-map : {A B : Type 0} (f : A → B) (o : Option A) → is_some (option_map f
 some-map f None = refl
 some-map f (Some a) = refl
 
-module _ (alike : AllowsAlike) (blocks : StopperIsBlocker) (objects : List Object) (m : Meaning) (x : ℕ) (H : List Event) (t c : ℕ) (run_is : IsRun objects H) (stands : StandsFor m x H) (open_now : is_open (seen H) t ≡ true) where
+module _ (alike : AllowsAlike) (blocks : StopperIsBlocker) (objects : List Object) (m : Meaning) (x : ℕ) (H : List Event) (t c : ℕ) (run_is : IsRun objects H) (represents : Represents m x H) (open_now : is_open (summary H) t ≡ true) where
   -- the two say the same of who blocks
-  blocked : (k : ℕ) → option_map (λ (e : Entry). e.by) (blocker (object m) (seen H) x t k) ≡ stopper m t k
-  blocked k = blocks objects H x t k m run_is stands
+  blocked : (k : ℕ) → option_map (λ (e : Entry). e.by) (blocker (object m) (summary H) x t k) ≡ stopper m t k
+  blocked k = blocks objects H x t k m run_is represents
 
   -- of what is legal
-  legal : (k : ℕ) → is_some (run m.checked.file.table (view_of m t) (k ∷ [])) ≡ is_legal_for (object m) (seen H) x t k
-  legal k = let both = alike m x H t k open_now stands in both_ways _ _ (λ is. both.0 is) (λ is. both.1 is)
+  legal : (k : ℕ) → is_some (run m.checked.file.table (view_of m t) (k ∷ [])) ≡ is_legal_for (object m) (summary H) x t k
+  legal k = let both = alike m x H t k open_now represents in both_ways _ _ (λ is. both.0 is) (λ is. both.1 is)
 
   -- of which operations are replies
-  reply : (k : ℕ) → k < length m.checked.file.table.ops → calls.is_reply m t c k ≡ order.is_reply (object m) (seen H) x t c k
+  reply : (k : ℕ) → k < length m.checked.file.table.ops → calls.is_reply m t c k ≡ order.is_reply (object m) (summary H) x t c k
   reply k low =
       ap (λ b. is_same_call m.checked.file.table k c && b) (legal k)
-      ∙ ap (λ b. (b && is_same_call m.checked.file.table k c) && is_legal_for (object m) (seen H) x t k) (sym (lt-ltb k (length m.checked.file.table.ops) low))
+      ∙ ap (λ b. (b && is_same_call m.checked.file.table k c) && is_legal_for (object m) (summary H) x t k) (sym (lt-ltb k (length m.checked.file.table.ops) low))
 
   -- and of which nobody blocks
-  free_reply : (k : ℕ) → k < length m.checked.file.table.ops → calls.is_free_reply m t c k ≡ order.is_free_reply (object m) (seen H) x t c k
+  free_reply : (k : ℕ) → k < length m.checked.file.table.ops → calls.is_free_reply m t c k ≡ order.is_free_reply (object m) (summary H) x t c k
   free_reply k low =
       ap (λ b. b && not (is_some (stopper m t k))) (reply k low)
-      ∙ ap (λ b. order.is_reply (object m) (seen H) x t c k && not b)
-      (ap is_some (sym (blocked k)) ∙ some-map (λ (e : Entry). e.by) (blocker (object m) (seen H) x t k))
+      ∙ ap (λ b. order.is_reply (object m) (summary H) x t c k && not b)
+      (ap is_some (sym (blocked k)) ∙ some-map (λ (e : Entry). e.by) (blocker (object m) (summary H) x t k))
 
   -- `Busy` with who blocks
   busy : (o : Option Entry) → as_event t x c (calls.busy_with (option_map (λ (e : Entry). e.by) o)) ≡ order.busy_with o t x c
@@ -60,25 +60,25 @@ module _ (alike : AllowsAlike) (blocks : StopperIsBlocker) (objects : List Objec
   busy (Some e) = refl
 
   -- with the first reply, where there is one
-  refused : (found : Option ℕ) → as_event t x c (calls.refused m t c found) ≡ order.refused (object m) (seen H) x t c found
+  refused : (found : Option ℕ) → as_event t x c (calls.refused m t c found) ≡ order.refused (object m) (summary H) x t c found
   refused None = refl
   refused (Some k) =
-      ap (λ b. as_event t x c (calls.busy_with b)) (sym (blocked k)) ∙ busy (blocker (object m) (seen H) x t k)
+      ap (λ b. as_event t x c (calls.busy_with b)) (sym (blocked k)) ∙ busy (blocker (object m) (summary H) x t k)
 
   -- with the first free one, where there is one
-  answered : (found : Option ℕ) → as_event t x c (calls.answered m t c found) ≡ order.answered (object m) (seen H) x t c found
+  answered : (found : Option ℕ) → as_event t x c (calls.answer_of_first m t c found) ≡ order.event_of_first (object m) (summary H) x t c found
   answered None =
       refused (first_below (length m.checked.file.table.ops) (calls.is_reply m t c))
-      ∙ ap (order.refused (object m) (seen H) x t c)
-      (first_below-agree (length m.checked.file.table.ops) (calls.is_reply m t c) (order.is_reply (object m) (seen H) x t c) reply)
+      ∙ ap (order.refused (object m) (summary H) x t c)
+      (first_below-agree (length m.checked.file.table.ops) (calls.is_reply m t c) (order.is_reply (object m) (summary H) x t c) reply)
   answered (Some k) = refl
 
   -- the answer
-  answer : as_event t x c (answer_of m t c) ≡ order.event_of_call (object m) (seen H) x t c
+  answer : as_event t x c (answer_of m t c) ≡ order.event_of_call (object m) (summary H) x t c
   answer =
       answered (first_below (length m.checked.file.table.ops) (calls.is_free_reply m t c))
-      ∙ ap (order.answered (object m) (seen H) x t c)
-      (first_below-agree (length m.checked.file.table.ops) (calls.is_free_reply m t c) (order.is_free_reply (object m) (seen H) x t c) free_reply)
+      ∙ ap (order.event_of_first (object m) (summary H) x t c)
+      (first_below-agree (length m.checked.file.table.ops) (calls.is_free_reply m t c) (order.is_free_reply (object m) (summary H) x t c) free_reply)
 
 pub answers_as_defined : AllowsAlike → StopperIsBlocker → AnswersAsDefined
-answers_as_defined alike blocks = λ objects m x H t c run_is stands open_now. answer alike blocks objects m x H t c run_is stands open_now
+answers_as_defined alike blocks = λ objects m x H t c run_is represents open_now. answer alike blocks objects m x H t c run_is represents open_now

@@ -1,6 +1,6 @@
 -- What comes of commands that a store is asked one after another. Statements of their laws.
 use Rattle.std.specs.Prelude.{◌≡◌, ℕ, zero, suc, List, [], ◌∷◌, ◌++◌, map, take, Bool, true, false, Option, Some, None, Result, Ok, Err, slice_get}
-use Rattle.serial_order.specs.History.{seen}
+use Rattle.serial_order.specs.History.{summary}
 use Rattle.serial_order.specs.Replay.{call_at, event_of, replay}
 use Rattle.serial_order.specs.declared.command.Command.{Command}
 use Rattle.serial_order.specs.declared.command.Command.TheVariants.{Call}
@@ -43,23 +43,23 @@ left_by old (a ∷ asked) = left_by a.left asked
 abbrev pub commands_of : List Asked → List (ℕ × Command)
 commands_of asked = map (λ (a : Asked). (a.worker, a.command)) asked
 
-abbrev pub wants_memory : Option Refusal → Bool
-wants_memory (Some NoMemory) = true
-wants_memory other = false
+abbrev pub is_memory_refused : Option Refusal → Bool
+is_memory_refused (Some NoMemory) = true
+is_memory_refused other = false
 
--- the places of the commands that were refused for want of memory
-abbrev pub wanting_in : List Asked → ℕ → Bool
-wanting_in [] place = false
-wanting_in (a ∷ asked) zero = wants_memory a.reason
-wanting_in (a ∷ asked) (suc place) = wanting_in asked place
+-- the places of the commands at which memory was refused
+abbrev pub memory_refused_in : List Asked → ℕ → Bool
+memory_refused_in [] place = false
+memory_refused_in (a ∷ asked) zero = is_memory_refused a.reason
+memory_refused_in (a ∷ asked) (suc place) = memory_refused_in asked place
 
 -- a store with the history that is the replay of the first n commands
 abbrev pub replayed : Stored → List Asked → ℕ → Stored
-replayed old asked n = record old { history = replay (objects old) old.max (wanting_in asked) old.history (take n (commands_of asked)) }
+replayed old asked n = record old { history = replay (objects old) old.max (memory_refused_in asked) old.history (take n (commands_of asked)) }
 
 -- the store after all commands has the history of their replay, and each command was answered at the replay of those before it
 pub record IsReplayed (old : Stored) (asked : List Asked) : Type 0 where
-  pub all : left_by old asked ≡ record old { history = replay (objects old) old.max (wanting_in asked) old.history (commands_of asked) }
+  pub all : left_by old asked ≡ record old { history = replay (objects old) old.max (memory_refused_in asked) old.history (commands_of asked) }
   pub each : (i : ℕ) (a : Asked) → slice_get asked i ≡ Some a → IsAsked (replayed old asked i) a
 
 -- ---- statements of laws
@@ -74,10 +74,10 @@ StepIsAsked T =
     (old new : Stored) (w : ℕ) (command : Command) (result : Result T Refusal) → MayStep old w command result new
     → IsAsked old (record { worker = w; command = command; reason = refused result; left = new })
 
--- an answer that the last event tells is the one that the history before it defines
+-- an answer that the last event says is the one that the history before it defines
 abbrev pub AnswerIsDefined : Type 0
 AnswerIsDefined =
     (old new : Stored) (w t x c : ℕ) (name : List ℕ) (answer : Answer) → MayStep old w (Call t x name) (Ok answer) new
     → call_at (slice_get (objects old) x) name ≡ Some c
     → new ≡ record old { history = old.history ++ (record { worker = w; kind = as_event t x c answer }) ∷ [] }
-    → event_of (objects old) (seen old.history) (Call t x name) ≡ Some (as_event t x c answer)
+    → event_of (objects old) (summary old.history) (Call t x name) ≡ Some (as_event t x c answer)

@@ -6,7 +6,7 @@ use Rattle.object_trait.specs.Meaning.{Meaning}
 use Rattle.object_trait.specs.Steps.{IsFresh}
 use Rattle.object_trait.specs.declared.event.Event.{Event}
 use Rattle.serial_order.specs.Operations.{of}
-use Rattle.serial_order.specs.History.{seen, is_open}
+use Rattle.serial_order.specs.History.{summary, is_open}
 use Rattle.serial_order.specs.Replay.{open_count}
 use Rattle.object_calls.specs.Ends.{HasLast}
 use Rattle.open_transactions.specs.Transactions.{Row}
@@ -40,17 +40,17 @@ last_places n places = drop (length places - n) places
 
 -- a transaction is open where it has a row
 abbrev pub RowsSayWhoIsOpen : Type 0
-RowsSayWhoIsOpen = (k : Keeping) (H : List Event) (t : ℕ) → IsKept k H → is_open (seen H) t ≡ is_some (row_of k t)
+RowsSayWhoIsOpen = (k : Keeping) (H : List Event) (t : ℕ) → IsKept k H → is_open (summary H) t ≡ is_some (row_of k t)
 
 -- as many are open as have a row
 abbrev pub RowsAreCounted : Type 0
-RowsAreCounted = (k : Keeping) (H : List Event) → IsKept k H → open_count (seen H) ≡ count_by is_some k.rows
+RowsAreCounted = (k : Keeping) (H : List Event) → IsKept k H → open_count (summary H) ≡ count_by is_some k.rows
 
--- as many of an open transaction's operations live as its row has places
+-- as many of an open transaction's operations survive as its row has places
 abbrev pub PlacesAreCounted : Type 0
 PlacesAreCounted =
     (k : Keeping) (H : List Event) (t : ℕ) (row : Row) → IsKept k H → IsOpenRow k t row
-    → length (of t (seen H).stands) ≡ length row.places
+    → length (of t (summary H).survives) ≡ length row.places
 
 -- no more began than there are events
 abbrev pub RowsAreFew : Type 0

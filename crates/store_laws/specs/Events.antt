@@ -7,7 +7,7 @@ use Rattle.object_trait.specs.declared.event.Event.{Event}
 use Rattle.object_trait.specs.declared.event.EventKind.{EventKind}
 use Rattle.object_trait.specs.declared.event.EventKind.TheVariants as kind
 use Rattle.object_trait.specs.declared.event.EventKind.TheVariants.{Begin, Op, Busy, Commit, Abort, Rollback}
-use Rattle.serial_order.specs.History.{seen}
+use Rattle.serial_order.specs.History.{summary}
 use Rattle.serial_order.specs.Machine.{MayFollow, IsRun}
 use Rattle.serial_order.specs.Replay.{open_count}
 use Rattle.object_calls.specs.Ends.{count_at, ChangesAt, IsEnd}
@@ -72,8 +72,8 @@ takes (Commit t) = 0
 takes (Abort t) = 0
 takes _ = 1
 
--- an event that may follow takes so much
+-- an event that may follow takes that much
 abbrev pub RoomAfter : Type 0
 RoomAfter =
     (objects : List Object) (H : List Event) (e : Event) → IsRun objects H → MayFollow objects H e
-    → length (H ++ e ∷ []) + open_count (seen (H ++ e ∷ [])) ≡ length H + open_count (seen H) + takes e.kind
+    → length (H ++ e ∷ []) + open_count (summary (H ++ e ∷ [])) ≡ length H + open_count (summary H) + takes e.kind

@@ -4,9 +4,9 @@ use Rattle.object_trait.specs.Meaning.{Meaning}
 use Rattle.object_trait.specs.declared.event.Event.{Event}
 use Rattle.object_trait.specs.declared.event.EventKind.{EventKind}
 use Rattle.object_trait.specs.declared.event.EventKind.TheVariants.{Begin, Op, Commit, Abort, Rollback}
-use Rattle.serial_order.specs.History.{seen}
+use Rattle.serial_order.specs.History.{summary}
 use Rattle.serial_order.specs.Machine.{MayFollow}
-use Rattle.serial_order.specs.Stand.{Changes}
+use Rattle.serial_order.specs.Represent.{Changes}
 use Rattle.open_transactions.specs.Transactions.{Row}
 use Rattle.store_laws.specs.Kept.{Keeping, objects_of, IsKept}
 
@@ -40,7 +40,7 @@ RowsMove w _ old new = new ≡ old
 -- what the event after the history H does to it: to each object, and to the rows
 pub record Moves (old new : Keeping) (H : List Event) (e : Event) : Type 0 where
   pub as_many : length new.meanings ≡ length old.meanings
-  pub objects : (x : ℕ) (m n : Meaning) → slice_get old.meanings x ≡ Some m → slice_get new.meanings x ≡ Some n → Changes x (seen H) e.kind m n
+  pub objects : (x : ℕ) (m n : Meaning) → slice_get old.meanings x ≡ Some m → slice_get new.meanings x ≡ Some n → Changes x (summary H) e.kind m n
   pub rows : RowsMove e.worker e.kind old.rows new.rows
 
 -- by an event that may follow, what is kept goes on agreeing with the history. Its length leaves room in logs, which are no longer

@@ -28,8 +28,8 @@ abbrev pub refusal_of : Stored → Command → Option Refusal
 refusal_of s command = refusal (objects s) s.max s.history command
 
 -- after a worker's command: a refusal changes nothing, and nothing but the history changes
-abbrev pub after : Stored → ℕ → Command → Stored
-after s w command = record s { history = after_command (objects s) s.max s.history w command }
+abbrev pub stored_after : Stored → ℕ → Command → Stored
+stored_after s w command = record s { history = after_command (objects s) s.max s.history w command }
 
 -- why a call was refused
 abbrev pub refused : {T : Type 0} → Result T Refusal → Option Refusal
@@ -38,9 +38,9 @@ refused (Err r) = Some r
 
 -- a call that takes no memory
 abbrev pub Steps : {T : Type 0} → Stored → ℕ → Command → Result T Refusal → Stored → Type 0
-Steps old w command result new = (refused result ≡ refusal_of old command) × (new ≡ after old w command)
+Steps old w command result new = (refused result ≡ refusal_of old command) × (new ≡ stored_after old w command)
 
--- one that may want it, where it isn't refused for another reason
+-- one that may take it, where it isn't refused for another reason
 abbrev pub MayStep : {T : Type 0} → Stored → ℕ → Command → Result T Refusal → Stored → Type 0
 MayStep old w command result new =
     Steps old w command result new ⊎ ((refusal_of old command ≡ None) × (result ≡ Err NoMemory) × (new ≡ old))

@@ -5,8 +5,8 @@ use Rattle.object_trait.specs.Meaning.{Meaning, object}
 use Rattle.object_trait.specs.declared.event.Event.{Event}
 use Rattle.object_trait.specs.declared.event.EventKind.{EventKind}
 use Rattle.object_trait.specs.declared.event.EventKind.TheVariants as kind
-use Rattle.serial_order.specs.History.{seen, is_open}
-use Rattle.serial_order.specs.Stand.{StandsFor}
+use Rattle.serial_order.specs.History.{summary, is_open}
+use Rattle.serial_order.specs.Represent.{Represents}
 use Rattle.serial_order.specs.Machine.{IsRun}
 use Rattle.serial_order.specs.Answer.{event_of_call}
 use Rattle.object_calls.specs.Answers.{answer_of}
@@ -22,5 +22,5 @@ as_event t x c None = kind.None t x c
 -- at an object that represents the history a call is answered as the history defines it
 abbrev pub AnswersAsDefined : Type 0
 AnswersAsDefined =
-    (objects : List Object) (m : Meaning) (x : ℕ) (H : List Event) (t c : ℕ) → IsRun objects H → StandsFor m x H → is_open (seen H) t ≡ true
-    → as_event t x c (answer_of m t c) ≡ event_of_call (object m) (seen H) x t c
+    (objects : List Object) (m : Meaning) (x : ℕ) (H : List Event) (t c : ℕ) → IsRun objects H → Represents m x H → is_open (summary H) t ≡ true
+    → as_event t x c (answer_of m t c) ≡ event_of_call (object m) (summary H) x t c

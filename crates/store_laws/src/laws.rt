@@ -12,9 +12,9 @@ use object_trait::{
     untouched_stays,
 };
 use serial_order::{
-    allows_alike, beginners_after, command_appends, fresh_stands, logs_are_counted,
-    machine_may_apply, opens_after, operations_in_run, own_after, run_goes_on, seen_after,
-    stands_as_read, stands_on, stopper_is_blocker, transactions_in_run,
+    allows_alike, beginners_after, command_appends, fresh_represents, logs_are_counted,
+    machine_may_apply, opens_after, operations_in_run, own_after, represents_on, run_goes_on,
+    stopper_is_blocker, summary_after, transactions_in_run,
 };
 
 /// By an event that may follow, what a store keeps goes on agreeing with its history: that it is a
@@ -27,10 +27,10 @@ pub fn stays_kept()
     sound_after_commit();
     sound_after_strike();
     run_goes_on();
-    stands_on();
+    represents_on();
     machine_may_apply();
     logs_are_counted();
-    seen_after();
+    summary_after();
     transactions_in_run();
     opens_after();
     own_after();
@@ -52,7 +52,7 @@ pub fn new_is_kept()
 {
     checked_is_covered();
     fresh_is_sound();
-    fresh_stands();
+    fresh_represents();
 }
 
 /// A transaction is open where it has a row.
@@ -67,7 +67,7 @@ pub fn rows_are_counted()
     ensures { RowsAreCounted }
 {}
 
-/// As many of an open transaction's operations live as its row has places.
+/// As many of an open transaction's operations survive as its row has places.
 #[tactic(auto, using(crate::proofs::Opens::places_are_counted))]
 pub fn places_are_counted()
     ensures { PlacesAreCounted }
@@ -79,13 +79,11 @@ pub fn rows_are_few()
     ensures { RowsAreFew }
 {}
 
-/// No more of an open transaction's operations live than there are events.
+/// No more of an open transaction's operations survive than there are events.
 #[tactic(auto, using(crate::proofs::Opens::places_are_few))]
 pub fn places_are_few()
     ensures { PlacesAreFew }
-{
-    stands_as_read();
-}
+{}
 
 /// The places of an open transaction's operations are those of objects.
 #[tactic(auto, using(crate::proofs::Places::places_are_inside))]
@@ -147,7 +145,7 @@ pub fn types_stay()
 pub fn room_after()
     ensures { RoomAfter }
 {
-    seen_after();
+    summary_after();
     transactions_in_run();
     opens_after();
 }
@@ -163,7 +161,7 @@ pub fn step_is_asked<T>()
     ensures { StepIsAsked T }
 {}
 
-/// An answer that is told by the event appended is the one that the history before it defines.
+/// An answer that the appended event says is the one that the history before it defines.
 pub fn answer_is_defined()
     ensures { AnswerIsDefined }
 {

@@ -3,18 +3,18 @@
 
 ghost use Rattle.std.specs.Prelude.{◌≡◌, ℕ, [], ◌∷◌, Some, None, Ok, Err, take, codes};
 ghost use Rattle.serial_order.specs.Replay.{replay};
-ghost use Rattle.store_laws.specs.Stored.{objects, refusal_of, after, Steps, MayStep};
+ghost use Rattle.store_laws.specs.Stored.{objects, refusal_of, stored_after, Steps, MayStep};
 ghost use Rattle.store_laws.specs.Kept.{IsRow, IsKept, IsStore};
 ghost use Rattle.store_laws.specs.Moves.{RowsMove, Moves};
 ghost use Rattle.store_laws.specs.Words.{as_event};
 ghost use Rattle.store_laws.specs.Before.{last_places};
-ghost use Rattle.store_laws.specs.Asked.{AreAsked, left_by, commands_of, wanting_in, replayed};
+ghost use Rattle.store_laws.specs.Asked.{AreAsked, left_by, commands_of, memory_refused_in, replayed};
 ghost use Rattle.store_laws.specs.Examples.{AreAccepted, by_seven, one_up, new_counters, begun, counted, committed, one_back, stored, by_worker, up_and_again};
 
 use crate::laws::{end_moves, op_moves, rollback_moves, stays_kept};
 use object_calls::Answer;
 use object_trait::{EventKind, checked_is_covered, fresh_is_sound};
-use serial_order::{Command, Refusal, fresh_stands};
+use serial_order::{Command, Refusal, fresh_represents};
 
 /// A new store of two counters agrees with the empty history.
 pub fn a_new_store_agrees()
@@ -22,7 +22,7 @@ pub fn a_new_store_agrees()
 {
     checked_is_covered();
     fresh_is_sound();
-    fresh_stands();
+    fresh_represents();
 }
 
 /// It goes on agreeing by each event: its transaction begins, counts up at the second, and commits.
@@ -55,7 +55,7 @@ pub fn it_agrees_with_its_own_history_alone()
     ensures empty { IsKept new_counters (take 1 one_up) → ⊥ }
 {}
 
-/// A row says who began its transaction and where its operations are that live.
+/// A row says who began its transaction and where its surviving operations are.
 pub fn a_row_says_what_its_transaction_did()
     ensures before { IsRow (Some (by_seven (0 ∷ 1 ∷ []))) 1 (take 4 one_back) }
     ensures after { IsRow (Some (by_seven (0 ∷ []))) 1 one_back }
@@ -83,18 +83,18 @@ pub fn room_is_reserved_for_the_ends()
 
 /// What a call does: its event, by its worker, and nothing where it is refused.
 pub fn a_call_appends_its_event()
-    ensures begins { after (stored []) 7 Command.Begin ≡ stored (take 1 one_up) }
-    ensures calls { after (stored (take 1 one_up)) 7 (Command.Call 0 1 (codes "inc:1")) ≡ stored (take 2 one_up) }
-    ensures commits { after (stored (take 2 one_up)) 7 (Command.Commit 0) ≡ stored one_up }
+    ensures begins { stored_after (stored []) 7 Command.Begin ≡ stored (take 1 one_up) }
+    ensures calls { stored_after (stored (take 1 one_up)) 7 (Command.Call 0 1 (codes "inc:1")) ≡ stored (take 2 one_up) }
+    ensures commits { stored_after (stored (take 2 one_up)) 7 (Command.Commit 0) ≡ stored one_up }
     ensures refuses { refusal_of (stored one_up) (Command.Commit 0) ≡ Some Refusal.NotOpen }
-    ensures refused { after (stored one_up) 7 (Command.Commit 0) ≡ stored one_up }
+    ensures refused { stored_after (stored one_up) 7 (Command.Commit 0) ≡ stored one_up }
 {}
 
-/// A call that takes no memory does what it should; one that may want it may also leave all as it was,
+/// A call that takes no memory does what it should; one that may take it may also leave all as it was,
 /// and say so.
-pub fn a_call_may_want_memory()
+pub fn a_call_may_be_refused_memory()
     ensures steps { Steps {T = ℕ} (stored []) 7 Command.Begin (Ok 0) (stored (take 1 one_up)) }
-    ensures wants { MayStep {T = ℕ} (stored []) 7 Command.Begin (Err Refusal.NoMemory) (stored []) }
+    ensures refused { MayStep {T = ℕ} (stored []) 7 Command.Begin (Err Refusal.NoMemory) (stored []) }
     ensures takes_none { Steps {T = ℕ} (stored []) 7 Command.Begin (Err Refusal.NoMemory) (stored []) → ⊥ }
     ensures for_a_reason { MayStep {T = ℕ} (stored one_up) 7 (Command.Commit 0) (Err Refusal.NoMemory) (stored one_up) → ⊥ }
 {}
@@ -119,7 +119,7 @@ pub fn the_last_places()
 pub fn asked_commands_are_replayed()
     ensures asked { AreAsked (stored []) up_and_again }
     ensures left { left_by (stored []) up_and_again ≡ stored one_up }
-    ensures history { replay (objects (stored [])) 4 (wanting_in up_and_again) [] (commands_of up_and_again) ≡ one_up }
+    ensures history { replay (objects (stored [])) 4 (memory_refused_in up_and_again) [] (commands_of up_and_again) ≡ one_up }
     ensures first { replayed (stored []) up_and_again 2 ≡ stored (take 1 one_up) }
     ensures other_reason { AreAsked (stored []) (by_worker Command.Begin (Some Refusal.TooManyOpen) [] ∷ []) → ⊥ }
 {}

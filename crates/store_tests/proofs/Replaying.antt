@@ -90,7 +90,7 @@ pub no_more : (log : List LogEntry) (d : LogEntry) (n : ℕ) → 1 ≤ length lo
 no_more [] d n some is last = absurd (omega (arith, some))
 no_more (e ∷ log) d n some is last = grind (arith, is, last)
 
--- that none is open is told by their number
+-- the number of open ones says whether none is
 same_none : (n : ℕ) → nat_eq n 0 ≡ not (nat_lt 0 n)
 same_none n = grind arith
 

@@ -4,6 +4,7 @@ use Rattle.std.specs.List.{slice_get, AllByRecursion}
 use Rattle.std.proofs.lemmas.Bool.{leb-true, leb-false, ne_eqb, and_parts}
 use Rattle.std.proofs.lemmas.List.Sums.{sum_by-cons}
 use Rattle.std.proofs.lemmas.Option.{none-some, same_Some}
+use Rattle.type_table.proofs.Elements.{none_any}
 use Rattle.type_table.specs.declared.kind.Kind.{Kind}
 use Rattle.line_text.specs.Rules.{count_at}
 use Rattle.line_text.specs.LineTests.{is_single, is_needed, is_full}
@@ -19,7 +20,7 @@ use Rattle.store_text.specs.declared.line.ObjectLine.{ObjectLine}
 use Rattle.store_text.specs.declared.parts.Parts.{Parts}
 use Rattle.store_text.specs.declared.line.Line.{Line}
 use Rattle.store_text.specs.declared.line.Line.TheVariants.{Max, Object, Entry, End}
-use Rattle.store_text.proofs.Keeping.{entry_more, limit_said, objects_said, entries_said, never}
+use Rattle.store_text.proofs.Keeping.{entry_more, limit_said, objects_said, entries_said}
 
 -- each line's numbers are in range
 abbrev pub AreInRange : {A : Type 0} → Body A → List (Line A) → Type 0
@@ -89,12 +90,12 @@ entry_room b said k free =
 
 -- ---- plain lines
 
--- an entry that wants another has one before it
+-- an entry that needs another has one before it
 has_another : (wants : Bool) (n : ℕ) → 0 < n → (wants && eqb n 0) ≡ false
 has_another true n some = ne_eqb n 0 (λ e. omega (arith, some))
 has_another false n some = refl
 
--- an entry that was kept behind the others is a line that was kept behind the others
+-- an entry that was kept after the others is a line that was kept after the others
 pub keeps_entry : {K A : Type 0} (b : Body A) (said : K → List A) (k : KeptParts K) (text behind : List ℕ) (after : List A) → TakesMore (store_rules b) (kept_lines said k) 2 → KeepsEntry b text behind (said k.entries) after
     → KeepsPlainly (store_rules b) 2 text behind (kept_lines said k) (lines_of_parts k.max k.objects.items after k.has_ended)
 keeps_entry b said k text behind after takes h = record {
@@ -108,12 +109,12 @@ keeps_entry b said k text behind after takes h = record {
     in_range = h.in_range;
     has_room = takes.has_room;
     ascending = takes.ascending (Entry h.entry) refl;
-    no_twin = sym (never (kept_lines said k));
+    no_twin = none_any (kept_lines said k);
   };
   kept = rw h.kept (entry_more b k.max k.objects.items (said k.entries) k.has_ended h.entry (takes.in_order (Entry h.entry) refl));
 }
 
--- where a line of the objects' rank stands, there is an object
+-- where there is a line of the objects' rank, there is an object
 some_object : {A : Type 0} (lines : List (Line A)) (n : ℕ) (x : Line A) → slice_get lines n ≡ Some x → rank_of x ≡ 1 → 0 < length (objects_of lines)
 some_object [] n x at ranked = absurd (none-some x at)
 some_object (Max most ∷ lines) zero x at ranked = let other : rank_of x ≡ 0 = sym (ap rank_of (same_Some (Max most) x at)) in absurd (omega (arith, other, ranked))

@@ -1,6 +1,6 @@
--- One more line behind those that are kept.
+-- One more line after those that are kept.
 use Rattle.std.proofs.Common.{◌≡◌, ℕ, ◌+◌, ◌-◌, ◌<◌, ◌≤◌, Bool, true, false, List, [], ◌∷◌, ◌++◌, length, map, Option, Some, None, refl, sym, ap, ◌∙◌, arith, append_assoc}
-use Rattle.std.specs.List.{slice_get, list_any}
+use Rattle.std.specs.List.{slice_get}
 use Rattle.std.proofs.lemmas.List.{append-nil, length-append, length-map, map-append}
 use Rattle.type_table.specs.declared.kind.Kind.{Kind}
 use Rattle.line_text.specs.Rules.{last_item}
@@ -25,28 +25,28 @@ ends : {X : Type 0} (x : X) (xs : List X) → Ends (x ∷ xs)
 ends x [] = record { front = []; last = x; is = refl }
 ends x (y ∷ xs) = let more = ends y xs in record { front = x ∷ more.front; last = more.last; is = ap (λ zs. x ∷ zs) more.is }
 
--- the last of mapped elements behind others
+-- the last of mapped elements after others
 last_mapped : {X Y : Type 0} (f : X → Y) (front : List Y) {xs : List X} (more : Ends xs) → front ++ map f xs ≡ (front ++ map f more.front) ++ f more.last ∷ []
 last_mapped f front more = ap (λ zs. front ++ map f zs) more.is ∙ ap (λ zs. front ++ zs) (map-append f more.front (more.last ∷ [])) ∙ sym (append_assoc front (map f more.front) (f more.last ∷ []))
 
--- ---- what may come behind a line
+-- ---- what may come after a line
 
 module _ {A : Type 0} (b : Body A) where
-  -- behind `end` nothing
+  -- after `end` nothing
   behind_end : (x : Line A) → is_late (store_rules b) (Some End) x ≡ false → ⊥
   behind_end (Max most) e = cc
   behind_end (Object kind file) e = cc
   behind_end (Entry y) e = cc
   behind_end End e = cc
 
-  -- behind an entry no object and no limit
+  -- after an entry no object and no limit
   behind_entry : (y : A) (x : Line A) → is_late (store_rules b) (Some (Entry y)) x ≡ false → 2 ≤ rank_of x
   behind_entry y (Max most) e = absurd cc
   behind_entry y (Object kind file) e = absurd cc
   behind_entry y (Entry z) e = omega arith
   behind_entry y End e = omega arith
 
-  -- behind an object no limit
+  -- after an object no limit
   behind_object : (o : ObjectLine) (x : Line A) → is_late (store_rules b) (Some (object_line o)) x ≡ false → 1 ≤ rank_of x
   behind_object o (Max most) e = absurd cc
   behind_object o (Object kind file) e = omega arith
@@ -58,7 +58,7 @@ module _ {A : Type 0} (b : Body A) where
   single true = refl
   single false = refl
 
-  -- so no limit comes behind a limit
+  -- so no limit comes after a limit
   behind_max : (most : ℕ) (x : Line A) → is_late (store_rules b) (Some (Max most)) x ≡ false → 1 ≤ rank_of x
   behind_max most (Max other) e = absurd (let clash : true ≡ false = sym (single b.has_max) ∙ e in cc)
   behind_max most (Object kind file) e = omega arith
@@ -195,8 +195,3 @@ limit_said None (o ∷ objects) entries has_ended = refl
 limit_said None [] (y ∷ entries) has_ended = refl
 limit_said None [] [] false = refl
 limit_said None [] [] true = refl
-
--- nothing is found where nothing is looked for
-pub never : {X : Type 0} (xs : List X) → false ≡ list_any (λ (y : X). false) xs
-never [] = refl
-never (x ∷ xs) = never xs

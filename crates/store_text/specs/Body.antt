@@ -93,7 +93,7 @@ max_line false = no_line
 abbrev pub sections : Bool → List Section
 sections has_max = max_line has_max ∷ object_lines ∷ entry_lines ∷ one_line ∷ []
 
--- ---- the tests of a line behind others
+-- ---- the tests of a line after others
 
 abbrev pub is_in_range : {A : Type 0} → Body A → Line A → Bool
 is_in_range b (Max most) = nat_le 2 most && nat_le most most_events
@@ -101,7 +101,7 @@ is_in_range b (Object kind file) = nat_le file 255
 is_in_range b (Entry x) = b.is_in_range x
 is_in_range b End = true
 
--- an entry that can't be the first wants one before it
+-- an entry that can't be the first needs one before it
 abbrev pub misses : {A : Type 0} → Body A → List (Line A) → Line A → Bool
 misses b before (Entry x) = b.wants_another x && count_by (λ y. rank_of y == entry_rank) before == 0
 misses b before _ = false

@@ -31,7 +31,7 @@ lines_of_parts max objects entries has_ended = limit_lines max ++ (map object_li
 abbrev pub kept_lines : {K A : Type 0} → (K → List A) → KeptParts K → List (Line A)
 kept_lines said kept = lines_of_parts kept.max kept.objects.items (said kept.entries) kept.has_ended
 
--- the limit, which is 0 where no line tells it
+-- the limit, which is 0 where no line says it
 abbrev pub limit_of : Option ℕ → ℕ
 limit_of None = 0
 limit_of (Some most) = most

@@ -32,13 +32,13 @@ pub trait Entries {
     fn nothing(&self, alloc: Global) -> Self::Kept
         ensures { said result ≡ [] };
 
-    /// Keeps an entry behind those before it.
+    /// Keeps an entry after those before it.
     fn keep(&self, kept: &mut Self::Kept, entry: Self::Entry) -> Result<(), AllocError>
         requires { (body self.now).is_in_range entry ≡ true }
         ensures { OnOk result (said kept.new ≡ said kept.old ++ entry ∷ []) };
 
     /// Keeps what a text's first line says, where it is the plain line of an entry, with one space between
-    /// two words and none elsewhere, whose numbers are in range, and gives what is behind it. `None` says
+    /// two words and none elsewhere, whose numbers are in range, and gives what comes after it. `None` says
     /// nothing of the line: nothing was kept.
     fn keep_plain<'a>(&self, _kept: &mut Self::Kept, _text: &'a [u8]) -> Option<&'a [u8]>
         ensures { MatchOption result

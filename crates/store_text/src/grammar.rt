@@ -1,4 +1,4 @@
-//! The grammar of a text about a store's objects: what a line says, and its tests behind the lines
+//! The grammar of a text about a store's objects: what a line says, and its tests after the lines
 //! before it.
 
 ghost use Rattle.std.specs.Prelude.{◌≡◌, map};

@@ -1,6 +1,7 @@
 -- Each file has one answer.
-use Rattle.std.proofs.Common.{◌≡◌, ℕ, ◌+◌, ◌-◌, ◌*◌, ◌<◌, ◌≤◌, ◌⊎◌, ◌&&◌, Bool, true, false, List, length, Option, Some, None, Result, Ok, Err, inl, inr, refl, sym, ap, subst, ◌∙◌, arith, rules}
+use Rattle.std.proofs.Common.{◌≡◌, ℕ, ◌+◌, ◌-◌, ◌*◌, ◌<◌, ◌⊎◌, Bool, true, false, List, length, Option, Some, None, Ok, Err, inl, inr, refl, sym, ap, subst, ◌∙◌, arith, rules}
 use Rattle.std.proofs.lemmas.Bool.{cases_lt, false≢true}
+use Rattle.std.proofs.lemmas.Nat.{same_from_place}
 use Rattle.equi_cert.specs.Fault.{is_fault, leads_outside, IsFirstFault}
 use Rattle.equi_cert.specs.Simulation.{IsSimulation}
 use Rattle.equi_cert.specs.Relation.{relates}
@@ -14,15 +15,14 @@ use Rattle.escrow_laws.specs.Faults.{IsNumericFault, IsFirstNumericFault}
 use Rattle.escrow_laws.specs.Laws.{BoundsAreNumeric, NumericIsFaultless}
 use Rattle.type_text.specs.TypeFile.{conflicts_of}
 use Rattle.type_text.specs.declared.type_file.TypeFile.{TypeFile}
-use Rattle.table_checker.specs.Answer.{IsAnswer, OneAnswer}
-use Rattle.table_checker.specs.Checked.{Checked, IsCheckedBy, IsCommuting, IsNumericType, condition_of}
+use Rattle.table_checker.specs.Answer.{OneAnswer}
+use Rattle.table_checker.specs.Checked.{IsCheckedBy, IsCommuting, IsNumericType, condition_of}
 use Rattle.table_checker.specs.Condition.{number_of, fails_at, IsFirstFailure}
 use Rattle.table_checker.specs.Reach.{leaves_at, IsFirstLeave}
 use Rattle.table_checker.specs.Refusal.{IsFirstReason, IsFirstOfCommuting, IsFirstOfNumeric}
 use Rattle.table_checker.specs.declared.condition.Condition.{Condition}
 use Rattle.table_checker.specs.declared.refusal.CheckRefusal.{CheckRefusal}
 use Rattle.table_checker.specs.declared.refusal.CheckRefusal.TheVariants.{InitialOutside, NotClosed, NotSimulation, NotCommuting, NotNumeric}
-use Rattle.table_checker.proofs.Numbers.{row_not_behind}
 
 -- what is true isn't false
 both : {P : Type 0} (b : Bool) → b ≡ true → b ≡ false → P
@@ -59,15 +59,7 @@ first_fault T related s t k a b c f g =
     let f_same : is_fault T related a b k ≡ true = ap (λ x. is_fault T related a x k) (sym seconds) ∙ f_there in
     (firsts, seconds, by_order k c (λ less. both (is_fault T related a b k) f_same (g.least_operation k less)) (λ more. both (is_fault T related s t c) g_same (f.least_operation c more)))
 
--- a row and a place in it are told by their number
-same_row : (width m n r s : ℕ) → r < width → s < width → m * width + r ≡ n * width + s → (m ≡ n) × (r ≡ s)
-same_row width m n r s r_in s_in e =
-    let low : m ≤ n = row_not_behind width n m r s s_in (omega (arith, e)) in
-    let high : n ≤ m = row_not_behind width m n s r r_in (omega (arith, e)) in
-    let rows : m ≡ n = omega arith in
-    (rows, omega (arith, e, ap (λ x. x * width) rows))
-
--- so are two first failures
+-- two first failures are one, since a row and a place in it follow from their number
 first_failure : (condition : Condition) (file : TypeFile) (rows : List (List Bool)) (p q s a b r : ℕ)
     → IsFirstFailure condition file rows p q s → IsFirstFailure condition file rows a b r → (p ≡ a) × (q ≡ b) × (s ≡ r)
 first_failure condition file rows p q s a b r f g =
@@ -75,8 +67,8 @@ first_failure condition file rows p q s a b r f g =
     let numbers : number_of T p q s ≡ number_of T a b r = by_order (number_of T p q s) (number_of T a b r)
     (λ less. both (fails_at condition file rows p q s) f.fails (g.first p q s f.inside less))
     (λ more. both (fails_at condition file rows a b r) g.fails (f.first a b r g.inside more)) in
-    let pairs = same_row T.states (p * length T.ops + q) (a * length T.ops + b) s r f.inside.state g.inside.state numbers in
-    let ops = same_row (length T.ops) p a q b f.inside.held g.inside.held pairs.0 in
+    let pairs = same_from_place (p * length T.ops + q) s (a * length T.ops + b) r T.states f.inside.state g.inside.state numbers in
+    let ops = same_from_place p q a b (length T.ops) f.inside.held g.inside.held pairs.0 in
     (ops.0, ops.1, pairs.1)
 
 -- ---- a simulation has no fault

@@ -15,13 +15,13 @@ or_one zero h = refl
 or_one (suc zero) h = refl
 or_one (suc (suc r)) h = absurd (omega arith)
 
--- a number is what stands above a bit, the bit, and what stands below it
+-- a number is what is above a bit, the bit, and what is below it
 bit-parts : (s i : ℕ) → (s / 2 ^ i / 2 * 2 + bit_at s i) * 2 ^ i + s % 2 ^ i ≡ s
 bit-parts s i =
     let high : s / 2 ^ i / 2 * 2 + bit_at s i ≡ s / 2 ^ i = omega arith in
     rw high (shr_split s i)
 
--- to set a bit leaves what stands above and below it
+-- to set a bit leaves what is above and below it
 or-parts : (i b r lo : ℕ) → r < 2 → lo < 2 ^ i → bit_or ((b * 2 + r) * 2 ^ i + lo) (2 ^ i) ≡ (b * 2 + 1) * 2 ^ i + lo
 or-parts i b r lo bit low =
     let unit : 1 * 2 ^ i + 0 ≡ 2 ^ i = omega arith in
@@ -54,7 +54,7 @@ cleared i s u h small less clear same =
       | inr there ↦ bit_at_clear_other w16 s i h j below there ∙ same j there
     ]
 
--- a number without a power of two that stands in it has no bit there
+-- a number without a power of two that is in it has no bit there
 no_bit : (i s : ℕ) → bit_at s i ≡ 1 → bit_at (s - 2 ^ i) i ≡ 0
 no_bit i s one =
     let parts : (s / 2 ^ i / 2 * 2 + 1) * 2 ^ i + s % 2 ^ i ≡ s = rw one at (bit-parts s i) in

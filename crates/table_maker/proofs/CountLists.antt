@@ -22,7 +22,7 @@ map-first : {A : Type 0} (items : A → List ℕ) (first : ℕ) (rest : List A) 
 map-first items first [] = refl
 map-first items first (counts ∷ rest) = ap (λ xs. (first ∷ items counts) ∷ xs) (map-first items first rest)
 
--- the lists with one more first count stand there
+-- the lists with one more first count are there
 pub lists-push : {A : Type 0} (items : A → List ℕ) (n room first : ℕ) (old new : List (List ℕ)) (rest shown : List A) →
     old ≡ flat_map (beginning_with n room) (range_with_len 0 first) → map items rest ≡ counts_within n (room - first) → shown ≡ rest → new ≡ old ++ map (λ counts. first ∷ items counts) shown →
     new ≡ flat_map (beginning_with n room) (range_with_len 0 (first + 1))

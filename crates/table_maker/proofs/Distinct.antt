@@ -9,7 +9,7 @@ use Rattle.std.proofs.lemmas.List.Sums.{AllPass-from_list_all, list_all-from_All
 use Rattle.std.proofs.lemmas.Slice.Eq.{bytes_eq-Decides}
 use Rattle.table_maker.specs.Elements.{element_at, is_short, repeats}
 
--- elements of which none stands twice differ at each two places
+-- elements of which none occurs twice differ at each two places
 pub distinct-from_repeats : (elements : List (List ℕ)) → repeats elements ≡ false → (i j : ℕ) → i < j → j < length elements → element_at elements i ≢ element_at elements j
 distinct-from_repeats [] h i j before below e = absurd (omega arith)
 distinct-from_repeats (x ∷ elements) h i zero before below e = absurd (omega arith)
@@ -17,7 +17,7 @@ distinct-from_repeats (x ∷ elements) h zero (suc j) before below e =
     both_ways _ (or_parts _ _ h).0 (list_any_at (λ other. bytes_eq other x) elements j [] (omega arith) ((bytes_eq-Decides (element_at elements j) x).1 (sym e)))
 distinct-from_repeats (x ∷ elements) h (suc i) (suc j) before below e = distinct-from_repeats elements (or_parts _ _ h).1 i j (omega arith) (omega arith) e
 
--- and elements that differ at each two places don't stand twice
+-- and elements that differ at each two places don't occur twice
 pub repeats-from_distinct : (elements : List (List ℕ)) → ((i j : ℕ) → i < j → j < length elements → element_at elements i ≢ element_at elements j) → repeats elements ≡ false
 repeats-from_distinct [] h = refl
 repeats-from_distinct (x ∷ elements) h =

@@ -25,7 +25,7 @@ pub record AreParts (f : Family) (T : Table) : Type 0 where
 pub entry-at : (f : Family) (count place : ℕ) → place < count → get_or (entries_of f count) place None ≡ f.step (place / length f.ops) (place % length f.ops)
 entry-at f count place below = get_or-map-range_with_len (λ place. f.step (place / length f.ops) (place % length f.ops)) 0 count place place None below (omega arith)
 
--- so many entries
+-- how many entries there are
 length-entries : (f : Family) (count : ℕ) → length (entries_of f count) ≡ count
 length-entries f count = length-map-range_with_len (λ place. f.step (place / length f.ops) (place % length f.ops)) 0 count
 

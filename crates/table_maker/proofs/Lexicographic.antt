@@ -8,7 +8,7 @@ use Rattle.std.proofs.lemmas.List.Sums.{sum_by-cons}
 use Rattle.table_maker.specs.Counts.{counts_within, IsBefore, AreCountsWithin}
 use Rattle.table_maker.proofs.Numbers.{beginning_with}
 
--- ---- each is of so many counts, with a sum within the room
+-- ---- each is of this many counts, with a sum within the room
 
 abbrev IsWithin : ℕ → ℕ → List ℕ → Type 0
 IsWithin n room cs = (length cs ≡ n) × (sum cs ≤ room)
@@ -62,7 +62,7 @@ record Begins (P : ℕ → Type 0) (cs : List ℕ) : Type 0 where
   some : 0 < length cs
   first : P (get_or cs 0 0)
 
--- behind the same first count the order stays
+-- after the same first count the order stays
 before-first : (c : ℕ) (a b : List ℕ) → IsBefore a b → IsBefore (c ∷ a) (c ∷ b)
 before-first c a b h = record {
   place = suc h.place;

@@ -4,6 +4,7 @@ pub mod NameBytes
 pub mod Distinct
 pub mod Twins
 pub mod AmountFacts
+pub mod Replies
 pub mod CounterFacts
 pub mod AccountFacts
 pub mod Bits

@@ -16,7 +16,7 @@ pub is_name-bytes : (bytes : List ℕ) → list_all is_name_byte bytes ≡ true 
 unfolding is_name
 is_name-bytes bytes all some short = rw (le-leb 1 (length bytes) some, le-leb (length bytes) 32 short, all) refl
 
--- bytes of a name behind others
+-- bytes of a name after others
 pub name_bytes-append : (front back : List ℕ) → list_all is_name_byte front ≡ true → list_all is_name_byte back ≡ true → list_all is_name_byte (front ++ back) ≡ true
 name_bytes-append front back f b = list_all-append is_name_byte front back ∙ rw (f, b) refl
 
@@ -30,7 +30,7 @@ name_bytes-decimal = decimal_by_steps (λ n digits. list_all is_name_byte digits
     (λ n h. rw (digit_byte n h) refl)
     (λ n digits h front. name_bytes-append digits ((48 + n % 10) ∷ []) front (rw (digit_byte (n % 10) (omega arith)) refl))
 
--- two pieces, written into a buffer one behind the other
+-- two pieces, written into a buffer one after the other
 pub two_pieces : (front back rest : List ℕ) (a k : ℕ) → a ≡ length front → k ≡ length back → take (a + k) (put_mid a (a + k - a) (front ++ rest) back) ≡ front ++ back
 two_pieces front back rest a k ea ek =
     take-put_mid a (a + k - a) (front ++ rest) back (a + k) (omega (arith, ek)) (omega (arith, ea, length-append front rest)) ∙ ap (λ x. x ++ back) (rw ea (take-append_seam front rest))

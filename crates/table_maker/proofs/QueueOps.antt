@@ -16,7 +16,7 @@ use Rattle.table_maker.proofs.QueueStates.{differ}
 abbrev op_at : List Op → ℕ → Op
 op_at ops i = slice_index_or ops i (op_of [] [])
 
--- where each operation differs from those before it, none stands twice
+-- where each operation differs from those before it, none occurs twice
 no_twin-from_places : (ops : List Op) → ((i j : ℕ) → i < j → j < length ops → is_same_op (op_at ops j) (op_at ops i) ≡ false) → has_twin ops ≡ false
 no_twin-from_places [] apart = refl
 no_twin-from_places (o ∷ ops) apart =
@@ -32,7 +32,7 @@ enqueues_apart a b apart = and_left (bytes_eq (enq_op a).call (enq_op b).call) (
 dequeues_apart : (a b : List ℕ) → (a ≡ b → ⊥) → is_same_op (deq_op a) (deq_op b) ≡ false
 dequeues_apart a b apart = and_right (bytes_eq (deq_op a).call (deq_op b).call) (bytes_eq a b) (differ a b apart)
 
--- no operation stands twice
+-- no operation occurs twice
 pub no_twin-queue : (elements : List (List ℕ)) → ((i j : ℕ) → i < j → j < length elements → element_at elements i ≢ element_at elements j) → has_twin (map enq_op elements ++ map deq_op elements) ≡ false
 no_twin-queue elements distinct = no_twin-from_places ops apart
   where

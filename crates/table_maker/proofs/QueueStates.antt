@@ -11,7 +11,7 @@ use Rattle.table_maker.specs.Semiqueue.{counts_at, state_of, enq_step, deq_step}
 
 -- ---- a list with one count changed
 
--- lists that differ are told apart
+-- lists that differ are found to differ
 pub differ : (xs ys : List ℕ) → (xs ≡ ys → ⊥) → bytes_eq xs ys ≡ false
 differ xs ys apart = false_from_ne_true (bytes_eq xs ys) (λ e. apart ((bytes_eq-Decides xs ys).0 e))
 
@@ -26,7 +26,7 @@ bytes_eq-set (x ∷ xs) (y ∷ ys) (suc i) v inside same here before =
     let rest : take i xs ≡ take i ys = cc in
     rw (eq-eqb x y first, add-one) (rw add-one at (bytes_eq-set xs ys i v (omega (arith, inside)) (omega (arith, same)) here rest))
 
--- lists that differ before the place are told apart
+-- lists that differ before the place are found to differ
 pub differ-front : (xs ys : List ℕ) (i v : ℕ) → true ≡ not (bytes_eq (take i xs) (take i ys)) → false ≡ bytes_eq xs (set ys i v)
 differ-front xs ys i v h =
     sym (differ xs (set ys i v) (λ e. both_ways (bytes_eq (take i xs) (take i ys)) (not-true (bytes_eq (take i xs) (take i ys)) (sym h)) ((bytes_eq-Decides (take i xs) (take i ys)).1 (ap (take i) e ∙ take-set ys i v))))

@@ -9,7 +9,7 @@ use Rattle.table_maker.proofs.QueueStates.{enq_step-below, deq_step-below}
 use Rattle.table_maker.proofs.QueueOps.{no_twin-queue}
 
 -- two operations for each element
-length-ops : (elements : List (List ℕ)) → length (map enq_op elements ++ map deq_op elements) ≡ 2 * length elements
+pub length-ops : (elements : List (List ℕ)) → length (map enq_op elements ++ map deq_op elements) ≡ 2 * length elements
 length-ops elements = omega (arith, length-append (map enq_op elements) (map deq_op elements), length-map elements enq_op, length-map elements deq_op)
 
 -- a step leads to a state

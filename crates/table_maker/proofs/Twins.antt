@@ -1,4 +1,4 @@
--- Operations of which none stands twice.
+-- Operations of which none occurs twice.
 use Rattle.std.proofs.Common.{◌≡◌, ℕ, suc, ◌*◌, ◌<◌, Bool, true, false, ◌||◌, List, [], ◌∷◌, ◌++◌, length, map, get_or, refl, ◌∙◌, arith}
 use Rattle.std.specs.List.{list_any, flat_map}
 use Rattle.std.specs.Str.{bytes_eq}
@@ -9,16 +9,16 @@ use Rattle.std.proofs.lemmas.Slice.Eq.{bytes_eq-Decides}
 use Rattle.type_table.specs.Op.{is_same_op, has_twin}
 use Rattle.type_table.specs.declared.op.Op.{Op}
 
--- an operation stands in a list
+-- an operation is in a list
 abbrev pub stands : Op → List Op → Bool
 stands o ops = list_any (λ other. is_same_op other o) ops
 
--- an operation stands in both lists
+-- an operation is in both lists
 abbrev pub shares : List Op → List Op → Bool
 shares [] later = false
 shares (o ∷ ops) later = stands o later || shares ops later
 
--- no operation stands twice in two lists that share none, one behind the other
+-- no operation occurs twice in two lists that share none, one after the other
 pub has_twin-append : (ops later : List Op) → has_twin ops ≡ false → has_twin later ≡ false → shares ops later ≡ false → has_twin (ops ++ later) ≡ false
 has_twin-append [] later h k s = k
 has_twin-append (o ∷ ops) later h k s =
@@ -46,7 +46,7 @@ pub shares-flat_map : {X : Type 0} (d : X) (f : X → List Op) (ops : List Op) (
 shares-flat_map d f ops [] h = shares-nil ops
 shares-flat_map d f ops (x ∷ xs) h = shares-append ops (f x) (flat_map f xs) (h 0 (omega arith)) (shares-flat_map d f ops xs (λ i below. h (suc i) (omega arith)))
 
--- no operation stands twice in pieces that share none with one another
+-- no operation occurs twice in pieces that share none with one another
 pub has_twin-flat_map : {X : Type 0} (d : X) (f : X → List Op) (xs : List X) → ((x : X) → has_twin (f x) ≡ false) →
     ((i j : ℕ) → i < j → j < length xs → shares (f (get_or xs i d)) (f (get_or xs j d)) ≡ false) → has_twin (flat_map f xs) ≡ false
 has_twin-flat_map d f [] h s = refl
@@ -66,12 +66,12 @@ flat_map-shares d f (x ∷ xs) later h = append-shares (f x) (flat_map f xs) lat
         let front = or_parts (stands o later) (shares first later) h in
         or_from (stands o later) (shares (first ++ second) later) front.0 (append-shares first second later front.1 k)
 
--- an operation doesn't stand among others from each of which it differs
+-- an operation isn't among others from each of which it differs
 pub stands-map : {X : Type 0} (d : X) (f : X → Op) (o : Op) (xs : List X) → ((i : ℕ) → i < length xs → is_same_op (f (get_or xs i d)) o ≡ false) → stands o (map f xs) ≡ false
 stands-map d f o [] h = refl
 stands-map d f o (x ∷ xs) h = or_from (is_same_op (f x) o) (stands o (map f xs)) (h 0 (omega arith)) (stands-map d f o xs (λ i below. h (suc i) (omega arith)))
 
--- no operation stands twice among operations that differ from one another
+-- no operation occurs twice among operations that differ from one another
 pub has_twin-map : {X : Type 0} (d : X) (f : X → Op) (xs : List X) → ((i j : ℕ) → i < j → j < length xs → is_same_op (f (get_or xs j d)) (f (get_or xs i d)) ≡ false) → has_twin (map f xs) ≡ false
 has_twin-map d f [] h = refl
 has_twin-map d f (x ∷ xs) h =

@@ -1,4 +1,4 @@
--- Counters: a number from 0 to a cap, and steps up and down by given amounts, without a reply that tells the number.
+-- Counters: a number from 0 to a cap, and steps up and down by given amounts, without a reply that says the number.
 use Rattle.std.specs.Prelude.{ℕ, zero, suc, ◌+◌, ◌*◌, ◌-◌, ◌/◌, ◌%◌, ◌≤◌, List, [], ◌∷◌, ◌++◌, length, nat_le, Option, codes}
 use Rattle.std.specs.Fmt.{decimal}
 use Rattle.std.specs.List.{flat_map}

@@ -2,7 +2,7 @@
 use Rattle.std.specs.Prelude.{◌≡◌, ◌↔◌, ℕ, zero, suc, ◌+◌, ◌-◌, ◌<◌, ◌≤◌, List, [], ◌∷◌, length, map, min, Contains, slice_index_or, sum}
 use Rattle.std.specs.List.{flat_map, range_with_len}
 
--- the lists of so many counts with a sum of at most `room`: first those that begin with 0, then those that begin with 1, and so on
+-- the lists of this many counts with a sum of at most `room`: first those that begin with 0, then those that begin with 1, and so on
 abbrev pub counts_within : ℕ → ℕ → List (List ℕ)
 counts_within zero room = [] ∷ []
 counts_within (suc n) room = flat_map (λ c. map (λ cs. c ∷ cs) (counts_within n (room - c))) (range_with_len 0 (room + 1))

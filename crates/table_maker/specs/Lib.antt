@@ -6,6 +6,4 @@ pub mod Elements
 pub mod Set
 pub mod Counts
 pub mod Semiqueue
-pub mod Strikes
-pub mod Predecessors
 pub mod MadeConflicts

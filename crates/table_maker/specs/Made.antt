@@ -50,7 +50,7 @@ pub record IsFileOfFamily (f : Family) (file : TypeFile) : Type 0 where
   pub reach : file.reach ≡ replicate f.states true
 
 -- `BadParameter` exactly where the parameters aren't good, else `TooLarge` exactly where the family has too many states or
--- operations, else the family's file, or want of memory
+-- operations, else the family's file, or refused memory
 abbrev pub Makes : Result TypeFile MakeError → Type 0 → Type 0 → Family → Type 0
 Makes (Ok file) IsGood Fits f = IsGood × Fits × IsFileOfFamily f file
 Makes (Err BadParameter) IsGood Fits f = IsGood → ⊥

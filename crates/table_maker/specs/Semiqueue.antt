@@ -27,7 +27,7 @@ counts_at states s = slice_index_or states s []
 abbrev pub count_of : List ℕ → ℕ → ℕ
 count_of counts i = slice_index_or counts i 0
 
--- the state that holds so many
+-- the state that holds this many
 abbrev pub state_of : List (List ℕ) → List ℕ → Option ℕ
 state_of states counts = position (λ other. bytes_eq other counts) states
 

@@ -1,18 +1,18 @@
 //! Accounts: a balance from 0 to a cap, deposits and withdrawals of given amounts, and the balance
 //! as a reply.
 
-ghost use Rattle.std.specs.Prelude.{◌≡◌, ◌+◌, ◌<◌, [], ◌∷◌, ◌++◌, ◌↔◌, codes, map, IsTrue, IfOk, OnOk};
+ghost use Rattle.std.specs.Prelude.{◌≡◌, ◌+◌, ◌<◌, ◌++◌, ◌↔◌, codes, map, IsTrue, IfOk};
 ghost use Rattle.std.specs.List.{flat_map, range_with_len};
-ghost use Rattle.table_maker.specs.Account.{account, amount_ops, amount_step, balance_op, AccountFits};
-ghost use Rattle.table_maker.specs.Amounts.{AreAmounts};
-ghost use Rattle.table_maker.specs.Made.{Makes, op_of};
+ghost use Rattle.table_maker.specs.Account.{account, balance_op, AccountFits};
+ghost use Rattle.table_maker.specs.Amounts.{AreAmounts, amount_ops};
+ghost use Rattle.table_maker.specs.Made.{Makes};
 
-use crate::amounts::{added, are_amounts, taken_off};
-use crate::family::{FamilyRules, make_file, push_two, where_legal};
+use crate::amounts::{amount_step, amounts_ops, are_amounts};
+use crate::family::{FamilyRules, make_file, push_replies, where_legal};
 use crate::make_error::MakeError;
-use crate::names::{named, numbered};
+use crate::names::named;
 use std::alloc::{AllocError, Global};
-use type_table::{Name, Op};
+use type_table::Op;
 use type_text::TypeFile;
 
 /// The type file of an account of 0 to a cap of 1 to 1,023, with the set of all states.
@@ -66,76 +66,12 @@ impl FamilyRules for AccountRules<'_> {
     }
 }
 
-/// The step of an operation of an amount, by its place among the four.
-fn amount_step(cap: u16, amount: u16, place: usize, s: u16) -> Option<u16>
-    ensures { result ≡ amount_step cap amount place s }
-{
-    match place {
-        0 => added(cap, amount, s),
-        1 => where_legal((cap as u32) < s as u32 + amount as u32, s),
-        2 => taken_off(amount, s),
-        _ => where_legal(s < amount, s),
-    }
-}
-
 /// The operations of an account.
 fn account_ops(alloc: Global, cap: u16, amounts: &[u16]) -> Result<Vec<Op>, AllocError>
     requires { cap < 1024 }
-    ensures { IfOk result (λ ops. ops.items ≡ flat_map amount_ops amounts.now ++ map balance_op (range_with_len 0 (cap + 1))) }
+    ensures { IfOk result (λ ops. ops.items ≡ flat_map (amount_ops (codes "deposit:") (codes "withdraw:")) amounts.now ++ map balance_op (range_with_len 0 (cap + 1))) }
 {
-    let mut ops = amounts_ops(alloc, amounts)?;
-    for balance in 0..cap + 1 {
-        push_balance(alloc, &mut ops, balance)?;
-    }
+    let mut ops = amounts_ops(alloc, b"deposit:", b"withdraw:", amounts)?;
+    push_replies(alloc, &mut ops, named(b"balance"), cap + 1)?;
     Ok(ops)
-}
-
-/// The operations of the amounts.
-fn amounts_ops(alloc: Global, amounts: &[u16]) -> Result<Vec<Op>, AllocError>
-    ensures { IfOk result (λ ops. ops.items ≡ flat_map amount_ops amounts.now) }
-{
-    let mut ops = Vec::new(alloc);
-    for amount in amounts {
-        push_amount(alloc, &mut ops, *amount)?;
-    }
-    Ok(ops)
-}
-
-/// Adds the four operations of an amount.
-fn push_amount(alloc: Global, ops: &mut Vec<Op>, amount: u16) -> Result<(), AllocError>
-    ensures { OnOk result (ops.new.items ≡ ops.old.items ++ amount_ops amount) }
-{
-    push_outcomes(ops, numbered(alloc, b"deposit:", amount)?, named(b"full"))?;
-    push_outcomes(ops, numbered(alloc, b"withdraw:", amount)?, named(b"short"))?;
-    Ok(())
-}
-
-/// Adds the operations of a call that is done or isn't.
-fn push_outcomes(ops: &mut Vec<Op>, call: Name, not_done: Name) -> Result<(), AllocError>
-    ensures { OnOk result (ops.new.items ≡ ops.old.items ++ op_of call (codes "ok") ∷ op_of call not_done ∷ []) }
-{
-    let done = Op {
-        call,
-        reply: named(b"ok"),
-    };
-    push_two(
-        ops,
-        done,
-        Op {
-            call,
-            reply: not_done,
-        },
-    )
-}
-
-/// Adds the operation of a balance.
-fn push_balance(alloc: Global, ops: &mut Vec<Op>, balance: u16) -> Result<(), AllocError>
-    ensures { OnOk result (ops.new.items ≡ ops.old.items ++ balance_op balance ∷ []) }
-{
-    let reply = numbered(alloc, b"", balance)?;
-    ops.push(Op {
-        call: named(b"balance"),
-        reply,
-    })?;
-    Ok(())
 }

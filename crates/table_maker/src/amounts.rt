@@ -1,9 +1,15 @@
-//! The parameters of accounts and counters.
+//! Amounts that are put in and taken out: parameters, operations and steps.
 
-ghost use Rattle.std.specs.Prelude.{◌≡◌, ℕ, ◌+◌, ◌-◌, ◌<◌, ◌≤◌, ◌↔◌, length, nat_le, IsTrue};
-ghost use Rattle.std.specs.List.{list_all};
-ghost use Rattle.table_maker.specs.Amounts.{AreAmounts, amount_at, is_amount};
-ghost use Rattle.table_maker.specs.Made.{where_legal};
+ghost use Rattle.std.specs.Prelude.{◌≡◌, ℕ, ◌+◌, ◌-◌, ◌<◌, ◌≤◌, ◌↔◌, true, [], ◌∷◌, ◌++◌, codes, length, nat_le, IsTrue, IfOk, OnOk};
+ghost use Rattle.std.specs.List.{flat_map, list_all};
+ghost use Rattle.type_table.specs.Name.{is_name_byte};
+ghost use Rattle.table_maker.specs.Amounts.{AreAmounts, amount_at, amount_ops, amount_step, is_amount};
+ghost use Rattle.table_maker.specs.Made.{op_of, where_legal};
+
+use crate::family::{push_two, where_legal};
+use crate::names::{named, numbered};
+use std::alloc::{AllocError, Global};
+use type_table::{Name, Op};
 
 /// Whether the cap is 1 to 1,023, and the amounts are 1 to the cap and strictly ascending, at least
 /// one.
@@ -53,9 +59,79 @@ pub fn added(cap: u16, amount: u16, s: u16) -> Option<u16>
     }
 }
 
-/// The number after an amount is taken off, where there is so much.
+/// The number after an amount is taken off, where there is that much.
 pub fn taken_off(amount: u16, s: u16) -> Option<u16>
     ensures { result ≡ where_legal (nat_le amount s) (s - amount) }
 {
     if amount <= s { Some(s - amount) } else { None }
+}
+
+/// The step of an operation of an amount, by its place among the four.
+pub fn amount_step(cap: u16, amount: u16, place: usize, s: u16) -> Option<u16>
+    ensures { result ≡ amount_step cap amount place s }
+{
+    match place {
+        0 => added(cap, amount, s),
+        1 => where_legal((cap as u32) < s as u32 + amount as u32, s),
+        2 => taken_off(amount, s),
+        _ => where_legal(s < amount, s),
+    }
+}
+
+/// The operations of the amounts, four of each, by the words of its two calls: what is put in is `ok` or
+/// `full`, and what is taken out is `ok` or `short`.
+pub fn amounts_ops(
+    alloc: Global,
+    put: &[u8],
+    taken: &[u8],
+    amounts: &[u16],
+) -> Result<Vec<Op>, AllocError>
+    requires put_bytes { list_all is_name_byte put.now ≡ true }
+    requires put_short { length put.now ≤ 27 }
+    requires taken_bytes { list_all is_name_byte taken.now ≡ true }
+    requires taken_short { length taken.now ≤ 27 }
+    ensures { IfOk result (λ ops. ops.items ≡ flat_map (amount_ops put.now taken.now) amounts.now) }
+{
+    let mut ops = Vec::new(alloc);
+    for amount in amounts {
+        push_amount(alloc, &mut ops, put, taken, *amount)?;
+    }
+    Ok(ops)
+}
+
+/// Adds the four operations of an amount.
+fn push_amount(
+    alloc: Global,
+    ops: &mut Vec<Op>,
+    put: &[u8],
+    taken: &[u8],
+    amount: u16,
+) -> Result<(), AllocError>
+    requires put_bytes { list_all is_name_byte put.now ≡ true }
+    requires put_short { length put.now ≤ 27 }
+    requires taken_bytes { list_all is_name_byte taken.now ≡ true }
+    requires taken_short { length taken.now ≤ 27 }
+    ensures { OnOk result (ops.new.items ≡ ops.old.items ++ amount_ops put.now taken.now amount) }
+{
+    push_outcomes(ops, numbered(alloc, put, amount)?, named(b"full"))?;
+    push_outcomes(ops, numbered(alloc, taken, amount)?, named(b"short"))?;
+    Ok(())
+}
+
+/// Adds the operations of a call that is done or isn't.
+fn push_outcomes(ops: &mut Vec<Op>, call: Name, not_done: Name) -> Result<(), AllocError>
+    ensures { OnOk result (ops.new.items ≡ ops.old.items ++ op_of call (codes "ok") ∷ op_of call not_done ∷ []) }
+{
+    let done = Op {
+        call,
+        reply: named(b"ok"),
+    };
+    push_two(
+        ops,
+        done,
+        Op {
+            call,
+            reply: not_done,
+        },
+    )
 }

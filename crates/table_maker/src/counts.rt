@@ -11,7 +11,7 @@ pub fn counts_in_order()
     ensures { CountsInOrder }
 {}
 
-/// How many lists of so many counts have a sum of at most `room`, or 1,025 where there are more
+/// How many lists of this many counts have a sum of at most `room`, or 1,025 where there are more
 /// than 1,024. Takes no memory.
 pub(crate) fn number_within(n: usize, room: u16) -> u16
     requires { room < 1024 }
@@ -43,7 +43,7 @@ fn capped_sum(a: u16, b: u16) -> u16
     (a + b).min(1025)
 }
 
-/// The lists of so many counts with a sum of at most `room`, in lexicographic order.
+/// The lists of this many counts with a sum of at most `room`, in lexicographic order.
 pub(crate) fn counts_within(alloc: Global, n: usize, room: u16) -> Result<Vec<Vec<u16>>, AllocError>
     requires { room < 1024 }
     ensures { IfOk result (λ lists. map (λ counts. counts.items) lists.items ≡ counts_within n room) }

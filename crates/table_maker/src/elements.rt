@@ -6,7 +6,7 @@ ghost use Rattle.table_maker.specs.Elements.{AreElements, element_at, is_short, 
 
 use type_table::Name;
 
-/// Whether the names are elements: at least one, distinct, each of at most so many bytes.
+/// Whether the names are elements: at least one, distinct, each of at most this many bytes.
 pub fn are_elements(most: usize, elements: &[Name]) -> bool
     ensures { IsTrue result ↔ AreElements most elements.now }
 {

@@ -1,11 +1,14 @@
 //! Tables of families.
 
-ghost use Rattle.std.specs.Prelude.{◌≡◌, ℕ, ◌*◌, ◌<◌, [], ◌∷◌, ◌++◌, length, OnOk, IfOk, IfErr};
-ghost use Rattle.table_maker.specs.Made.{Family, HasTable, entries_of, IsTableOfFamily, IsFileOfFamily, where_legal};
+ghost use Rattle.std.specs.Prelude.{◌≡◌, ℕ, ◌*◌, ◌<◌, [], ◌∷◌, ◌++◌, length, map, OnOk, IfOk, IfErr};
+ghost use Rattle.std.specs.Fmt.{decimal};
+ghost use Rattle.std.specs.List.{range_with_len};
+ghost use Rattle.table_maker.specs.Made.{Family, HasTable, entries_of, IsTableOfFamily, IsFileOfFamily, op_of, where_legal};
 ghost use Rattle.table_maker.specs.declared.make_error.MakeError.TheVariants.{NoMemory};
 
 use crate::made_file::make_tables;
 use crate::make_error::MakeError;
+use crate::names::numbered;
 use std::alloc::{AllocError, Global};
 use type_table::{Name, Op, StateSet, TypeTable};
 use type_text::TypeFile;
@@ -98,5 +101,21 @@ pub fn push_two(ops: &mut Vec<Op>, first: Op, second: Op) -> Result<(), AllocErr
 {
     ops.push(first)?;
     ops.push(second)?;
+    Ok(())
+}
+
+/// Adds an operation of a call for each reply from 0 to one less than `count`.
+pub fn push_replies(
+    alloc: Global,
+    ops: &mut Vec<Op>,
+    call: Name,
+    count: u16,
+) -> Result<(), AllocError>
+    ensures { OnOk result (ops.new.items ≡ ops.old.items ++ map (λ n. op_of call (decimal n)) (range_with_len 0 count)) }
+{
+    for n in 0..count {
+        let reply = numbered(alloc, b"", n)?;
+        ops.push(Op { call, reply })?;
+    }
     Ok(())
 }

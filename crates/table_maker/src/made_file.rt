@@ -1,18 +1,21 @@
 ghost use Rattle.std.specs.Prelude.{◌≡◌, true, length, IfOk, IfErr};
 ghost use Rattle.std.specs.List.{list_any};
+ghost use Rattle.equi_cert.specs.Relation.{relates};
+ghost use Rattle.exact_tables.specs.Exact.{IsExact};
 ghost use Rattle.table_checker.specs.declared.condition.Condition.TheVariants.{Forward, Backward};
 ghost use Rattle.table_maker.specs.MadeConflicts.{AreMadeConflicts};
 ghost use Rattle.table_maker.specs.declared.make_error.MakeError.TheVariants.{NoMemory};
 
 use crate::made_conflicts::made_conflicts;
-use crate::made_relation::made_relation;
 use crate::make_error::MakeError;
+use exact_tables::Distances;
 use std::alloc::{AllocError, Global};
 use type_table::{ConflictTable, StateSet, TableKind, TypeTable};
 use type_text::TypeFile;
 
-/// The file of a table and a set of its states that isn't empty, with the relation of
-/// `made_relation` and, for each kind, the pairs whose condition fails at some state of the set.
+/// The file of a table and a set of its states that isn't empty, with the exact relation: a state is
+/// related to another exactly where it looks like it, over all lists of operations. For each kind it
+/// has the pairs whose condition fails at some state of the set.
 ///
 /// # Errors
 ///
@@ -22,6 +25,7 @@ pub fn make_tables(alloc: Global, table: &TypeTable, set: StateSet) -> Result<Ty
     requires some { list_any (λ member. member) set ≡ true }
     ensures table { IfOk result (λ file. file.table ≡ table.now) }
     ensures set { IfOk result (λ file. file.reach ≡ set) }
+    ensures relation { IfOk result (λ file. IsExact file.table (relates file.relation)) }
     ensures undo { IfOk result (λ file. AreMadeConflicts Backward file file.undo) }
     ensures intentions { IfOk result (λ file. AreMadeConflicts Forward file file.intentions) }
     ensures memory { IfErr result (λ error. error ≡ NoMemory) }
@@ -38,8 +42,9 @@ fn bare_file(alloc: Global, table: &TypeTable, set: StateSet) -> Result<TypeFile
     requires some { list_any (λ member. member) set ≡ true }
     ensures table { IfOk result (λ file. file.table ≡ table.now) }
     ensures set { IfOk result (λ file. file.reach ≡ set) }
+    ensures relation { IfOk result (λ file. IsExact file.table (relates file.relation)) }
 {
-    let relation = made_relation(alloc, table)?;
+    let relation = Distances::new(alloc, table)?.relation(alloc, table)?;
     let table = table.copy(alloc)?;
     let ops = table.op_count();
     Ok(TypeFile {

@@ -46,7 +46,7 @@ pub fn numbered(alloc: Global, word: &[u8], number: u16) -> Result<Name, AllocEr
     Ok(named_of(word, digits.as_bytes()))
 }
 
-/// The name of a word and a name behind it.
+/// The name of a word and a name after it.
 pub fn prefixed(word: &[u8], name: Name) -> Name
     requires word { list_all is_name_byte word.now ≡ true }
     requires short { length word.now + length name ≤ 32 }

@@ -1,6 +1,6 @@
 //! Semiqueues: items of several elements, of which a dequeue gives any that is held.
 
-ghost use Rattle.std.specs.Prelude.{◌≡◌, ℕ, ◌+◌, ◌*◌, ◌^◌, ◌<◌, ◌≤◌, ◌++◌, List, map, length, sum, IfOk, OnOk, slice_set};
+ghost use Rattle.std.specs.Prelude.{◌≡◌, ℕ, ◌+◌, ◌*◌, ◌^◌, ◌<◌, ◌≤◌, ◌++◌, ◌↔◌, List, map, length, sum, IsTrue, IfOk, OnOk, slice_set};
 ghost use Rattle.std.specs.List.{position};
 ghost use Rattle.std.specs.Str.{bytes_eq};
 ghost use Rattle.table_maker.specs.Elements.{element_at};
@@ -35,13 +35,13 @@ pub fn make_semiqueue(
 ) -> Result<TypeFile, MakeError>
     ensures { Makes result (AreSemiqueueParameters elements.now capacity) (SemiqueueFits elements.now capacity) (semiqueue elements.now capacity) }
 {
-    if !are_elements(28, elements) || capacity < 1 || 1023 < capacity {
+    if !are_semiqueue_parameters(elements, capacity) {
         return Err(MakeError::BadParameter);
     }
     if 32 < elements.len() || 1024 < number_within(elements.len(), capacity) {
         return Err(MakeError::TooLarge);
     }
-    let ops = ops_of(alloc, elements)?;
+    let ops = queue_ops(alloc, elements)?;
     let states = counts_within(alloc, elements.len(), capacity)?;
     let count = states.len() as u16;
     let rules = Semiqueue {
@@ -50,6 +50,17 @@ pub fn make_semiqueue(
         states,
     };
     make_file(alloc, &rules, named(b"semiqueue"), count, ops)
+}
+
+/// Whether the elements are 1 or more distinct names of at most 28 bytes, and the capacity is 1 to
+/// 1,023.
+pub fn are_semiqueue_parameters(elements: &[Name], capacity: u16) -> bool
+    ensures { IsTrue result ↔ AreSemiqueueParameters elements.now capacity }
+{
+    if capacity < 1 || 1023 < capacity {
+        return false;
+    }
+    are_elements(28, elements)
 }
 
 /// A semiqueue with its states.
@@ -115,7 +126,7 @@ impl Semiqueue<'_> {
         &self.states[s as usize]
     }
 
-    /// The state that holds these counts but for so many of element i.
+    /// The state that holds these counts but with this count of element i.
     fn state_with(&self, counts: &[u16], i: usize, count: u16) -> Option<u16>
         requires { i < length counts.now }
         ensures { result ≡ state_of (states_of self.now.elements.now self.now.capacity) (slice_set counts.now i count) }
@@ -125,7 +136,7 @@ impl Semiqueue<'_> {
     }
 }
 
-/// The place of these counts but for so many of element i among lists.
+/// The place of these counts but with this count of element i among lists.
 fn place_with(lists: &[Vec<u16>], counts: &[u16], i: usize, count: u16) -> Option<usize>
     requires { i < length counts.now }
     ensures { result ≡ position (λ other. bytes_eq other.items (slice_set counts.now i count)) lists.now }
@@ -143,7 +154,7 @@ fn total(counts: &[u16]) -> u16
     counts.iter().sum()
 }
 
-/// Whether a list is another with so many of element i.
+/// Whether a list is another with this count of element i.
 fn is_changed(other: &[u16], counts: &[u16], i: usize, count: u16) -> bool
     requires { i < length counts.now }
     ensures { result ≡ bytes_eq other.now (slice_set counts.now i count) }
@@ -161,7 +172,7 @@ fn is_changed(other: &[u16], counts: &[u16], i: usize, count: u16) -> bool
 }
 
 /// The enqueues of the elements, and then the dequeues.
-fn ops_of(alloc: Global, elements: &[Name]) -> Result<Vec<Op>, AllocError>
+pub fn queue_ops(alloc: Global, elements: &[Name]) -> Result<Vec<Op>, AllocError>
     requires { (i : ℕ) → i < length elements.now → length (element_at elements.now i) ≤ 28 }
     ensures { IfOk result (λ ops. ops.items ≡ map enq_op elements.now ++ map deq_op elements.now) }
 {

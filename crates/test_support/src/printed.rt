@@ -4,7 +4,7 @@ use std::alloc::Global;
 use std::fmt::{Debug, Display};
 use std::test::Fail;
 
-/// That each value is printed as the text behind it. A failure tells what was printed.
+/// That each value is printed as the text after it. A failure says what was printed.
 pub fn are_printed<T: Display>(alloc: Global, rows: &[(T, &str)]) -> Result<(), Fail> {
     for (value, wanted) in rows {
         let text = value.to_string(alloc)?;

@@ -25,7 +25,7 @@ op inc:1 ok
 op dec:1 ok
 step";
 
-/// The counter behind a comment of 200 bytes.
+/// The counter after a comment of 200 bytes.
 pub const COMMENTED: &str =
     "#xxxxxxxxxxxxxxxxxxxxxxxxxxxxxxxxxxxxxxxxxxxxxxxxxxxxxxxxxxxxxxxxxxxxxxxxxxxxxxxxxxxxxxxxxxxxxxxxxxxxxxxxxxxxxxxxxxxxxxxxxxxxxxxxxxxxxxxxxxxxxxxxxxxxxxxxxxxxxxxxxxxxxxxxxxxxxxxxxxxxxxxxxxxxxxxxxxxxxxx
 type counter

@@ -1,5 +1,5 @@
 -- The text of an answer says what the answer does.
-use Rattle.std.proofs.Common.{◌≡◌, ◌↔◌, ◌∙◌, ℕ, List, Bool, true, Option, None, Some, Ok}
+use Rattle.std.proofs.Common.{◌≡◌, ◌↔◌, ◌∙◌, ℕ, List, Bool, true, Option, None, Some, Ok, Err}
 use Rattle.command_files.specs.Answers.{IsThis}
 use Rattle.command_files.specs.declared.status.Verdict.{Verdict}
 use Rattle.command_files.specs.declared.status.Verdict.TheVariants.{Yes, No}
@@ -8,7 +8,8 @@ use Rattle.table_checker.specs.Laws.{CoversType}
 use Rattle.type_table.specs.declared.kind.Kind.{Kind}
 use Rattle.type_text.specs.Canonical.{canonical_text}
 use Rattle.type_text.specs.declared.type_file.TypeFile.{TypeFile}
-use Rattle.type_commands.specs.Made.{IsMadeOf, MakesFamily, MakesFor, MakesTables}
+use Rattle.table_maker.specs.declared.make_error.MakeError.TheVariants.{BadParameter}
+use Rattle.type_commands.specs.Made.{CannotBeMade, IsMadeOf, MakesFamily, MakesFor, MakesTables}
 use Rattle.type_commands.specs.Request.{Wanted}
 use Rattle.type_commands.specs.Verdict.{SaysOf, yes_line}
 
@@ -23,6 +24,11 @@ pub family_says : (wanted : Option Wanted) (file : TypeFile) → MakesFor wanted
 family_says None file makes v text this = absurd makes
 family_says (Some wanted) file makes Yes text this = (file, makes, this.1)
 family_says (Some wanted) file makes No text this = absurd (let clash = this.0 in cc)
+
+-- what is asked for out of its range can't be made
+pub bad_parameter : (wanted : Option Wanted) → MakesFor wanted (Err BadParameter) → CannotBeMade wanted
+bad_parameter None bad = bad
+bad_parameter (Some wanted) bad = λ good fits. absurd (bad good)
 
 -- the text of a file with made tables
 pub tables_say : (given file : TypeFile) → IsMadeOf given file → (v : Verdict) (text : List ℕ) → IsThis Yes (canonical_text file) v text → MakesTables given v text

@@ -20,7 +20,7 @@ pub record IsMadeFor (wanted : Wanted) (file : TypeFile) : Type 0 where
   pub fits : Fits wanted
   pub is_family : IsFileOfFamily (family_of wanted) file
 
--- the file of what is wanted, or why there is none; memory is wanted only where something is wanted
+-- the file of what is asked for, or why there is none; memory is refused only where something is asked for
 abbrev pub MakesFor : Option Wanted → Result TypeFile MakeError → Type 0
 MakesFor None (Err BadParameter) = Unit {0}
 MakesFor None _ = ⊥
@@ -29,12 +29,12 @@ MakesFor (Some wanted) (Err BadParameter) = IsGood wanted → ⊥
 MakesFor (Some wanted) (Err TooLarge) = IsGood wanted × (Fits wanted → ⊥)
 MakesFor (Some wanted) (Err NoMemory) = Unit {0}
 
--- what is wanted is made, and the text is that of its file
+-- what is asked for is made, and the text is that of its file
 abbrev pub MakesFamily : Option Wanted → Answers
 MakesFamily (Some wanted) Yes text = (file : TypeFile) × IsMadeFor wanted file × (text ≡ canonical_text file)
 MakesFamily wanted verdict text = ⊥
 
--- the words want nothing, or what can't be made
+-- the words ask for nothing, or what can't be made
 abbrev pub CannotBeMade : Option Wanted → Type 0
 CannotBeMade None = Unit {0}
 CannotBeMade (Some wanted) = IsGood wanted → Fits wanted → ⊥

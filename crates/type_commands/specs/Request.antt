@@ -1,6 +1,6 @@
 -- What `make` is asked for.
 use Rattle.std.specs.Borrow.{Bor}
-use Rattle.std.specs.Prelude.{map, ◌≡◌, ◌≢◌, ℕ, ◌^◌, List, [], ◌∷◌, nat_lt, Option, Some, None, Result, Ok, Err, option_map, option_and_then, codes, if◌then◌else◌}
+use Rattle.std.specs.Prelude.{map, ◌≡◌, ◌≢◌, ℕ, ◌^◌, List, [], ◌∷◌, nat_lt, Option, Some, None, Result, Ok, Err, option_map, option_and_then, codes, length, ◌==◌, if◌then◌else◌}
 use Rattle.std.specs.Str.{bytes_eq}
 use Rattle.line_text.specs.Text.{number_of}
 use Rattle.type_table.specs.Name.{is_name}
@@ -11,6 +11,9 @@ use Rattle.table_maker.specs.Elements.{AreElements}
 use Rattle.table_maker.specs.Made.{Family}
 use Rattle.table_maker.specs.Semiqueue.{semiqueue as semiqueue_family, AreSemiqueueParameters, SemiqueueFits}
 use Rattle.table_maker.specs.Set.{set as set_family, SetFits}
+use Rattle.table_families.specs.Queue.{queue as queue_family, QueueFits}
+use Rattle.table_families.specs.Seats.{seats as seats_family, AreSeats, SeatsFit}
+use Rattle.table_families.specs.Stock.{stock as stock_family, StockFits}
 use Rattle.table_maker.specs.declared.make_error.MakeError.{MakeError}
 use Rattle.table_maker.specs.declared.make_error.MakeError.TheVariants.{BadParameter, TooLarge, NoMemory}
 use Rattle.type_commands.specs.declared.request.Request.{Request}
@@ -28,15 +31,21 @@ texts words = map (λ w. w.now) words
 pub data Wanted : Type 0 where
   account : ℕ → List ℕ → Wanted
   counter : ℕ → List ℕ → Wanted
+  stock : ℕ → List ℕ → Wanted
   set : List Text → Wanted
   semiqueue : List Text → ℕ → Wanted
+  queue : List Text → ℕ → Wanted
+  seats : ℕ → Wanted
 
--- what a request wants
+-- what a request asks for
 abbrev pub wanted_by : Request → Wanted
 wanted_by (request.Account cap amounts) = account cap amounts.items
 wanted_by (request.Counter cap amounts) = counter cap amounts.items
+wanted_by (request.Stock cap amounts) = stock cap amounts.items
 wanted_by (request.Set elements) = set elements.items
 wanted_by (request.Semiqueue elements capacity) = semiqueue elements.items capacity
+wanted_by (request.Queue elements capacity) = queue elements.items capacity
+wanted_by (request.Seats count) = seats count
 
 -- ---- words
 
@@ -58,17 +67,31 @@ module _ {T : Type 0} where
 abbrev pub of_amounts : (ℕ → List ℕ → Wanted) → Text → List Text → Option Wanted
 of_amounts family size items = option_and_then (λ cap. option_map (family cap) (each_of parameter_of items)) (parameter_of size)
 
--- what FAMILY, SIZE and the ITEMs want; the SIZE of a set is 0
+-- a size and elements
+abbrev pub of_elements : (List Text → ℕ → Wanted) → Text → List Text → Option Wanted
+of_elements family size items = option_and_then (λ capacity. option_map (λ elements. family elements capacity) (each_of name_of items)) (parameter_of size)
+
+-- elements alone, where the size is 0
+abbrev pub of_set : Text → List Text → Option Wanted
+of_set size items = if bytes_eq size (codes "0") then option_map set (each_of name_of items) else None
+
+-- a size alone
+abbrev pub of_seats : Text → List Text → Option Wanted
+of_seats size items = if length items == 0 then option_map seats (parameter_of size) else None
+
+-- what FAMILY, SIZE and the ITEMs ask for
 abbrev pub wanted_of : Text → Text → List Text → Option Wanted
 wanted_of family size items =
     if bytes_eq family (codes "account") then of_amounts account size items
     else if bytes_eq family (codes "counter") then of_amounts counter size items
-    else if bytes_eq family (codes "set") then (if bytes_eq size (codes "0") then option_map set (each_of name_of items) else None)
-    else if bytes_eq family (codes "semiqueue")
-    then option_and_then (λ capacity. option_map (λ elements. semiqueue elements capacity) (each_of name_of items)) (parameter_of size)
+    else if bytes_eq family (codes "stock") then of_amounts stock size items
+    else if bytes_eq family (codes "set") then of_set size items
+    else if bytes_eq family (codes "semiqueue") then of_elements semiqueue size items
+    else if bytes_eq family (codes "queue") then of_elements queue size items
+    else if bytes_eq family (codes "seats") then of_seats size items
     else None
 
--- the result is what the words say, or `BadParameter` where they say nothing; memory is wanted only where they say something
+-- the result is what the words say, or `BadParameter` where they say nothing; memory is refused only where they say something
 abbrev pub Gives : {T V : Type 0} → Option T → (V → T) → Result V MakeError → Type 0
 Gives said shown (Ok value) = said ≡ Some (shown value)
 Gives said shown (Err BadParameter) = said ≡ None
@@ -81,19 +104,28 @@ Gives said shown (Err NoMemory) = said ≢ None
 abbrev pub IsGood : Wanted → Type 0
 IsGood (account cap amounts) = AreAmounts cap amounts
 IsGood (counter cap amounts) = AreAmounts cap amounts
+IsGood (stock cap amounts) = AreAmounts cap amounts
 IsGood (set elements) = AreElements 25 elements
 IsGood (semiqueue elements capacity) = AreSemiqueueParameters elements capacity
+IsGood (queue elements capacity) = AreSemiqueueParameters elements capacity
+IsGood (seats count) = AreSeats count
 
 -- the family isn't too large at them
 abbrev pub Fits : Wanted → Type 0
 Fits (account cap amounts) = AccountFits cap amounts
 Fits (counter cap amounts) = CounterFits amounts
+Fits (stock cap amounts) = StockFits amounts
 Fits (set elements) = SetFits elements
 Fits (semiqueue elements capacity) = SemiqueueFits elements capacity
+Fits (queue elements capacity) = QueueFits elements capacity
+Fits (seats count) = SeatsFit count
 
 -- the family at them
 abbrev pub family_of : Wanted → Family
 family_of (account cap amounts) = account_family cap amounts
 family_of (counter cap amounts) = counter_family cap amounts
+family_of (stock cap amounts) = stock_family cap amounts
 family_of (set elements) = set_family elements
 family_of (semiqueue elements capacity) = semiqueue_family elements capacity
+family_of (queue elements capacity) = queue_family elements capacity
+family_of (seats count) = seats_family count

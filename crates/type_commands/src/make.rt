@@ -16,7 +16,7 @@ use type_text::{Out, TypeFile};
 ///
 /// # Errors
 ///
-/// The words want nothing that can be made, memory was refused, or the output failed.
+/// The words ask for nothing that can be made, memory was refused, or the output failed.
 pub fn make_family<'a, W: Out>(
     alloc: Global,
     family: &str,

@@ -2,12 +2,12 @@
 
 ghost use Rattle.std.specs.Prelude.{◌≡◌, None, IfOk, IfErr, filter_map, is_some};
 ghost use Rattle.std.specs.List.{list_all};
-ghost use Rattle.type_commands.specs.Request.{texts};
-ghost use Rattle.type_commands.specs.Request.{Fits, Gives, IsGood, each_of, family_of, name_of, parameter_of, wanted_by, wanted_of};
+ghost use Rattle.type_commands.specs.Request.{Fits, Gives, IsGood, each_of, family_of, name_of, of_seats, of_set, parameter_of, texts, wanted_by, wanted_of};
 ghost use Rattle.table_maker.specs.Made.{Makes};
 
 use line_text::number_of;
 use std::alloc::{AllocError, Global};
+use table_families::{make_queue, make_seats, make_stock};
 use table_maker::{MakeError, make_account, make_counter, make_semiqueue, make_set};
 use type_table::Name;
 use type_text::TypeFile;
@@ -29,6 +29,13 @@ pub enum Request {
         /// The steps up and down.
         amounts: Vec<u16>,
     },
+    /// A number from 0 to a cap, of which some amounts are given and taken.
+    Stock {
+        /// The greatest number.
+        cap: u16,
+        /// What is given and taken.
+        amounts: Vec<u16>,
+    },
     /// A set of some elements.
     Set {
         /// What may be in it.
@@ -41,16 +48,30 @@ pub enum Request {
         /// The most items that are held at once.
         capacity: u16,
     },
+    /// Items of some elements, of which a dequeue gives the one that is longest there.
+    Queue {
+        /// What may be held.
+        elements: Vec<Name>,
+        /// The most items that are held at once.
+        capacity: u16,
+    },
+    /// Seats that are free, held or booked.
+    Seats {
+        /// How many there are.
+        count: u16,
+    },
 }
 
 /// The request of the words of `make`: FAMILY, SIZE and the ITEMs.
 ///
-/// SIZE is the cap of an account or a counter, the capacity of a semiqueue, and `0` for a set.
+/// SIZE is the cap of an account, a counter or a stock, the capacity of a semiqueue or a queue, how many
+/// seats there are, and `0` for a set.
 ///
 /// # Errors
 ///
-/// `BadParameter` where the family is none of the four, a word isn't a number below 65,536 or a name
-/// where one is wanted, or the SIZE of a set isn't `0`. Otherwise `NoMemory` where memory is refused.
+/// `BadParameter` where the family is none of the seven, a word isn't a number below 65,536 or a name
+/// where one is asked for, the SIZE of a set isn't `0`, or seats have an ITEM. Otherwise `NoMemory` where
+/// memory is refused.
 pub fn request_of(
     alloc: Global,
     family: &str,
@@ -68,15 +89,46 @@ pub fn request_of(
             cap: parameter_of(size)?,
             amounts: amounts_of(alloc, items)?,
         }),
-        "set" if size == "0" => Ok(Request::Set {
-            elements: elements_of(alloc, items)?,
+        "stock" => Ok(Request::Stock {
+            cap: parameter_of(size)?,
+            amounts: amounts_of(alloc, items)?,
         }),
+        "set" => set_of(alloc, size, items),
         "semiqueue" => Ok(Request::Semiqueue {
             capacity: parameter_of(size)?,
             elements: elements_of(alloc, items)?,
         }),
+        "queue" => Ok(Request::Queue {
+            capacity: parameter_of(size)?,
+            elements: elements_of(alloc, items)?,
+        }),
+        "seats" => seats_of(size, items),
         _ => Err(MakeError::BadParameter),
     }
+}
+
+/// What is asked for of a set, whose SIZE is `0`.
+fn set_of(alloc: Global, size: &str, items: &[&str]) -> Result<Request, MakeError>
+    ensures { Gives (of_set size.now (texts items.now)) wanted_by result }
+{
+    if size != "0" {
+        return Err(MakeError::BadParameter);
+    }
+    Ok(Request::Set {
+        elements: elements_of(alloc, items)?,
+    })
+}
+
+/// What is asked for of seats, which have no ITEM.
+fn seats_of(size: &str, items: &[&str]) -> Result<Request, MakeError>
+    ensures { Gives (of_seats size.now (texts items.now)) wanted_by result }
+{
+    if !items.is_empty() {
+        return Err(MakeError::BadParameter);
+    }
+    Ok(Request::Seats {
+        count: parameter_of(size)?,
+    })
 }
 
 /// The number that a word is, where it is below 65,536, which no parameter reaches.
@@ -163,7 +215,10 @@ pub fn make(alloc: Global, request: &Request) -> Result<TypeFile, MakeError>
     match request {
         Request::Account { cap, amounts } => make_account(alloc, *cap, amounts),
         Request::Counter { cap, amounts } => make_counter(alloc, *cap, amounts),
+        Request::Stock { cap, amounts } => make_stock(alloc, *cap, amounts),
         Request::Set { elements } => make_set(alloc, elements),
         Request::Semiqueue { elements, capacity } => make_semiqueue(alloc, elements, *capacity),
+        Request::Queue { elements, capacity } => make_queue(alloc, elements, *capacity),
+        Request::Seats { count } => make_seats(alloc, *count),
     }
 }

@@ -1,12 +1,15 @@
--- Facts of lists of anything: of each element, of what is at a place and of what a filter keeps; and of tests of numbers.
-use Rattle.std.proofs.Common.{◌≡◌, ℕ, zero, suc, ◌+◌, ◌<◌, ◌≤◌, ◌==◌, Bool, true, false, not, cond, eqb, ◌⊎◌, List, [], ◌∷◌, ◌++◌, map, filter, length, set, take, Some, slice_get, refl, sym, ap, subst, ◌∙◌, inl, inr, zero-add, arith}
+-- Facts of lists of anything: of each element, of what is at a place, of what a search finds and of what a filter keeps; and of tests of numbers and of the bits of words.
+use Rattle.std.proofs.Common.{◌≡◌, ◌≢◌, ℕ, zero, suc, ◌+◌, ◌<◌, ◌≤◌, ◌==◌, Bool, true, false, not, cond, eqb, ◌⊎◌, List, [], ◌∷◌, ◌++◌, map, filter, length, set, take, drop, get_or, All, Some, None, slice_get, bit_and, refl, sym, ap, subst, ◌∙◌, inl, inr, zero-add, arith}
 use Rattle.std.specs.Cmp.{both_ways}
-use Rattle.std.specs.List.{AllByRecursion, position, position_or_len, range_with_len}
+use Rattle.std.specs.Int.{bit_at}
+use Rattle.std.specs.List.{AllByRecursion, find, list_any, position, position_or_len, range_with_len}
 use Rattle.std.proofs.lemmas.Bool.{cases_Bool, cases_lt, eqb-true, eq-eqb}
 use Rattle.std.proofs.lemmas.Bool.Decides.{nat_tests}
-use Rattle.std.proofs.lemmas.List.{length-map, map-id, take_more}
+use Rattle.std.proofs.lemmas.List.{length-map, map-id, take_more, drop_more, get_or-drop}
+use Rattle.std.proofs.lemmas.List.Elements.{All-head, All-tail}
 use Rattle.std.proofs.lemmas.List.FromFn.{map-range_with_len_more}
 use Rattle.std.proofs.lemmas.List.Sums.{count_by-le-length, length-filter}
+use Rattle.std.proofs.lemmas.Nat.Bits.{bit_at_and, bit_at-zero}
 use Rattle.std.proofs.lemmas.Option.{none-some, same_Some, get_or_from_slice_get, slice_get_within}
 
 -- ---- each element
@@ -49,6 +52,12 @@ each-passes P test (x ∷ V) p =
 pub each-filter : {E : Type 0} (P : E → Type 0) (test : E → Bool) (V : List E) → AllByRecursion P V → AllByRecursion P (filter test V)
 each-filter P test V p = each-passes P test V (each-weaker (λ x here _. here) V p)
 
+-- and of each of the first ones
+pub each-take : {E : Type 0} (P : E → Type 0) (n : ℕ) (V : List E) → AllByRecursion P V → AllByRecursion P (take n V)
+each-take P zero V p = tt
+each-take P (suc n) [] p = tt
+each-take P (suc n) (x ∷ V) p = (p.0, each-take P n V p.1)
+
 -- and of one that is found at a place
 pub each-found : {E : Type 0} (P : E → Type 0) (V : List E) (i : ℕ) (x : E) → AllByRecursion P V → slice_get V i ≡ Some x → P x
 each-found P [] i x p there = absurd (none-some x there)
@@ -68,13 +77,13 @@ element_at [] i less = absurd (omega (arith, less))
 element_at (x ∷ V) zero less = (x, refl)
 element_at (x ∷ V) (suc i) less = element_at V i (omega (arith, less))
 
--- what is found is found with more behind it
+-- what is found is found with more after it
 pub found-front : {E : Type 0} (V W : List E) (i : ℕ) (x : E) → slice_get V i ≡ Some x → slice_get (V ++ W) i ≡ Some x
 found-front [] W i x there = absurd (none-some x there)
 found-front (y ∷ V) W zero x there = there
 found-front (y ∷ V) W (suc i) x there = found-front V W i x there
 
--- and at a place inside a list there is the same with more behind it
+-- and at a place inside a list there is the same with more after it
 pub slice_get-front : {E : Type 0} (V W : List E) (i : ℕ) → i < length V → slice_get (V ++ W) i ≡ slice_get V i
 slice_get-front [] W i inside = absurd (omega (arith, inside))
 slice_get-front (x ∷ V) W zero inside = refl
@@ -102,6 +111,14 @@ found-set [] i x inside = absurd (omega (arith, inside))
 found-set (y ∷ V) zero x inside = refl
 found-set (y ∷ V) (suc i) x inside = found-set V i x (omega (arith, inside))
 
+-- what was written at another place changes nothing
+pub found-set_other : {E : Type 0} (V : List E) (i j : ℕ) (x : E) → j ≢ i → slice_get (set V i x) j ≡ slice_get V j
+found-set_other [] i j x other = refl
+found-set_other (y ∷ V) zero zero x other = absurd (other refl)
+found-set_other (y ∷ V) zero (suc j) x other = refl
+found-set_other (y ∷ V) (suc i) zero x other = refl
+found-set_other (y ∷ V) (suc i) (suc j) x other = found-set_other V i j x (λ same. other (ap suc same))
+
 -- what is found where x was written at a place is x, or was found at another place before
 pub cases-set : {E : Type 0} (V : List E) (i : ℕ) (x : E) (j : ℕ) (y : E) → slice_get (set V i x) j ≡ Some y →
     ((j ≡ i) × (x ≡ y)) ⊎ (((j == i) ≡ false) × (slice_get V j ≡ Some y))
@@ -120,6 +137,20 @@ pub found-map : {A B : Type 0} (f : A → B) (V : List A) (i : ℕ) (b : B) → 
 found-map f [] i b there = absurd (none-some b there)
 found-map f (a ∷ V) zero b there = (a, refl, same_Some (f a) b there)
 found-map f (a ∷ V) (suc i) b there = found-map f V i b there
+
+-- where two lists are one from a place on, what is read there in the one is what is in the other
+pub same_there : {E : Type 0} (old new : List E) (i : ℕ) (x : E) → drop i new ≡ drop i old → x ≡ get_or new i x → x ≡ get_or old i x
+same_there old new i x rest read =
+    let at : i + 0 ≡ i = omega arith in
+    read ∙ sym (ap (λ n. get_or new n x) at) ∙ sym (get_or-drop i new 0 x) ∙ ap (λ xs. get_or xs 0 x) rest ∙ get_or-drop i old 0 x ∙ ap (λ n. get_or old n x) at
+
+-- so it is the first of what is left
+pub next_there : {E : Type 0} (old new : List E) (i : ℕ) (x : E) → drop i new ≡ drop i old → i < length old → x ≡ get_or new i x → drop i old ≡ x ∷ drop (i + 1) old
+next_there old new i x rest within read = drop_more old i x within ∙ ap (λ y. y ∷ drop (i + 1) old) (sym (same_there old new i x rest read))
+
+-- and what holds of each element holds of it
+pub each_there : {E : Type 0} (P : E → Type 0) (old new : List E) (i : ℕ) (x : E) → All P old → drop i new ≡ drop i old → i < length old → x ≡ get_or new i x → P x
+each_there P old new i x all rest within read = subst P (sym (same_there old new i x rest read)) (all i x within)
 
 -- the first elements, up to the one at a place
 pub take-found : {E : Type 0} (V : List E) (i : ℕ) (x : E) → slice_get V i ≡ Some x → take (i + 1) V ≡ take i V ++ x ∷ []
@@ -159,6 +190,25 @@ position_or_len-map p f (a ∷ V) = ap (λ n. cond (not (p (f a))) (1 + n) 0) (p
 pub position-map : {A B : Type 0} (p : B → Bool) (f : A → B) (V : List A) → position p (map f V) ≡ position (λ a. p (f a)) V
 position-map p f V = rw (position_or_len-map p f V, length-map V f) refl
 
+-- where no element passes, none is found
+pub find_none : {E : Type 0} (test : E → Bool) (V : List E) → All (λ x. test x ≡ false) V → find test V ≡ None
+find_none test [] none = refl
+find_none test (x ∷ V) none = rw (All-head (λ y. test y ≡ false) x V none) (find_none test V (All-tail (λ y. test y ≡ false) x V none))
+
+-- and none is there
+pub none_any : {E : Type 0} (V : List E) → list_any (λ (x : E). false) V ≡ false
+none_any [] = refl
+none_any (x ∷ V) = none_any V
+
+-- tests that agree on each element find the same
+pub find_same : {E : Type 0} (first second : E → Bool) (V : List E) → AllByRecursion (λ x. first x ≡ second x) V → find first V ≡ find second V
+find_same first second [] same = refl
+find_same first second (x ∷ V) same =
+    elim (cases_Bool (second x)) [
+      | inl passes ↦ rw (same.0, passes) refl
+      | inr fails ↦ rw (same.0, fails) (find_same first second V same.1)
+    ]
+
 -- ---- what a filter keeps
 
 -- no more than there is
@@ -169,6 +219,11 @@ filter-length test V = let counted = count_by-le-length test V in omega (arith, 
 pub filter-none : {E : Type 0} (test : E → Bool) (V : List E) → AllByRecursion (λ x. test x ≡ false) V → filter test V ≡ []
 filter-none test [] each = refl
 filter-none test (x ∷ V) each = rw (each.0) (filter-none test V each.1)
+
+-- all, where each passes
+pub filter-all : {E : Type 0} (test : E → Bool) (V : List E) → AllByRecursion (λ x. test x ≡ true) V → filter test V ≡ V
+filter-all test [] each = refl
+filter-all test (x ∷ V) each = rw (each.0) (ap (λ rest. x ∷ rest) (filter-all test V each.1))
 
 -- all of mine, in a part that has all of mine
 pub mine-within : {E : Type 0} (test mine : E → Bool) (V : List E) → ((e : E) → mine e ≡ true → test e ≡ true) → filter mine (filter test V) ≡ filter mine V
@@ -206,3 +261,10 @@ eqb-sym a b = both_ways (a == b) (b == a) (λ is. eq-eqb b a (sym (eqb-true a b 
 -- so they differ in either order
 pub differ_turned : (a t : ℕ) → eqb t a ≡ false → eqb a t ≡ false
 differ_turned a t other = eqb-sym a t ∙ other
+
+-- ---- bits of words
+
+-- what is in one of two words that have no bit in common isn't in the other
+pub bits_apart : (row word k : ℕ) → bit_and row word ≡ 0 → bit_at word k ≡ 1 → bit_at row k ≡ 0
+bits_apart row word k apart marked =
+    let e = sym (bit_at_and row word k) ∙ ap (λ n. bit_at n k) apart ∙ bit_at-zero k in omega (arith, e, marked)

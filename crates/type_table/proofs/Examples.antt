@@ -17,7 +17,7 @@ legal_inside T s k legal =
       | inr above ↦ absurd (false≢true (rw (le-ltb k (length T.ops) above) at legal))
     ]
 
--- what holds at each of so many states
+-- what holds at each of three states
 pub at_three : (P : ℕ → Type 0) → P 0 → P 1 → P 2 → (s : ℕ) → three_states s ≡ true → P s
 at_three P zeroth first second s inside =
     below_more P 2 (below_more P 1 (below_more P 0 (below_none P) zeroth) first) second s (ltb-true s 3 inside)

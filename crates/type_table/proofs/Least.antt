@@ -63,7 +63,7 @@ true_or test n k (Some j) passes named before is = before is
 true_or test n k None true named before is = let same : n ≡ k = cc in ap test (sym same) ∙ named
 true_or test n k None false named before is = cc
 
-first_below-passes : (test : ℕ → Bool) (n k : ℕ) → first_below n test ≡ Some k → test k ≡ true
+pub first_below-passes : (test : ℕ → Bool) (n k : ℕ) → first_below n test ≡ Some k → test k ≡ true
 first_below-passes test zero k is = cc
 first_below-passes test (suc n) k is = true_or test n k (first_below n test) (test n) refl (first_below-passes test n k) is
 

@@ -4,13 +4,13 @@ use Rattle.std.specs.List.{slice_get}
 use Rattle.std.proofs.lemmas.Bool.{false≢true, lt-ltb}
 use Rattle.std.proofs.lemmas.Option.{unwrap_or-slice_get}
 use Rattle.type_table.specs.Table.{Table, next}
-use Rattle.type_table.specs.Run.{run, IsLegal, AreEqui}
+use Rattle.type_table.specs.Run.{run, next_of, IsLegal, AreEqui}
 use Rattle.type_table.specs.Commute.{CommuteForward}
 use Rattle.type_table.specs.Laws.{RunsAlong}
 
 -- ---- steps
 
--- an entry that may not stand at all, as one that may be empty
+-- an entry that may be missing, as one that may be empty
 flat : (o : Option (Option ℕ)) → option_and_then (λ entry. entry) o ≡ unwrap_or o None
 flat None = refl
 flat (Some entry) = refl
@@ -41,7 +41,11 @@ legal-somewhere T (Some s) w legal = refl
 pub from_state : (T : Table) (o : Option ℕ) (w : List ℕ) → IsLegal T o w → (t : ℕ) × (o ≡ Some t)
 from_state T o w h = some_state o (legal-somewhere T o w h)
 
--- where there is none, a run leads nowhere
+-- so nothing is legal where there is none
+pub nothing_legal : (T : Table) (w : List ℕ) → IsLegal T None w → ⊥
+nothing_legal T w legal = false≢true (legal-somewhere T None w legal)
+
+-- and a run from there leads nowhere
 pub run_from_none : (T : Table) (ks : List ℕ) → run T None ks ≡ None
 run_from_none T [] = refl
 run_from_none T (k ∷ ks) = run_from_none T ks
@@ -61,8 +65,17 @@ pub related_here : (T : Table) (R : Option ℕ → Option ℕ → Type 0) (o : O
 related_here T R o t v w e h = rw e h
 
 -- the front of a legal list is legal
-pub legal-front : RunsAlong → (T : Table) (from : Option ℕ) (v w : List ℕ) → IsLegal T from (v ++ w) → IsLegal T from v
-legal-front along T from v w legal = legal-somewhere T (run T from v) w (rw (along T from v w) at legal)
+pub legal-front : (T : Table) (from : Option ℕ) (v w : List ℕ) → IsLegal T from (v ++ w) → IsLegal T from v
+legal-front T from [] w legal = legal-somewhere T from w legal
+legal-front T from (k ∷ v) w legal = legal-front T (next_of T from k) v w legal
+
+-- and what comes after it is legal in the state after it
+pub legal-behind : RunsAlong → (T : Table) (from : Option ℕ) (v w : List ℕ) (s : ℕ) → run T from v ≡ Some s → IsLegal T from (v ++ w) → IsLegal T (Some s) w
+legal-behind along T from v w s reached legal = rw (along T from v w, reached) at legal
+
+-- the converse
+pub legal-after : RunsAlong → (T : Table) (from : Option ℕ) (v w : List ℕ) (s : ℕ) → run T from v ≡ Some s → IsLegal T (Some s) w → IsLegal T from (v ++ w)
+legal-after along T from v w s reached legal = rw (along T from v w, reached) legal
 
 -- ---- the other way round
 

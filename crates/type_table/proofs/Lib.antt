@@ -7,6 +7,7 @@ pub mod Least
 pub mod Legal
 pub mod Lists
 pub mod Padding
+pub mod Results
 pub mod Runs
 pub mod Steps
 pub mod Twins

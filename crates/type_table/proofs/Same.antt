@@ -1,4 +1,4 @@
--- What `==` tells of the parts of a table.
+-- What `==` says of the parts of a table.
 use Rattle.std.proofs.Common.{◌≡◌, ℕ, Bool, true, eqb, List, Option, Some, None, refl, sym, ap}
 use Rattle.std.specs.Bool.{Decides}
 use Rattle.std.specs.Cmp.{unsigned_Decides, booleans_Decides}

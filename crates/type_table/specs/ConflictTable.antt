@@ -13,7 +13,7 @@ row rows p = slice_index_or rows p []
 abbrev pub conflicts : List (List Bool) → ℕ → ℕ → Bool
 conflicts rows p q = slice_index_or (row rows p) q false
 
--- so many rows of so many cells
+-- this many rows of this many cells
 pub record IsSquare (ops : ℕ) (rows : List (List Bool)) : Type 0 where
   pub height : length rows ≡ ops
   pub width : (p : ℕ) → p < ops → length (row rows p) ≡ ops

@@ -1,9 +1,9 @@
--- How a short list lies in a buffer of fixed size. The lemmas say that nothing is lost, as a `Model` asks.
+-- How a short list is kept in a buffer of fixed size. The lemmas say that nothing is lost, as a `Model` asks.
 use Rattle.std.specs.Prelude.{◌≡◌, ℕ, ◌-◌, ◌≤◌, List, ◌++◌, length, take, drop, replicate}
 use Rattle.std.proofs.Common.{arith}
 use Rattle.std.proofs.lemmas.List.{take-append-drop, length-take-le}
 
--- a buffer of so many cells, of which those behind the first len are blank
+-- a buffer of this many cells, of which those after the first len are blank
 pub record IsPadded {A : Type 0} (size : ℕ) (blank : A) (cells : List A) (len : ℕ) : Type 0 where
   pub whole : length cells ≡ size
   pub within : len ≤ size

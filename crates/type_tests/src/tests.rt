@@ -1,5 +1,6 @@
 //! The tests of types, and of the lines and outputs of their texts.
 
+mod apart;
 mod checked;
 mod lines;
 mod number_files;

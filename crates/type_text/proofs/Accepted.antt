@@ -102,7 +102,7 @@ ops_of-take lines i =
     ap (λ xs. length (ops_of xs)) (sym (take-append-drop i lines)) ∙ ap length (filter_map-append op_in (take i lines) (drop i lines)) ∙ length-append (ops_of (take i lines)) (ops_of (drop i lines)) in
     omega (arith, whole, op_count-ops_of (take i lines))
 
--- where an `op` line stands, there is an operation
+-- where there is an `op` line, there is an operation
 some_op : (lines : List TypeLine) (op : Op) → Contains lines (Operation op) → 0 < length (ops_of lines)
 some_op lines op h =
     let split : ops_of lines ≡ ops_of (take h.0 lines) ++ ops_of (drop h.0 lines) = ap ops_of (sym (take-append-drop h.0 lines)) ∙ filter_map-append op_in (take h.0 lines) (drop h.0 lines) in
@@ -124,7 +124,7 @@ twins-ops_of op (End ∷ lines) = twins-ops_of op lines
 
 -- ---- states
 
--- what a line is told of the states is at most what the text says
+-- what a line knows of the states is at most what the text says
 states_of-take : (lines : List TypeLine) (i : ℕ) → states_of (take i lines) ≤ states_of lines
 states_of-take [] zero = omega arith
 states_of-take [] (suc i) = omega arith
@@ -148,7 +148,7 @@ front_singles (suc (suc (suc k))) h = absurd (omega (arith, h))
 at_front : (lines : List TypeLine) → AreInOrder type_rules lines → (rank : ℕ) → rank ≤ 2 → (x : TypeLine) × (slice_get lines rank ≡ Some x) × (rank_of x ≡ rank)
 at_front lines order rank h = order.singles_in_front rank (omega (arith, h)) (λ k k_in. front_singles k (omega (arith, h, k_in)))
 
--- a line that the text contains passed its tests behind some of the others
+-- a line that the text contains passed its tests after some of the others
 passed_in : (lines : List TypeLine) → AreInOrder type_rules lines → (x : TypeLine) → Contains lines x → (i : ℕ) × (slice_get lines i ≡ Some x) × HasPassed type_rules (take i lines) x
 passed_in lines order x h =
     let at : slice_get lines h.0 ≡ Some x = slice_get-get_or lines h.0 x h.1 ∙ ap Some h.2 in
@@ -226,14 +226,14 @@ are_type_lines lines order =
     let initial = initial_line third.0 third.2 in
     let initial_at : slice_get lines 2 ≡ Some (Initial initial.0) = third.1 ∙ ap Some initial.1 in
     let initial_in = ltb-true initial.0 (states_of (take 2 lines)) ((order.passed 2 (Initial initial.0) initial_at).in_range) in
-    let stands = order.needed.each 3 (omega arith) refl in
-    let op = op_line stands.item stands.ranked in
-    let op_at : slice_get lines stands.place ≡ Some (Operation op.0) = stands.at ∙ ap Some op.1 in
+    let in_list = order.needed.each 3 (omega arith) refl in
+    let op = op_line in_list.item in_list.ranked in
+    let op_at : slice_get lines in_list.place ≡ Some (Operation op.0) = in_list.at ∙ ap Some op.1 in
     record {
       name = (name.0, first.1 ∙ ap Some name.1);
       states = (states.0, states_at, leb-true 1 states.0 states_tests.0, leb-true states.0 1024 states_tests.1);
       initial = (initial.0, initial_at, omega (arith, initial_in, states_of-take lines 2));
-      some_op = some_op lines op.0 (stands.place, slice_get_within lines stands.place (Operation op.0) op_at, get_or_from_slice_get lines stands.place (Operation op.0) (Operation op.0) op_at);
+      some_op = some_op lines op.0 (in_list.place, slice_get_within lines in_list.place (Operation op.0) op_at, get_or_from_slice_get lines in_list.place (Operation op.0) (Operation op.0) op_at);
       ops_fit = omega (arith, op_count-ops_of lines, order.limits 3 64 op_lines refl refl);
       ops_differ = λ i o at. sym (twins-ops_of o (take i lines)) ∙ (order.passed i (Operation o) at).no_twin;
       steps_inside = step_inside lines order;

@@ -58,7 +58,7 @@ module _ (within : StepsWithin) (file : TypeFile) (known : IsTypeFile file) wher
       let entry = entry_at file known within entries cell.row cell.column x cell.row_in cell.column_in cell.is in
       omega (arith, entry.ranked, low_rank entries))
 
-  -- all lines, with `end` behind the others
+  -- all lines, with `end` after the others
   pub canonical_accepted : IsAccepted type_rules (canonical_lines file)
   canonical_accepted =
       let stage = body_stage in

@@ -31,7 +31,7 @@ use Rattle.type_text.proofs.CanonicalAccepted.{body_ops}
 abbrev section_at : ℕ → Entries
 section_at rank = cond (eqb rank 4) Steps (cond (eqb rank 5) Members (cond (eqb rank 6) Pairs (cond (eqb rank 7) (Conflicts Undo) (Conflicts Intentions))))
 
--- the rank of a section tells it
+-- the rank of a section says which it is
 section_again : (entries : Entries) → section_at (entry_rank entries) ≡ entries
 section_again Steps = refl
 section_again Members = refl
@@ -47,7 +47,7 @@ same_section a b e = sym (section_again a) ∙ ap section_at e ∙ section_again
 moved : (P : ℕ → ℕ → Type 0) (a b c d : ℕ) → a ≡ c → b ≡ d → P a b → P c d
 moved P a b c d first second h = subst (λ x. P x d) first (subst (P a) second h)
 
--- entries stand behind the operations and before `end`
+-- entries come after the operations and before `end`
 rank_between : (entries : Entries) → (4 ≤ entry_rank entries) × (entry_rank entries ≤ 8)
 rank_between Steps = (omega arith, omega arith)
 rank_between Members = (omega arith, omega arith)

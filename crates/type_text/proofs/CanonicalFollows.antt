@@ -1,4 +1,4 @@
--- Lines that pass their tests one behind the other.
+-- Lines that pass their tests one after the other.
 use Rattle.std.proofs.Common.{◌≡◌, ℕ, zero, suc, ◌+◌, ◌<◌, ◌≤◌, false, cond, eqb, ltb, List, [], ◌∷◌, ◌++◌, length, take, get_or, Some, Contains, refl, sym, ap, subst, ◌∙◌, arith, append_assoc}
 use Rattle.std.specs.List.{All, flat_map, range_with_len, slice_get, sum_by}
 use Rattle.std.proofs.lemmas.Bool.{lt-ltb, ne_eqb}
@@ -6,14 +6,14 @@ use Rattle.std.proofs.lemmas.List.{append-nil, length-append, take-append-le}
 use Rattle.std.proofs.lemmas.List.Elements.{All-head, All-tail, All-take, Contains-get_or}
 use Rattle.std.proofs.lemmas.List.Sums.{sum_by-append, sum_by-cons}
 use Rattle.std.proofs.lemmas.Option.{none-some, same_Some}
-use Rattle.line_text.specs.Rules.{has_stood}
+use Rattle.line_text.specs.Rules.{was_read}
 use Rattle.line_text.specs.Accepted.{HasPassed, IsAccepted}
 use Rattle.line_text.proofs.Items.{no_fault}
 use Rattle.type_text.specs.declared.type_line.TypeLine.{TypeLine}
 use Rattle.type_text.specs.declared.type_line.TypeLine.TheVariants.{End}
 use Rattle.type_text.specs.TypeLines.{rank_of, type_rules}
 
--- each of these lines passes its tests behind the lines before and those in front of it
+-- each of these lines passes its tests after all lines before it
 abbrev pub Follow : List TypeLine → List TypeLine → Type 0
 Follow before [] = Unit {0}
 Follow before (x ∷ xs) = HasPassed type_rules before x × Follow (before ++ x ∷ []) xs
@@ -65,6 +65,6 @@ accepted_with_end lines low h = record {
   each = λ n x at. no_fault type_rules (take n (lines ++ End ∷ [])) x (follow_at [] (lines ++ End ∷ []) n x h at);
   before_end = λ n below.
       let within : n ≤ length lines = omega (arith, below, length-append lines (End ∷ [])) in
-      ap (λ front. has_stood type_rules front 9) (take-append-le n lines (End ∷ []) within) ∙ ap (ltb 0) (no_ends (take n lines) (All-take (λ x. rank_of x < 9) n lines low));
+      ap (λ front. was_read type_rules front 9) (take-append-le n lines (End ∷ []) within) ∙ ap (ltb 0) (no_ends (take n lines) (All-take (λ x. rank_of x < 9) n lines low));
   has_ended = lt-ltb 0 (ends (lines ++ End ∷ [])) (omega (arith, sum_by-append (λ x. cond (eqb (rank_of x) 9) 1 0) lines (End ∷ [])));
 }

@@ -5,7 +5,7 @@ use Rattle.std.specs.Option.{option_to_list}
 use Rattle.std.proofs.lemmas.Bool.{le-ltb, lt-ltb, ne_eqb, eq-eqb, and_from, and_right, or_from, or_left, or_right, not_from_false}
 use Rattle.std.proofs.lemmas.List.{append-nil}
 use Rattle.std.proofs.lemmas.List.Elements.{filter_map-append}
-use Rattle.line_text.specs.Rules.{count_at, has_stood, last_item}
+use Rattle.line_text.specs.Rules.{count_at, was_read, last_item}
 use Rattle.line_text.specs.LineTests.{is_late, lacks, is_full, is_single, ascends, keys_ascend}
 use Rattle.line_text.specs.Accepted.{HasPassed}
 use Rattle.type_table.specs.Laws.{StepsWithin}
@@ -18,7 +18,7 @@ use Rattle.type_text.specs.TypeLines.{rank_of, key_of, sections, op_in, ops_of, 
 use Rattle.type_text.specs.Canonical.{rows, columns, line_at, lines_of_row, lines_of_entries, IsTypeFile}
 use Rattle.type_text.proofs.CanonicalFollows.{Follow, follow_range}
 use Rattle.type_text.proofs.CanonicalEntries.{entry_rank, IsEntry, entry_at}
-use Rattle.type_text.proofs.CanonicalFront.{front, AreCounted, front_counted, front_stood, last_push}
+use Rattle.type_text.proofs.CanonicalFront.{front, AreCounted, front_counted, front_read, last_push}
 
 -- ---- the order of lines
 
@@ -27,7 +27,7 @@ abbrev IsBelow : Option (ℕ × ℕ) → ℕ → ℕ → Type 0
 IsBelow None row column = ⊥
 IsBelow (Some key) row column = (key.0 < row) ⊎ ((key.0 ≡ row) × (key.1 < column))
 
--- a line stands in front of a cell of a section: it is of a lower rank, or of this one with a lower key
+-- a line comes before a cell of a section: it is of a lower rank, or of this one with a lower key
 abbrev IsInFront : TypeLine → ℕ → ℕ → ℕ → Type 0
 IsInFront last rank row column = (rank_of last < rank) ⊎ ((rank_of last ≡ rank) × IsBelow (key_of last) row column)
 
@@ -41,12 +41,12 @@ keys_rise None row column h = absurd h
 keys_rise (Some key) row column (inl less) = or_left (ltb key.0 row) (eqb key.0 row && ltb key.1 column) (lt-ltb key.0 row less)
 keys_rise (Some key) row column (inr same) = or_right (ltb key.0 row) (eqb key.0 row && ltb key.1 column) (and_from (eqb key.0 row) (ltb key.1 column) (eq-eqb key.0 row same.0) (lt-ltb key.1 column same.1))
 
--- so does the key of a line that stands in front of the cell
+-- so does the key of a line that comes before the cell
 rises : (last : TypeLine) (rank row column : ℕ) → IsInFront last rank row column → (not (eqb rank (rank_of last)) || keys_ascend (key_of last) (Some (row, column))) ≡ true
 rises last rank row column (inl lower) = or_left (not (eqb rank (rank_of last))) (keys_ascend (key_of last) (Some (row, column))) (not_from_false (eqb rank (rank_of last)) (ne_eqb rank (rank_of last) (λ e. omega (arith, lower, e))))
 rises last rank row column (inr here) = or_right (not (eqb rank (rank_of last))) (keys_ascend (key_of last) (Some (row, column))) (keys_rise (key_of last) row column here.1)
 
--- a line in front of a cell of a section has at most the rank of this section
+-- a line before a cell of a section has at most the rank of this section
 at_most : (last : TypeLine) (rank row column : ℕ) → IsInFront last rank row column → rank_of last ≤ rank
 at_most last rank row column (inl lower) = omega (arith, lower)
 at_most last rank row column (inr here) = omega (arith, here.0)
@@ -81,24 +81,24 @@ any_full Pairs n = refl
 any_full (Conflicts Undo) n = refl
 any_full (Conflicts Intentions) n = refl
 
--- no section that must stand before it is missing behind the operations
-any_lacks : (before : List TypeLine) → ((k : ℕ) → k < 4 → has_stood type_rules before k ≡ true) → (entries : Entries) → lacks type_rules before (entry_rank entries) ≡ false
-any_lacks before stood Steps = rw (stood 0 (omega arith), stood 1 (omega arith), stood 2 (omega arith), stood 3 (omega arith)) refl
-any_lacks before stood Members = rw (stood 0 (omega arith), stood 1 (omega arith), stood 2 (omega arith), stood 3 (omega arith)) refl
-any_lacks before stood Pairs = rw (stood 0 (omega arith), stood 1 (omega arith), stood 2 (omega arith), stood 3 (omega arith)) refl
-any_lacks before stood (Conflicts Undo) = rw (stood 0 (omega arith), stood 1 (omega arith), stood 2 (omega arith), stood 3 (omega arith)) refl
-any_lacks before stood (Conflicts Intentions) = rw (stood 0 (omega arith), stood 1 (omega arith), stood 2 (omega arith), stood 3 (omega arith)) refl
+-- no section that must come before it is missing after the operations
+any_lacks : (before : List TypeLine) → ((k : ℕ) → k < 4 → was_read type_rules before k ≡ true) → (entries : Entries) → lacks type_rules before (entry_rank entries) ≡ false
+any_lacks before is_read Steps = rw (is_read 0 (omega arith), is_read 1 (omega arith), is_read 2 (omega arith), is_read 3 (omega arith)) refl
+any_lacks before is_read Members = rw (is_read 0 (omega arith), is_read 1 (omega arith), is_read 2 (omega arith), is_read 3 (omega arith)) refl
+any_lacks before is_read Pairs = rw (is_read 0 (omega arith), is_read 1 (omega arith), is_read 2 (omega arith), is_read 3 (omega arith)) refl
+any_lacks before is_read (Conflicts Undo) = rw (is_read 0 (omega arith), is_read 1 (omega arith), is_read 2 (omega arith), is_read 3 (omega arith)) refl
+any_lacks before is_read (Conflicts Intentions) = rw (is_read 0 (omega arith), is_read 1 (omega arith), is_read 2 (omega arith), is_read 3 (omega arith)) refl
 
--- the line of a cell passes behind lines of which the last stands in front of the cell
+-- the line of a cell passes after lines of which the last comes before the cell
 entry_passes : (file : TypeFile) (before : List TypeLine) (last x : TypeLine) (entries : Entries) (row column : ℕ)
-    → AreCounted file before → ((k : ℕ) → k < 4 → has_stood type_rules before k ≡ true) → last_item before ≡ Some last → IsInFront last (entry_rank entries) row column
+    → AreCounted file before → ((k : ℕ) → k < 4 → was_read type_rules before k ≡ true) → last_item before ≡ Some last → IsInFront last (entry_rank entries) row column
     → IsEntry file (entry_rank entries) row column x → HasPassed type_rules before x
-entry_passes file before last x entries row column counted stood last_is in_front entry = record {
+entry_passes file before last x entries row column counted is_read last_is in_front entry = record {
   in_order =
       ap (λ o. is_late type_rules o x) last_is
       ∙ ap (λ r. ltb r (rank_of last) || (eqb r (rank_of last) && is_single (slice_get sections r))) entry.ranked
       ∙ not_late (entry_rank entries) (rank_of last) (is_single (slice_get sections (entry_rank entries))) (at_most last (entry_rank entries) row column in_front) (any_single entries);
-  lacks_none = ap (lacks type_rules before) entry.ranked ∙ any_lacks before stood entries;
+  lacks_none = ap (lacks type_rules before) entry.ranked ∙ any_lacks before is_read entries;
   misses_none = refl;
   in_range = entry.inside before counted;
   has_room = ap (λ r. is_full (slice_get sections r) (count_at type_rules before r)) entry.ranked ∙ any_full entries (count_at type_rules before (entry_rank entries));
@@ -112,7 +112,7 @@ entry_passes file before last x entries row column counted stood last_is in_fron
 
 -- ---- from cell to cell
 
--- lines that end in front of a cell of a section
+-- lines that end before a cell of a section
 record IsBehind (file : TypeFile) (rank row column : ℕ) (before : List TypeLine) : Type 0 where
   more : List TypeLine
   front_is : before ≡ front file more
@@ -161,12 +161,12 @@ behind_row file rank row column before h = record {
 }
 
 module _ (within : StepsWithin) (file : TypeFile) (known : IsTypeFile file) (entries : Entries) where
-  -- behind these lines an entry passes
+  -- after these lines an entry passes
   behind_passes : (row column : ℕ) (before : List TypeLine) (x : TypeLine) → IsBehind file (entry_rank entries) row column before → IsEntry file (entry_rank entries) row column x → HasPassed type_rules before x
   behind_passes row column before x h entry =
       let counted : AreCounted file before = rw h.front_is (front_counted file h.more h.ops) in
-      let stood : (k : ℕ) → k < 4 → has_stood type_rules before k ≡ true = rw h.front_is (front_stood file h.more h.ops known.table.some_ops) in
-      entry_passes file before h.last x entries row column counted stood h.last_is h.in_front entry
+      let is_read : (k : ℕ) → k < 4 → was_read type_rules before k ≡ true = rw h.front_is (front_read file h.more h.ops known.table.some_ops) in
+      entry_passes file before h.last x entries row column counted is_read h.last_is h.in_front entry
 
   -- the line of a cell, if it has one
   cell_follows : (row column : ℕ) (before : List TypeLine) (line : Option TypeLine) → row < rows file entries → column < columns file entries → line_at file entries row column ≡ line

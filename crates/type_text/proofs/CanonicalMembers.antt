@@ -24,7 +24,7 @@ contains_cons {X} x xs y h = go h.0 h.1 h.2
     go zero within e = inl e
     go (suc k) within e = inr (k, omega (arith, within), e)
 
--- an element stays one behind another
+-- an element of a list is one of the list with another before it
 contains_behind : {X : Type 0} (x : X) (xs : List X) (y : X) → Contains xs y → Contains (x ∷ xs) y
 contains_behind x xs y h = (suc h.0, omega (arith, h.1), h.2)
 
@@ -41,7 +41,7 @@ contains_flat_map {X} {A} f (z ∷ xs) x y h k =
       | inr later ↦ Contains-append_right (f z) (flat_map f xs) y (contains_flat_map f xs x y later k)
     ]
 
--- and the list in which an element of the whole stands
+-- and the list in which an element of the whole is
 from_flat_map : {X A : Type 0} (f : X → List A) (xs : List X) (y : A) → Contains (flat_map f xs) y → (x : X) × Contains xs x × Contains (f x) y
 from_flat_map f [] y h = absurd (omega (arith, h.1))
 from_flat_map f (z ∷ xs) y h =
@@ -158,7 +158,7 @@ module _ (file : TypeFile) (P : TypeLine → Type 0)
           ]
         ]
 
-    -- behind more lines that are so
+    -- after more lines that are so
     each_more : (lines : List TypeLine) → ((x : TypeLine) → Contains lines x → P x) → (entries : Entries) (x : TypeLine) → Contains (lines ++ lines_of_entries file entries) x → P x
     each_more lines so_far entries x h =
         elim (Contains-append_cases lines (lines_of_entries file entries) x h) [
@@ -175,19 +175,19 @@ module _ (file : TypeFile) (P : TypeLine → Type 0)
         let undo = each_more (up_to_pairs file) pairs (Conflicts Undo) in
         each_more (up_to_undo file) undo (Conflicts Intentions)
 
--- a line in front of a section is a line of the text
+-- a line before a section is a line of the text
 undo_in_body : (file : TypeFile) (x : TypeLine) → Contains (up_to_undo file) x → Contains (body file) x
 undo_in_body file x h = Contains-append_left (up_to_undo file) (lines_of_entries file (Conflicts Intentions)) x h
 
--- so is one in front of the conflicts
+-- so is one before the conflicts
 pairs_in_body : (file : TypeFile) (x : TypeLine) → Contains (up_to_pairs file) x → Contains (body file) x
 pairs_in_body file x h = undo_in_body file x (Contains-append_left (up_to_pairs file) (lines_of_entries file (Conflicts Undo)) x h)
 
--- one in front of the pairs
+-- one before the pairs
 members_in_body : (file : TypeFile) (x : TypeLine) → Contains (up_to_members file) x → Contains (body file) x
 members_in_body file x h = pairs_in_body file x (Contains-append_left (up_to_members file) (lines_of_entries file Pairs) x h)
 
--- and one in front of the members
+-- and one before the members
 steps_in_body : (file : TypeFile) (x : TypeLine) → Contains (up_to_steps file) x → Contains (body file) x
 steps_in_body file x h = members_in_body file x (Contains-append_left (up_to_steps file) (lines_of_entries file Members) x h)
 

@@ -3,7 +3,7 @@ use Rattle.std.proofs.Common.{◌≡◌, ℕ, ◌<◌, ◌≤◌, true, false, n
 use Rattle.std.specs.List.{list_any}
 use Rattle.std.proofs.lemmas.Bool.{le-ltb, lt-ltb, le-leb, lt-leb, ne_eqb, and_from, and_left, or_from, or_parts, or_right}
 use Rattle.std.proofs.lemmas.List.{length-append, map-append}
-use Rattle.line_text.specs.Rules.{has_stood, last_item}
+use Rattle.line_text.specs.Rules.{was_read, last_item}
 use Rattle.line_text.specs.LineTests.{is_late, ascends, keys_ascend}
 use Rattle.line_text.specs.Accepted.{HasPassed}
 use Rattle.type_table.specs.Op.{is_same_op, has_twin}
@@ -15,7 +15,7 @@ use Rattle.type_text.specs.TypeLines.{rank_of, key_of, ops_of, op_count, is_twin
 use Rattle.type_text.specs.Canonical.{IsTypeFile}
 use Rattle.type_text.proofs.Twins.{never_twin}
 use Rattle.type_text.proofs.CanonicalFollows.{Follow}
-use Rattle.type_text.proofs.CanonicalFront.{front, op_count-length, front_stood, first_stood, second_stood, third_stood, last_push}
+use Rattle.type_text.proofs.CanonicalFront.{front, op_count-length, front_read, first_read, second_read, third_read, last_push}
 use Rattle.type_text.proofs.CanonicalGrid.{IsUpTo, not_late}
 
 -- the operations of `op` lines
@@ -28,7 +28,7 @@ no_key : (key : Option (ℕ × ℕ)) → keys_ascend key None ≡ true
 no_key None = refl
 no_key (Some key) = refl
 
--- an operation isn't one of those in front of it
+-- an operation isn't one of those before it
 no_twin_line : (done : List Op) (op : Op) (rest : List Op) → has_twin (done ++ op ∷ rest) ≡ false → list_any (is_twin (Operation op)) (map Operation done) ≡ false
 no_twin_line [] op rest h = refl
 no_twin_line (other ∷ done) op rest h =
@@ -40,7 +40,7 @@ no_twin_line (other ∷ done) op rest h =
     differs (o ∷ ops) e = differs ops ((or_parts (is_same_op o other) (list_any (λ o. is_same_op o other) (ops ++ op ∷ rest)) e).1)
 
 module _ (file : TypeFile) (known : IsTypeFile file) where
-  -- an `op` line passes behind those in front of it
+  -- an `op` line passes after those before it
   op_passes : (done : List Op) (op : Op) (rest : List Op) (last : TypeLine) → file.table.ops ≡ done ++ op ∷ rest
       → last_item (front file (map Operation done)) ≡ Some last → rank_of last ≤ 3 → HasPassed type_rules (front file (map Operation done)) (Operation op)
   op_passes done op rest last e last_is low =
@@ -49,7 +49,7 @@ module _ (file : TypeFile) (known : IsTypeFile file) where
       let room : op_count before < 64 = omega (arith, many, ap length e, length-append done (op ∷ rest), known.table.ops_fit) in
       record {
         in_order = ap (λ o. is_late type_rules o (Operation op)) last_is ∙ not_late 3 (rank_of last) false low refl;
-        lacks_none = rw (first_stood file (map Operation done), second_stood file (map Operation done), third_stood file (map Operation done)) refl;
+        lacks_none = rw (first_read file (map Operation done), second_read file (map Operation done), third_read file (map Operation done)) refl;
         misses_none = refl;
         in_range = refl;
         has_room = lt-leb 64 (op_count before) room;
@@ -82,14 +82,14 @@ module _ (file : TypeFile) (known : IsTypeFile file) where
   pub all_ops_follow : Follow (front file []) (map Operation file.table.ops)
   all_ops_follow = ops_follow [] file.table.ops (Initial file.table.initial) refl refl (omega arith)
 
-  -- `end` passes behind lines of the ranks below
+  -- `end` passes after lines of the ranks below
   pub end_passes : (before : List TypeLine) → IsUpTo file 8 before → HasPassed type_rules before End
   end_passes before h =
-      let stood : (k : ℕ) → k < 4 → has_stood type_rules before k ≡ true = rw h.front_is (front_stood file h.more h.ops known.table.some_ops) in
+      let is_read : (k : ℕ) → k < 4 → was_read type_rules before k ≡ true = rw h.front_is (front_read file h.more h.ops known.table.some_ops) in
       let last = rank_of h.last in
       record {
         in_order = ap (λ o. is_late type_rules o End) h.last_is ∙ or_from (ltb 9 last) (eqb 9 last && true) (le-ltb 9 last (omega (arith, h.low))) (and_left (eqb 9 last) true (ne_eqb 9 last (λ e. omega (arith, e, h.low))));
-        lacks_none = rw (stood 0 (omega arith), stood 1 (omega arith), stood 2 (omega arith), stood 3 (omega arith)) refl;
+        lacks_none = rw (is_read 0 (omega arith), is_read 1 (omega arith), is_read 2 (omega arith), is_read 3 (omega arith)) refl;
         misses_none = refl;
         in_range = refl;
         has_room = refl;

@@ -28,6 +28,6 @@ Contains-front {X} xs i y h = let P : List X → Type 0 = λ zs. Contains zs y i
 pub Contains-at : {X : Type 0} (xs : List X) (i : ℕ) (x : X) → slice_get xs i ≡ Some x → Contains xs x
 Contains-at xs i x at = (i, slice_get_within xs i x at, get_or_from_slice_get xs i x x at)
 
--- an element that is the list's stands at its place
+-- an element that is the one at a place of a list is in the list
 pub at-place : {X : Type 0} (xs : List X) (i : ℕ) (x : X) → i < length xs → x ≡ get_or xs i x → Contains xs x
 at-place xs i x below e = (i, below, sym e)

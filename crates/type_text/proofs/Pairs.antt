@@ -66,7 +66,7 @@ pairs_none states rows equal = λ s t s_in t_in. (
 behind_one : (line : TypeLine) (lines : List TypeLine) → ((s : ℕ) × Contains lines (Reach s)) → (s : ℕ) × Contains (line ∷ lines) (Reach s)
 behind_one line lines found = (found.0, (suc found.1.0, omega (arith, found.1.1), found.1.2))
 
--- a `reach` line stands among lines that have one
+-- a `reach` line is among lines that have one
 pub some_reach : (lines : List TypeLine) → list_any is_reach lines ≡ true → (s : ℕ) × Contains lines (Reach s)
 some_reach [] h = absurd (false≢true h)
 some_reach (Reach s ∷ lines) h = (s, (0, omega arith, refl))
@@ -79,7 +79,7 @@ some_reach (Equi s t ∷ lines) h = behind_one (Equi s t) lines (some_reach line
 some_reach (Conflict kind p q ∷ lines) h = behind_one (Conflict kind p q) lines (some_reach lines h)
 some_reach (End ∷ lines) h = behind_one End lines (some_reach lines h)
 
--- none stands among lines that have none
+-- none is among lines that have none
 pub no_reach : (lines : List TypeLine) → list_any is_reach lines ≡ false → (s : ℕ) → Contains lines (Reach s) → ⊥
 no_reach lines none s h = false≢true (sym none ∙ list_any_at is_reach lines h.0 (Reach s) h.1 (ap is_reach h.2))
 

@@ -1,4 +1,4 @@
--- Rows behind a head of lines.
+-- Rows after a head of lines.
 use Rattle.std.proofs.Common.{◌≡◌, ℕ, zero, suc, ◌+◌, ◌-◌, ◌<◌, ◌≤◌, Bool, true, false, ◌||◌, ltb, List, [], ◌∷◌, ◌++◌, length, get_or, take, Some, None, Contains, refl, sym, ap, ◌∙◌, inl, inr, arith, append_assoc}
 use Rattle.std.specs.List.{list_all, list_any, slice_get}
 use Rattle.std.specs.Option.{option_map}
@@ -102,7 +102,7 @@ pub row_count : (rows : List Row) → length (lines_of_rows rows) ≡ length row
 row_count [] = refl
 row_count (r ∷ rows) = ap suc (row_count rows)
 
--- ---- a head, and rows behind it
+-- ---- a head, and rows after it
 
 module _ (head : List TypeLine) (rows : List Row) where
   abbrev whole : List TypeLine
@@ -217,7 +217,7 @@ AreTypeLines-head head rows lines =
 
 -- ---- one more line
 
--- behind a head without rows
+-- after a head without rows
 pub kept_head : (head : List TypeLine) (rows : List Row) (line : TypeLine) → rows ≡ [] → (head ++ line ∷ []) ++ lines_of_rows rows ≡ (head ++ lines_of_rows rows) ++ line ∷ []
 kept_head head rows line none = rw none (append-nil (head ++ line ∷ []) ∙ ap (λ xs. xs ++ line ∷ []) (sym (append-nil head)))
 
@@ -229,6 +229,6 @@ kept_row head rows row line is = ap (λ xs. head ++ xs) (map-append line_of_row 
 pub heads_more : (head : List TypeLine) (line : TypeLine) → list_all is_head head ≡ true → is_head line ≡ true → list_all is_head (head ++ line ∷ []) ≡ true
 heads_more head line heads one = list_all-append is_head head (line ∷ []) ∙ rw (heads, one) refl
 
--- so many lines
+-- how many lines there are
 pub kept_count : (head : List TypeLine) (rows : List Row) → length (head ++ lines_of_rows rows) ≡ length head + length rows
 kept_count head rows = length-append head (lines_of_rows rows) ∙ ap (λ n. length head + n) (row_count rows)

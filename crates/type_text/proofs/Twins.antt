@@ -1,10 +1,11 @@
--- Operations that stand twice.
-use Rattle.std.proofs.Common.{◌≡◌, ℕ, ◌+◌, ◌<◌, false, true, Bool, ◌||◌, List, [], ◌∷◌, ◌++◌, length, take, get_or, Some, refl, sym, ap, ◌∙◌}
+-- Operations that occur twice.
+use Rattle.std.proofs.Common.{◌≡◌, ℕ, ◌+◌, ◌<◌, false, List, [], ◌∷◌, ◌++◌, length, take, get_or, Some, refl, sym, ap, ◌∙◌}
 use Rattle.std.specs.List.{list_any, slice_get}
 use Rattle.std.proofs.lemmas.List.{append-nil}
 use Rattle.std.proofs.lemmas.List.Elements.{filter_map-append}
 use Rattle.std.proofs.lemmas.Option.{slice_get_read}
 use Rattle.std.proofs.lemmas.List.Folds.{list_any-append}
+use Rattle.std.proofs.lemmas.Bool.{or_parts, or_from}
 use Rattle.type_table.specs.Op.{is_same_op, has_twin}
 use Rattle.type_table.specs.declared.op.Op.{Op}
 use Rattle.type_text.specs.TypeLines.{is_twin, op_in, ops_of}
@@ -28,21 +29,14 @@ never_twin (Equi s t) xs h = never xs
 never_twin (Conflict kind p q) xs h = never xs
 never_twin End xs h = never xs
 
--- an operation behind others that differ from it
+-- an operation after others that differ from it
 pub has_twin_push : (ops : List Op) (op : Op) → has_twin ops ≡ false → list_any (is_same_op op) ops ≡ false → has_twin (ops ++ op ∷ []) ≡ false
 has_twin_push [] op h k = refl
 has_twin_push (o ∷ ops) op h k =
     let parts = or_parts _ _ h in
     let rest = or_parts _ _ k in
-    let front : list_any (λ other. is_same_op other o) (ops ++ op ∷ []) ≡ false = list_any-append (λ other. is_same_op other o) ops (op ∷ []) ∙ both_false _ _ parts.0 (both_false _ _ rest.0 refl) in
-    both_false _ _ front (has_twin_push ops op parts.1 rest.1)
-  where
-    or_parts : (a b : Bool) → (a || b) ≡ false → (a ≡ false) × (b ≡ false)
-    or_parts false b h = (refl, h)
-    or_parts true b h = cc
-
-    both_false : (a b : Bool) → a ≡ false → b ≡ false → (a || b) ≡ false
-    both_false a b h k = rw (h, k) refl
+    let front : list_any (λ other. is_same_op other o) (ops ++ op ∷ []) ≡ false = list_any-append (λ other. is_same_op other o) ops (op ∷ []) ∙ or_from _ _ parts.0 (or_from _ _ rest.0 refl) in
+    or_from _ _ front (has_twin_push ops op parts.1 rest.1)
 
 -- one more line, whatever it says
 pub ops_more : (lines : List TypeLine) (i : ℕ) (line : TypeLine) (old new : List Op) → i < length lines → line ≡ get_or lines i line →

@@ -4,6 +4,6 @@ use Rattle.type_text.specs.Rows.{lines_of_rows}
 use Rattle.type_text.specs.declared.type_line.TypeLine.{TypeLine}
 use Rattle.type_text.specs.declared.type_lines.TypeLines.{TypeLines}
 
--- those of the head, and the rows behind them
+-- those of the head, and the rows after them
 abbrev pub kept_lines : TypeLines → List TypeLine
 kept_lines lines = lines.head.items ++ lines_of_rows lines.rows.items

@@ -149,7 +149,7 @@ sections = one_line ∷ one_line ∷ one_line ∷ op_lines ∷ any_lines ∷ any
 
 -- ---- what the lines say together
 
--- the number of states, which the second line tells
+-- the number of states, which the second line says
 abbrev pub states_in : Option TypeLine → ℕ
 states_in (Some (States states)) = states
 states_in _ = 0
@@ -169,7 +169,7 @@ ops_of lines = filter_map op_in lines
 abbrev pub op_count : List TypeLine → ℕ
 op_count lines = count_by (λ x. rank_of x == op_rank) lines
 
--- ---- the tests of a line behind others
+-- ---- the tests of a line after others
 
 abbrev pub is_in_range : List TypeLine → TypeLine → Bool
 is_in_range before (States states) = nat_le 1 states && nat_le states most_states

@@ -6,7 +6,7 @@ ghost use Rattle.type_text.specs.TypeLines.{states_in, states_of, is_twin};
 use crate::type_line::TypeLine;
 use type_table::Op;
 
-/// The number of states, which the second line tells.
+/// The number of states, which the second line says.
 pub fn states_of(lines: &[TypeLine]) -> u32
     ensures { result ≡ states_of lines.now }
 {

@@ -4,7 +4,7 @@ ghost use Rattle.type_text.specs.Rows.{line_of_row, is_head};
 use crate::type_line::TypeLine;
 use type_table::TableKind;
 
-/// A line without a name behind those of the head, which has a fourth of the size of a `TypeLine`.
+/// A line without a name after those of the head, with a fourth of the size of a `TypeLine`.
 #[derive(Clone, Copy)]
 pub enum Row {
     Step { s: u32, k: u32, t: u32 },

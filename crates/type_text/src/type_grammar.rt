@@ -1,4 +1,4 @@
-//! The grammar of type files: what a line says, and its tests behind the lines before it.
+//! The grammar of type files: what a line says, and its tests after the lines before it.
 
 ghost use Rattle.std.specs.Prelude.{◌≡◌, map};
 ghost use Rattle.type_text.specs.Kept.{kept_lines};

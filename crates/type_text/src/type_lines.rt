@@ -35,7 +35,7 @@ impl TypeLines {
         }
     }
 
-    /// Puts a line behind the others, of a rank that isn't below that of the last one.
+    /// Puts a line after the others, of a rank that isn't below that of the last one.
     pub fn push(&mut self, line: TypeLine) -> Result<(), AllocError>
         requires { is_late type_rules (last_item (kept_lines self.old)) line ≡ false }
         ensures lines { OnOk result (kept_lines self.new ≡ kept_lines self.old ++ line ∷ []) }
@@ -47,7 +47,7 @@ impl TypeLines {
         }
     }
 
-    /// Puts a line of the head behind the others, which are of the head too.
+    /// Puts a line of the head after the others, which are of the head too.
     #[tactic(auto, using(crate::proofs::Rows::heads_more))]
     fn push_head(&mut self, line: TypeLine) -> Result<(), AllocError>
         requires one { is_head line ≡ true }
@@ -59,7 +59,7 @@ impl TypeLines {
         Ok(())
     }
 
-    /// Puts the line of a row behind the others.
+    /// Puts the line of a row after the others.
     fn push_row(&mut self, row: Row) -> Result<(), AllocError>
         ensures lines { OnOk result (kept_lines self.new ≡ kept_lines self.old ++ line_of_row row ∷ []) }
         ensures few { OnOk result (length (kept_lines self.new) < 2 ^ 64) }
@@ -68,7 +68,7 @@ impl TypeLines {
         Ok(())
     }
 
-    /// The number of states, which the second line tells.
+    /// The number of states, which the second line says.
     pub fn states(&self) -> u32
         ensures { result ≡ states_of (kept_lines self.now) }
     {

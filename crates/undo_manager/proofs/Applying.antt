@@ -8,14 +8,15 @@ use Rattle.object_trait.specs.Object.{object_of}
 use Rattle.object_trait.specs.Steps.{MayApply}
 use Rattle.object_trait.specs.Laws.{SoundAfterApply}
 use Rattle.object_trait.specs.declared.log_entry.LogEntry.{LogEntry}
-use Rattle.undo_manager.specs.Kept.{IsKept}
+use Rattle.undo_manager.specs.Kept.{IsKeptInPlace}
 use Rattle.undo_manager.specs.Log.{entries, BeginsOpen}
 use Rattle.undo_manager.specs.Opened.{count_of, IsRecounted}
 use Rattle.undo_manager.specs.declared.opened.Opened.{Opened}
 use Rattle.undo_manager.specs.declared.undo_entry.UndoEntry.{UndoEntry}
 use Rattle.undo_manager.proofs.Keeping.{meaning_of, recounted}
 use Rattle.undo_manager.proofs.InPlace.{sound_in, sound_out}
-use Rattle.undo_manager.proofs.Marking.{more-mine, more-others}
+use Rattle.object_trait.proofs.Runs.{open-push_other}
+use Rattle.undo_manager.proofs.Marking.{more-mine}
 use Rattle.undo_manager.proofs.Running.{entries-append, steps-join}
 
 -- the entry of a further operation
@@ -32,9 +33,9 @@ pushed-begins [] e held front = held
 pushed-begins (x ∷ log) e held front = front
 
 -- all is kept
-pub applied-kept : StepsWithin → SoundAfterApply → (c : Checked) (base state : ℕ) (log : List UndoEntry) (counts new : List Opened) (t k after : ℕ) → IsKept c base state log counts →
+pub applied-kept : StepsWithin → SoundAfterApply → (c : Checked) (base state : ℕ) (log : List UndoEntry) (counts new : List Opened) (t k after : ℕ) → IsKeptInPlace c base state log counts →
     MayApply (meaning_of c base log) t k → next c.file.table state k ≡ Some after → IsRecounted t (count_of t counts + 1) counts new →
-    IsKept c base after (log ++ further_one t k state ∷ []) new
+    IsKeptInPlace c base after (log ++ further_one t k state ∷ []) new
 applied-kept within sound c base state log counts new t k after kept may step r =
     let one : UndoEntry = further_one t k state in
     let longer : entries (log ++ one ∷ []) ≡ entries log ++ further t k ∷ [] = entries-append log (one ∷ []) in
@@ -52,5 +53,5 @@ applied-kept within sound c base state log counts new t k after kept may step r 
       front = rw longer (pushed-begins (entries log) (further t k) refl kept.front);
       counted = rw longer (recounted (entries log) (entries log ++ further t k ∷ []) counts new t (count_of t counts + 1) kept.counted r
           (ap (λ n. n + 1) (kept.counted.exact t) ∙ sym (more-mine (entries log) (further t k) refl))
-          (λ u differ. ap length (more-others u (entries log) (further t k) differ)));
+          (λ u differ. ap length (open-push_other u (entries log) (further t k) differ)));
     }

@@ -1,4 +1,4 @@
--- Who blocks is told by the log.
+-- The log says who blocks.
 use Rattle.std.proofs.Common.{◌≡◌, ℕ, ◌<◌, Bool, not, ◌&&◌, ◌==◌, List, [], ◌∷◌, length, All, refl, ap, sym, ◌∙◌, inl, inr}
 use Rattle.std.specs.List.{filter, find, AllByRecursion}
 use Rattle.std.specs.Option.{option_map}
@@ -14,12 +14,12 @@ use Rattle.object_trait.specs.Object.{conflicts_by}
 use Rattle.op_locks.specs.Locks.{blocker}
 use Rattle.op_locks.specs.declared.held.Held.{Held}
 use Rattle.undo_manager.specs.Held.{held_in}
-use Rattle.undo_manager.specs.Log.{entries, Steps}
+use Rattle.undo_manager.specs.Log.{entries, LeadsTo}
 use Rattle.undo_manager.proofs.Holding.{blocker-open, each-held}
 use Rattle.undo_manager.specs.declared.undo_entry.UndoEntry.{UndoEntry}
 
 -- the operations of a log that leads somewhere are of the table
-each-fits : StepsWithin → (T : Table) → IsTable T → (s end : ℕ) (log : List UndoEntry) → Steps T s log end → AllByRecursion (λ (u : UndoEntry). u.entry.op < length T.ops) log
+each-fits : StepsWithin → (T : Table) → IsTable T → (s end : ℕ) (log : List UndoEntry) → LeadsTo T s log end → AllByRecursion (λ (u : UndoEntry). u.entry.op < length T.ops) log
 each-fits within T table s end [] steps = tt
 each-fits within T table s end (u ∷ log) steps = ((within T s u.entry.op steps.1.0 table steps.1.1.0).1, each-fits within T table steps.1.0 end log steps.1.1.1)
 
@@ -27,7 +27,7 @@ each-entry : (T : Table) (log : List UndoEntry) → AllByRecursion (λ (u : Undo
 each-entry T [] each = tt
 each-entry T (u ∷ log) each = (each.0, each-entry T log each.1)
 
-pub ops-fit : StepsWithin → (T : Table) → IsTable T → (s end : ℕ) (log : List UndoEntry) → Steps T s log end → All (λ (u : UndoEntry). u.entry.op < length T.ops) log
+pub ops-fit : StepsWithin → (T : Table) → IsTable T → (s end : ℕ) (log : List UndoEntry) → LeadsTo T s log end → All (λ (u : UndoEntry). u.entry.op < length T.ops) log
 ops-fit within T table s end log steps = All-from_recursion (λ (u : UndoEntry). u.entry.op < length T.ops) log (each-fits within T table s end log steps)
 
 pub stopper-told : (m : Meaning) (t k : ℕ) → m.checked.kind ≡ Undo → blocker (conflicts_by m.checked.kind m.checked.file) t k (held_in m.log) ≡ stopper m t k
@@ -36,6 +36,6 @@ stopper-told m t k in_place =
     ∙ sym (ap (λ way. option_map (λ (e : LogEntry). e.by) (find (λ e. not (e.by == t) && stops_by way (object m) m.base m.log t k e) (filter (λ e. not e.done) m.log))) in_place)
 
 -- what is held are operations of the table
-pub held-fits : StepsWithin → (T : Table) → IsTable T → (s end : ℕ) (log : List UndoEntry) → Steps T s log end → All (λ (e : Held). e.op < length T.ops) (held_in (entries log))
+pub held-fits : StepsWithin → (T : Table) → IsTable T → (s end : ℕ) (log : List UndoEntry) → LeadsTo T s log end → All (λ (e : Held). e.op < length T.ops) (held_in (entries log))
 held-fits within T table s end log steps =
     All-from_recursion (λ (e : Held). e.op < length T.ops) (held_in (entries log)) (each-held (λ k. k < length T.ops) (entries log) (each-entry T log (each-fits within T table s end log steps)))

@@ -7,7 +7,7 @@ use Rattle.object_trait.specs.Object.{object_of}
 use Rattle.object_trait.specs.Meaning.{open_of}
 use Rattle.object_trait.specs.Steps.{marked, IsSettled, IsCommit}
 use Rattle.object_trait.specs.Laws.{SoundAfterCommit}
-use Rattle.undo_manager.specs.Kept.{IsKept}
+use Rattle.undo_manager.specs.Kept.{IsKeptInPlace}
 use Rattle.undo_manager.specs.Log.{entries, start_of, unsettled, marked_one}
 use Rattle.undo_manager.specs.Opened.{IsRecounted}
 use Rattle.undo_manager.specs.declared.opened.Opened.{Opened}
@@ -23,7 +23,7 @@ abbrev pub committed_log : ℕ → List UndoEntry → List UndoEntry
 committed_log t log = unsettled (map (marked_one t) log)
 
 -- the marked log
-committed-left : (c : Checked) (base state : ℕ) (log : List UndoEntry) (counts new : List Opened) (t : ℕ) → IsKept c base state log counts → IsRecounted t 0 counts new →
+committed-left : (c : Checked) (base state : ℕ) (log : List UndoEntry) (counts new : List Opened) (t : ℕ) → IsKeptInPlace c base state log counts → IsRecounted t 0 counts new →
     IsLeft c base state (map (marked_one t) log) new
 committed-left c base state log counts new t kept r = record {
   in_place = kept.in_place;
@@ -38,13 +38,13 @@ committed-left c base state log counts new t kept r = record {
 }
 
 -- what is settled of it
-committed-settled : (c : Checked) (base state : ℕ) (log : List UndoEntry) (counts : List Opened) (t : ℕ) → IsKept c base state log counts →
+committed-settled : (c : Checked) (base state : ℕ) (log : List UndoEntry) (counts : List Opened) (t : ℕ) → IsKeptInPlace c base state log counts →
     IsSettled (object_of c) base (map (marked t) (entries log)) (start_of (committed_log t log) state) (entries (committed_log t log))
 committed-settled c base state log counts t kept =
     rw (entries-marked t log) at (unsettled-settled (object_of c) base (map (marked_one t) log) state (steps-marked c.file.table t base log state kept.steps))
 
 -- the meaning is that after a commit
-pub committed : (c : Checked) (base state : ℕ) (log : List UndoEntry) (counts : List Opened) (t : ℕ) → IsKept c base state log counts →
+pub committed : (c : Checked) (base state : ℕ) (log : List UndoEntry) (counts : List Opened) (t : ℕ) → IsKeptInPlace c base state log counts →
     IsCommit (meaning_of c base log) t (meaning_of c (start_of (committed_log t log) state) (committed_log t log))
 committed c base state log counts t kept = record {
   checked = refl;
@@ -52,8 +52,8 @@ committed c base state log counts t kept = record {
 }
 
 -- and all is kept
-pub commit-kept : EndsWithin → SoundAfterCommit → (c : Checked) (base state : ℕ) (log : List UndoEntry) (counts new : List Opened) (t : ℕ) → IsKept c base state log counts →
-    IsRecounted t 0 counts new → IsKept c (start_of (committed_log t log) state) state (committed_log t log) new
+pub commit-kept : EndsWithin → SoundAfterCommit → (c : Checked) (base state : ℕ) (log : List UndoEntry) (counts new : List Opened) (t : ℕ) → IsKeptInPlace c base state log counts →
+    IsRecounted t 0 counts new → IsKeptInPlace c (start_of (committed_log t log) state) state (committed_log t log) new
 commit-kept ends sound c base state log counts new t kept r =
     let new_base : ℕ = start_of (committed_log t log) state in
     settled-kept ends c base state (map (marked_one t) log) new (committed-left c base state log counts new t kept r)

@@ -4,9 +4,9 @@ use Rattle.std.specs.List.{list_any, AllByRecursion}
 use Rattle.std.proofs.lemmas.Bool.{cases_Bool, lt-ltb}
 use Rattle.std.proofs.lemmas.List.{length-map}
 use Rattle.object_trait.specs.Laws.{OpensAreCounted}
-use Rattle.object_trait.specs.Orders.{Pairs}
 use Rattle.object_trait.specs.Steps.{open_transactions}
 use Rattle.object_trait.specs.declared.log_entry.LogEntry.{LogEntry}
+use Rattle.object_trait.proofs.Lists.{pairs-map}
 use Rattle.undo_manager.specs.Opened.{count_of, IsCounted}
 use Rattle.undo_manager.specs.declared.opened.Opened.{Opened}
 
@@ -23,18 +23,8 @@ count-lists t (o ∷ counts) p =
       | inr isnt ↦ rw isnt (count-lists t counts p.1)
     ]
 
--- one that differs from each of the counts' differs from each that is listed
-each-listed : (x : ℕ) (counts : List Opened) → AllByRecursion (λ o. eqb o.by x ≡ false) counts → AllByRecursion (λ u. eqb u x ≡ false) (listed counts)
-each-listed x [] p = tt
-each-listed x (o ∷ counts) p = (p.0, each-listed x counts p.1)
-
--- each is listed once
-listed-once : (counts : List Opened) → Pairs (λ a b. eqb b.by a.by ≡ false) counts → Pairs (λ a b. eqb b a ≡ false) (listed counts)
-listed-once [] p = tt
-listed-once (o ∷ counts) p = (each-listed o.by counts p.0, listed-once counts p.1)
-
 -- so there are as many counts as open transactions, and no more than entries
 pub counts-length : OpensAreCounted → (log : List LogEntry) (counts : List Opened) → IsCounted log counts →
     (length counts ≡ length (open_transactions log)) × (length counts ≤ length log)
 counts-length count log counts c =
-    rw (length-map counts (λ (o : Opened). o.by)) at (count log (listed counts) (listed-once counts c.listed.once) (λ t. count-lists t counts c.listed.some ∙ ap (ltb 0) (c.exact t)))
+    rw (length-map counts (λ (o : Opened). o.by)) at (count log (listed counts) (pairs-map (λ a b. eqb b a ≡ false) (λ (o : Opened). o.by) (λ a b apart. apart) counts c.listed.once) (λ t. count-lists t counts c.listed.some ∙ ap (ltb 0) (c.exact t)))

@@ -14,8 +14,8 @@ use Rattle.object_trait.specs.Sound.{IsSoundUndo}
 use Rattle.object_trait.specs.Steps.{IsLegalFor}
 use Rattle.object_trait.specs.Laws.{CheckedIsCovered, FreshIsSound, OpensAreCounted}
 use Rattle.object_trait.specs.declared.log_entry.LogEntry.{LogEntry}
-use Rattle.undo_manager.specs.Kept.{IsKept}
-use Rattle.undo_manager.specs.Log.{entries, Steps, start_of, unsettled}
+use Rattle.undo_manager.specs.Kept.{IsKeptInPlace}
+use Rattle.undo_manager.specs.Log.{entries, LeadsTo, start_of, unsettled}
 use Rattle.undo_manager.specs.Opened.{count_of, IsCounted, IsRecounted}
 use Rattle.undo_manager.specs.declared.opened.Opened.{Opened}
 use Rattle.undo_manager.specs.declared.undo_entry.UndoEntry.{UndoEntry}
@@ -31,12 +31,12 @@ meaning_of c base log = record { checked = c; base = base; log = entries log }
 -- ---- what is read
 
 -- the state is the one kept
-pub state-is : (c : Checked) (base state : ℕ) (log : List UndoEntry) (counts : List Opened) → IsKept c base state log counts → state_of (meaning_of c base log) ≡ Some state
+pub state-is : (c : Checked) (base state : ℕ) (log : List UndoEntry) (counts : List Opened) → IsKeptInPlace c base state log counts → state_of (meaning_of c base log) ≡ Some state
 state-is c base state log counts kept =
     state_in c.kind kept.in_place (object_of c) base (entries log) ∙ steps-run c.file.table base log state kept.steps
 
 -- and each transaction sees it
-pub view-is : (c : Checked) (base state : ℕ) (log : List UndoEntry) (counts : List Opened) (t : ℕ) → IsKept c base state log counts → view_of (meaning_of c base log) t ≡ Some state
+pub view-is : (c : Checked) (base state : ℕ) (log : List UndoEntry) (counts : List Opened) (t : ℕ) → IsKeptInPlace c base state log counts → view_of (meaning_of c base log) t ≡ Some state
 view-is c base state log counts t kept =
     view_in c.kind kept.in_place (object_of c) base (entries log) t ∙ steps-run c.file.table base log state kept.steps
 
@@ -48,17 +48,17 @@ legal-one : (T : Table) (o : Option ℕ) (s k : ℕ) → o ≡ Some s → IsLega
 legal-one T o s k e h = rw e at h
 
 -- so it is legal for a transaction where the state has a next one
-pub legal-for : (c : Checked) (base state : ℕ) (log : List UndoEntry) (counts : List Opened) (t k : ℕ) → IsKept c base state log counts →
+pub legal-for : (c : Checked) (base state : ℕ) (log : List UndoEntry) (counts : List Opened) (t k : ℕ) → IsKeptInPlace c base state log counts →
     IsSome (next c.file.table state k) → IsLegalFor (meaning_of c base log) t k
 legal-for c base state log counts t k kept h = one-legal c.file.table (view_of (meaning_of c base log) t) state k (view-is c base state log counts t kept) h
 
 -- and the converse
-pub legal-next : (c : Checked) (base state : ℕ) (log : List UndoEntry) (counts : List Opened) (t k : ℕ) → IsKept c base state log counts →
+pub legal-next : (c : Checked) (base state : ℕ) (log : List UndoEntry) (counts : List Opened) (t k : ℕ) → IsKeptInPlace c base state log counts →
     IsLegalFor (meaning_of c base log) t k → IsSome (next c.file.table state k)
 legal-next c base state log counts t k kept h = legal-one c.file.table (view_of (meaning_of c base log) t) state k (view-is c base state log counts t kept) h
 
 -- there are no more counts than entries
-pub counts-fit : OpensAreCounted → (c : Checked) (base state : ℕ) (log : List UndoEntry) (counts : List Opened) → IsKept c base state log counts → length counts ≤ 4294967295
+pub counts-fit : OpensAreCounted → (c : Checked) (base state : ℕ) (log : List UndoEntry) (counts : List Opened) → IsKeptInPlace c base state log counts → length counts ≤ 4294967295
 counts-fit count c base state log counts kept =
     omega (arith, (counts-length count (entries log) counts kept.counted).1, length-map log (λ (u : UndoEntry). u.entry), kept.room)
 
@@ -90,12 +90,12 @@ pub record IsLeft (c : Checked) (base state : ℕ) (log : List UndoEntry) (count
   pub covered : IsCovered (object_of c)
   pub base_fits : base < c.file.table.states
   pub room : length log ≤ 4294967295
-  pub steps : Steps c.file.table base log state
+  pub steps : LeadsTo c.file.table base log state
   pub counted : IsCounted (entries log) counts
 
 -- once it is settled, and sound, all is kept
 pub settled-kept : EndsWithin → (c : Checked) (base state : ℕ) (log : List UndoEntry) (counts : List Opened) → IsLeft c base state log counts →
-    IsSoundUndo (object_of c) (start_of (unsettled log) state) (entries (unsettled log)) → IsKept c (start_of (unsettled log) state) state (unsettled log) counts
+    IsSoundUndo (object_of c) (start_of (unsettled log) state) (entries (unsettled log)) → IsKeptInPlace c (start_of (unsettled log) state) state (unsettled log) counts
 settled-kept ends c base state log counts left sound =
     let s = unsettled-settled (object_of c) base log state left.steps in
     record {
@@ -113,7 +113,7 @@ settled-kept ends c base state log counts left sound =
 
 -- ---- a new manager
 
-pub fresh-kept : CheckedIsCovered → FreshIsSound → (c : Checked) (initial : ℕ) → c.kind ≡ Undo → IsTable c.file.table → IsChecked c → initial ≡ c.file.table.initial → IsKept c initial initial [] []
+pub fresh-kept : CheckedIsCovered → FreshIsSound → (c : Checked) (initial : ℕ) → c.kind ≡ Undo → IsTable c.file.table → IsChecked c → initial ≡ c.file.table.initial → IsKeptInPlace c initial initial [] []
 fresh-kept covers sound c initial undo table checked e =
     let covered = (covers c checked).0 in
     record {

@@ -1,6 +1,5 @@
 pub mod Accepted
 pub mod Blocking
-pub mod Lists
 pub mod Running
 pub mod Settling
 pub mod Counting

@@ -13,7 +13,7 @@ use Rattle.undo_manager.specs.declared.undo_entry.UndoEntry.{UndoEntry}
 abbrev pub opens : ℕ → List UndoEntry → ℕ
 opens t log = length (open_of t (entries log))
 
--- of an entry and those behind it
+-- of an entry and those after it
 pub opens-cons : (t : ℕ) (u : UndoEntry) (log : List UndoEntry) → opens t (u ∷ log) ≡ cond (is_open_of t u.entry) 1 0 + opens t log
 opens-cons t u log =
     elim (cases_Bool (is_open_of t u.entry)) [

@@ -2,12 +2,12 @@
 use Rattle.std.proofs.Common.{◌≡◌, ◌<◌, ℕ, zero, suc, Bool, true, false, not, eqb, cond, List, [], ◌∷◌, ◌++◌, map, length, get_or, set, refl, sym, ap, ◌∙◌, inl, inr, arith}
 use Rattle.std.specs.List.{filter, AllByRecursion}
 use Rattle.std.proofs.lemmas.Bool.{cases_Bool, eqb-true, eq-eqb}
+use Rattle.std.proofs.lemmas.List.Elements.{All-from_recursion}
 use Rattle.type_table.proofs.Elements.{each-push, each-filter, differ_turned}
 use Rattle.object_trait.specs.Orders.{Pairs}
 use Rattle.object_trait.proofs.Lists.{pairs-push, pairs-filter}
 use Rattle.undo_manager.specs.Opened.{count_of, AreListed, IsRecounted}
 use Rattle.undo_manager.specs.declared.opened.Opened.{Opened}
-use Rattle.undo_manager.proofs.Lists.{each-at}
 
 -- b is of another transaction than a
 abbrev IsApart : Opened → Opened → Type 0
@@ -128,7 +128,7 @@ put-at t n zero (o ∷ counts) x once inside e is =
     ap (λ y. y ∷ counts) written ∙ ap (λ rest. with_count t n o ∷ rest) (sym (put-none t n counts (rw same at once.0)))
 put-at t n (suc place) (o ∷ counts) x once inside e is =
     let within : place < length counts = omega arith in
-    let apart : eqb x.by o.by ≡ false = rw e (each-at (λ b. eqb b.by o.by ≡ false) counts place x once.0 within) in
+    let apart : eqb x.by o.by ≡ false = rw e (All-from_recursion (λ (b : Opened). eqb b.by o.by ≡ false) counts once.0 place x within) in
     let differ : eqb o.by t ≡ false = differ_turned o.by t (rw (eqb-true x.by t is) at apart) in
     ap (λ rest. o ∷ rest) (put-at t n place counts x once.1 within e is) ∙ ap (λ y. y ∷ map (with_count t n) counts) (sym (put-apart_line t n o differ))
 

@@ -8,7 +8,7 @@ use Rattle.type_table.specs.Run.{IsLegal}
 use Rattle.type_table.proofs.Legal.{legal_there, legal-somewhere}
 use Rattle.object_trait.specs.Meaning.{ops_of, is_open_of}
 use Rattle.object_trait.specs.declared.log_entry.LogEntry.{LogEntry}
-use Rattle.undo_manager.specs.Log.{entries, Steps, stays}
+use Rattle.undo_manager.specs.Log.{entries, LeadsTo, stays}
 use Rattle.undo_manager.specs.Rerun.{IsRerun}
 use Rattle.undo_manager.specs.declared.undo_entry.UndoEntry.{UndoEntry}
 use Rattle.undo_manager.proofs.Running.{entries-append, steps-join}
@@ -23,7 +23,7 @@ pub record IsRunTo (T : Table) (t place : ℕ) (old : List UndoEntry) (start : �
   pub front : take kept now ≡ take place old ++ rest
   pub behind : drop read now ≡ drop read old
   pub left : entries rest ++ left_of t (drop read old) ≡ left_of t (drop place old)
-  pub steps : Steps T start rest state
+  pub steps : LeadsTo T start rest state
   pub legal : IsLegal T (Some state) (ops_of (left_of t (drop read old)))
   pub order : kept ≤ read
   pub long : length now ≡ length old

@@ -5,7 +5,7 @@ use Rattle.type_table.specs.Table.{Table, next}
 use Rattle.type_table.specs.Run.{run}
 use Rattle.object_trait.specs.Meaning.{ops_of}
 use Rattle.object_trait.specs.Steps.{marked}
-use Rattle.undo_manager.specs.Log.{entries, Steps, start_of, marked_one}
+use Rattle.undo_manager.specs.Log.{entries, LeadsTo, start_of, marked_one}
 use Rattle.undo_manager.specs.declared.undo_entry.UndoEntry.{UndoEntry}
 
 -- ---- steps
@@ -21,22 +21,22 @@ entries-append V W = map-append (λ (u : UndoEntry). u.entry) V W
 -- ---- logs that keep the states before their entries
 
 -- a log leads along its operations to its end
-pub steps-run : (T : Table) (s : ℕ) (log : List UndoEntry) (end : ℕ) → Steps T s log end → run T (Some s) (ops_of (entries log)) ≡ Some end
+pub steps-run : (T : Table) (s : ℕ) (log : List UndoEntry) (end : ℕ) → LeadsTo T s log end → run T (Some s) (ops_of (entries log)) ≡ Some end
 steps-run T s [] end h = ap Some h
 steps-run T s (u ∷ log) end h = run_there T (next T s u.entry.op) h.1.0 (ops_of (entries log)) (Some end) h.1.1.0 (steps-run T h.1.0 log end h.1.1.1)
 
 -- and begins at the state before it
-pub steps-start : (T : Table) (s : ℕ) (log : List UndoEntry) (end : ℕ) → Steps T s log end → start_of log end ≡ s
+pub steps-start : (T : Table) (s : ℕ) (log : List UndoEntry) (end : ℕ) → LeadsTo T s log end → start_of log end ≡ s
 steps-start T s [] end h = sym h
 steps-start T s (u ∷ log) end h = h.0
 
--- one log behind another
-pub steps-join : (T : Table) (s : ℕ) (V W : List UndoEntry) (mid end : ℕ) → Steps T s V mid → Steps T mid W end → Steps T s (V ++ W) end
+-- one log after another
+pub steps-join : (T : Table) (s : ℕ) (V W : List UndoEntry) (mid end : ℕ) → LeadsTo T s V mid → LeadsTo T mid W end → LeadsTo T s (V ++ W) end
 steps-join T s [] W mid end v w = rw v w
 steps-join T s (u ∷ V) W mid end v w = (v.0, (v.1.0, (v.1.1.0, steps-join T v.1.0 V W mid end v.1.1.1 w)))
 
 -- and the two apart
-pub steps-part : (T : Table) (s : ℕ) (V W : List UndoEntry) (end : ℕ) → Steps T s (V ++ W) end → Steps T s V (start_of W end) × Steps T (start_of W end) W end
+pub steps-part : (T : Table) (s : ℕ) (V W : List UndoEntry) (end : ℕ) → LeadsTo T s (V ++ W) end → LeadsTo T s V (start_of W end) × LeadsTo T (start_of W end) W end
 steps-part T s [] W end h =
     let e = steps-start T s W end h in
     (sym e, rw e h)
@@ -45,7 +45,7 @@ steps-part T s (u ∷ V) W end h =
     ((h.0, (h.1.0, (h.1.1.0, rest.0))), rest.1)
 
 -- marks change no step
-pub steps-marked : (T : Table) (t s : ℕ) (log : List UndoEntry) (end : ℕ) → Steps T s log end → Steps T s (map (marked_one t) log) end
+pub steps-marked : (T : Table) (t s : ℕ) (log : List UndoEntry) (end : ℕ) → LeadsTo T s log end → LeadsTo T s (map (marked_one t) log) end
 steps-marked T t s [] end h = h
 steps-marked T t s (u ∷ log) end h = (h.0, (h.1.0, (h.1.1.0, steps-marked T t h.1.0 log end h.1.1.1)))
 

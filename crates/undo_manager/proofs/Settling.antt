@@ -6,7 +6,7 @@ use Rattle.type_table.specs.Table.{Table, next}
 use Rattle.object_trait.specs.Object.{Object}
 use Rattle.object_trait.specs.Meaning.{ops_of, open_of}
 use Rattle.object_trait.specs.Steps.{IsSettled}
-use Rattle.undo_manager.specs.Log.{entries, Steps, start_of, unsettled, BeginsOpen}
+use Rattle.undo_manager.specs.Log.{entries, LeadsTo, start_of, unsettled, BeginsOpen}
 use Rattle.undo_manager.specs.declared.undo_entry.UndoEntry.{UndoEntry}
 use Rattle.undo_manager.proofs.Running.{run_there}
 
@@ -18,7 +18,7 @@ start-behind log place end d inside = rw (drop_more log place d inside) refl
 pub unsettled-done : (u : UndoEntry) (log : List UndoEntry) → u.entry.done ≡ true → unsettled (u ∷ log) ≡ unsettled log
 unsettled-done u log done = rw done refl
 
--- and an open one stays, with all that is behind it
+-- and an open one stays, with all that comes after it
 pub unsettled-open : (u : UndoEntry) (log : List UndoEntry) → u.entry.done ≡ false → unsettled (u ∷ log) ≡ u ∷ log
 unsettled-open u log held = rw held refl
 
@@ -42,7 +42,7 @@ unsettled-length (u ∷ log) =
     ]
 
 -- it leads from the state before it to the same end
-pub unsettled-steps : (T : Table) (s : ℕ) (log : List UndoEntry) (end : ℕ) → Steps T s log end → Steps T (start_of (unsettled log) end) (unsettled log) end
+pub unsettled-steps : (T : Table) (s : ℕ) (log : List UndoEntry) (end : ℕ) → LeadsTo T s log end → LeadsTo T (start_of (unsettled log) end) (unsettled log) end
 unsettled-steps T s [] end h = refl
 unsettled-steps T s (u ∷ log) end h =
     elim (cases_Bool u.entry.done) [
@@ -51,7 +51,7 @@ unsettled-steps T s (u ∷ log) end h =
     ]
 
 -- the base becomes the state before it
-pub unsettled-settled : (o : Object) (s : ℕ) (log : List UndoEntry) (end : ℕ) → Steps o.table s log end → IsSettled o s (entries log) (start_of (unsettled log) end) (entries (unsettled log))
+pub unsettled-settled : (o : Object) (s : ℕ) (log : List UndoEntry) (end : ℕ) → LeadsTo o.table s log end → IsSettled o s (entries log) (start_of (unsettled log) end) (entries (unsettled log))
 unsettled-settled o s [] end h = record { moved = []; front = refl; done = tt; reached = ap Some h }
 unsettled-settled o s (u ∷ log) end h =
     let rest = unsettled-settled o h.1.0 log end h.1.1.1 in

@@ -15,8 +15,8 @@ use Rattle.object_trait.specs.Laws.{KeepsFirst, KeepsNone, KeepsParts, KeepsOthe
 use Rattle.object_trait.specs.declared.log_entry.LogEntry.{LogEntry}
 use Rattle.object_trait.proofs.Striking.{keep_first-all}
 use Rattle.object_trait.proofs.Runs.{ops-append, open-apart}
-use Rattle.undo_manager.specs.Kept.{IsKept}
-use Rattle.undo_manager.specs.Log.{entries, Steps, start_of, unsettled}
+use Rattle.undo_manager.specs.Kept.{IsKeptInPlace}
+use Rattle.undo_manager.specs.Log.{entries, LeadsTo, start_of, unsettled}
 use Rattle.undo_manager.specs.Opened.{IsRecounted}
 use Rattle.undo_manager.specs.Rerun.{IsRerun}
 use Rattle.undo_manager.specs.declared.opened.Opened.{Opened}
@@ -43,7 +43,7 @@ strike-parts none parts mine n V W e =
 log-parts : (place : ℕ) (log : List UndoEntry) → entries log ≡ entries (take place log) ++ entries (drop place log)
 log-parts place log = ap entries (sym (take-append-drop place log)) ∙ entries-append (take place log) (drop place log)
 
--- behind the place from which on there are m of t, all of t's go
+-- from the place on from which there are m of t, all of t's go
 strike-log : KeepsNone LogEntry → KeepsParts LogEntry → (t m place : ℕ) (log : List UndoEntry) → opens t (drop place log) ≡ m →
     keep_first (is_open_of t) (opens t log - m) (entries log) ≡ entries (take place log) ++ left_of t (drop place log)
 strike-log none parts t m place log passed =
@@ -52,13 +52,13 @@ strike-log none parts t m place log passed =
     ap (keep_first (is_open_of t) n) (log-parts place log) ∙ strike-parts none parts (is_open_of t) n (entries (take place log)) (entries (drop place log)) count
 
 -- a log in two parts, each with its steps
-log-steps : (c : Checked) (base state place : ℕ) (log : List UndoEntry) → Steps c.file.table base log state →
-    Steps c.file.table base (take place log) (start_of (drop place log) state) × Steps c.file.table (start_of (drop place log) state) (drop place log) state
+log-steps : (c : Checked) (base state place : ℕ) (log : List UndoEntry) → LeadsTo c.file.table base log state →
+    LeadsTo c.file.table base (take place log) (start_of (drop place log) state) × LeadsTo c.file.table (start_of (drop place log) state) (drop place log) state
 log-steps c base state place log steps = steps-part c.file.table base (take place log) (drop place log) state (rw (take-append-drop place log) steps)
 
 -- what is left there can be run from the state before that place
 pub strike-legal : RunsAlong → KeepsNone LogEntry → KeepsParts LogEntry → StruckLogIsLegal → (c : Checked) (base state : ℕ) (log : List UndoEntry) (counts : List Opened) (t m place : ℕ) →
-    IsKept c base state log counts → opens t (drop place log) ≡ m → IsLegal c.file.table (Some (start_of (drop place log) state)) (ops_of (left_of t (drop place log)))
+    IsKeptInPlace c base state log counts → opens t (drop place log) ≡ m → IsLegal c.file.table (Some (start_of (drop place log) state)) (ops_of (left_of t (drop place log)))
 strike-legal along none parts legal c base state log counts t m place kept passed =
     let front : List LogEntry = entries (take place log) in
     let left : List LogEntry = left_of t (drop place log) in
@@ -80,7 +80,7 @@ rerun-entries none parts c t m place log start new end r passed =
 
 -- the log that was run again
 struck-left : KeepsFirst LogEntry → KeepsNone LogEntry → KeepsParts LogEntry → KeepsOthers LogEntry → (c : Checked) (base state : ℕ) (log : List UndoEntry) (counts : List Opened) (t m place : ℕ)
-    (new : List UndoEntry) (end : ℕ) (new_counts : List Opened) → IsKept c base state log counts → opens t (drop place log) ≡ m →
+    (new : List UndoEntry) (end : ℕ) (new_counts : List Opened) → IsKeptInPlace c base state log counts → opens t (drop place log) ≡ m →
     IsRerun c.file.table t place log (start_of (drop place log) state) new end → IsRecounted t (opens t log - m) counts new_counts → IsLeft c base end new new_counts
 struck-left first none parts others c base state log counts t m place new end new_counts kept passed r recount =
     let n : ℕ = opens t log - m in
@@ -118,13 +118,13 @@ struck-is none parts c base log t m place start new end new_counts left passed r
 
 -- what a strike leaves
 pub record IsStruck (c : Checked) (base : ℕ) (log : List UndoEntry) (t m : ℕ) (new : List UndoEntry) (end : ℕ) (new_counts : List Opened) : Type 0 where
-  pub kept : IsKept c (start_of (unsettled new) end) end (unsettled new) new_counts
+  pub kept : IsKeptInPlace c (start_of (unsettled new) end) end (unsettled new) new_counts
   pub strike : IsStrike (meaning_of c base log) t m (meaning_of c (start_of (unsettled new) end) (unsettled new))
 
 -- all is kept
 pub struck : EndsWithin → SoundAfterStrike → KeepsFirst LogEntry → KeepsNone LogEntry → KeepsParts LogEntry → KeepsOthers LogEntry →
     (c : Checked) (base state : ℕ) (log : List UndoEntry) (counts : List Opened) (t m place : ℕ) (new : List UndoEntry) (end : ℕ) (new_counts : List Opened) →
-    IsKept c base state log counts → opens t (drop place log) ≡ m → IsRerun c.file.table t place log (start_of (drop place log) state) new end →
+    IsKeptInPlace c base state log counts → opens t (drop place log) ≡ m → IsRerun c.file.table t place log (start_of (drop place log) state) new end →
     IsRecounted t (opens t log - m) counts new_counts → IsStruck c base log t m new end new_counts
 struck ends sound first none parts others c base state log counts t m place new end new_counts kept passed r recount =
     let left = struck-left first none parts others c base state log counts t m place new end new_counts kept passed r recount in

@@ -11,9 +11,9 @@ abbrev pub entries : List UndoEntry → List LogEntry
 entries log = map (λ (u : UndoEntry). u.entry) log
 
 -- each entry keeps the state before it, from s to the end
-abbrev pub Steps : Table → ℕ → List UndoEntry → ℕ → Type 0
-Steps T s [] end = s ≡ end
-Steps T s (u ∷ log) end = (u.before ≡ s) × ((mid : ℕ) × ((next T s u.entry.op ≡ Some mid) × Steps T mid log end))
+abbrev pub LeadsTo : Table → ℕ → List UndoEntry → ℕ → Type 0
+LeadsTo T s [] end = s ≡ end
+LeadsTo T s (u ∷ log) end = (u.before ≡ s) × ((mid : ℕ) × ((next T s u.entry.op ≡ Some mid) × LeadsTo T mid log end))
 
 -- the state before a log, of which the end is given
 abbrev pub start_of : List UndoEntry → ℕ → ℕ

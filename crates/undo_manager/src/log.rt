@@ -33,7 +33,7 @@ pub fn append(
     Ok(())
 }
 
-/// Makes t's open entries done, of which there are so many. It goes from the back until it has passed
+/// Makes t's open entries done, of which there are `count`. It goes from the back until it has passed
 /// them.
 pub fn mark(log: &mut Vec<UndoEntry>, t: u32, count: u32)
     requires { length (open_of t (entries log.old.items)) ≡ count }
@@ -52,7 +52,7 @@ pub fn mark(log: &mut Vec<UndoEntry>, t: u32, count: u32)
     }
 }
 
-/// The place from which on the log has m open entries of t, of at least so many. It goes from the back
+/// The place from which on the log has m open entries of t, which has at least m. It goes from the back
 /// until it has passed them.
 pub fn place_of(log: &[UndoEntry], t: u32, m: u32) -> usize
     requires { m ≤ length (open_of t (entries log.now)) }

@@ -23,7 +23,7 @@ pub fn next_state(table: &TypeTable, s: u16, k: u8) -> u16
     }
 }
 
-/// Takes t's open entries at or behind a place out of the log, runs the others there again from the
+/// Takes t's open entries at or after a place out of the log, runs the others there again from the
 /// state before that place, and answers the state after them.
 pub fn rerun(table: &TypeTable, log: &mut Vec<UndoEntry>, place: usize, t: u32, start: u16) -> u16
     requires table { IsTable table.now }

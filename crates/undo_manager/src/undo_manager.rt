@@ -37,13 +37,13 @@ impl Model for UndoManager {
     ghost use Rattle.undo_manager.specs.Log.{entries};
     ghost use Rattle.std.specs.Prelude.{◌≡◌};
     ghost use Rattle.undo_manager.specs.Held.{held_in};
-    ghost use Rattle.undo_manager.specs.Kept.{IsKept};
+    ghost use Rattle.undo_manager.specs.Kept.{IsKeptInPlace};
 
     ghost Value = { Meaning };
 
     ghost view = { λ a. record { checked = a.checked.value; base = a.base; log = entries a.log.items } };
 
-    ghost invariant = { λ a. IsKept (a.checked.value) a.base a.state a.log.items a.opened.items × (a.held.held ≡ held_in (entries a.log.items)) };
+    ghost invariant = { λ a. IsKeptInPlace (a.checked.value) a.base a.state a.log.items a.opened.items × (a.held.held ≡ held_in (entries a.log.items)) };
 }
 
 impl UndoManager {

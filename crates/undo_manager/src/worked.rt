@@ -4,14 +4,14 @@
 ghost use Rattle.std.specs.Prelude.{◌≡◌, [], ◌∷◌};
 ghost use Rattle.type_table.specs.Examples.{counter};
 ghost use Rattle.object_trait.specs.Examples.{held, past};
-ghost use Rattle.undo_manager.specs.Log.{Steps, start_of, unsettled};
+ghost use Rattle.undo_manager.specs.Log.{LeadsTo, start_of, unsettled};
 ghost use Rattle.undo_manager.specs.Opened.{count_of, AreListed};
 ghost use Rattle.undo_manager.specs.Rerun.{IsRerun};
 ghost use Rattle.undo_manager.specs.Examples.{at, three_kept, three_counts};
 
 pub fn a_log_keeps_the_states_before_its_entries()
-    ensures steps { Steps counter 0 three_kept 1 }
-    ensures end { Steps counter 0 three_kept 2 → ⊥ }
+    ensures steps { LeadsTo counter 0 three_kept 1 }
+    ensures end { LeadsTo counter 0 three_kept 2 → ⊥ }
     ensures start { start_of three_kept 1 ≡ 0 }
     ensures empty { start_of [] 1 ≡ 1 }
 {}

@@ -1,4 +1,4 @@
--- The lines that tell what workers did, behind the text of a history: each is a comment there.
+-- The lines that say what workers did, after the text of a history: each is a comment there.
 use Rattle.std.specs.Prelude.{ℕ, List, [], ◌∷◌, codes}
 use Rattle.std.specs.Fmt.{decimal}
 use Rattle.std.specs.List.{flat_map, enumerate_from}

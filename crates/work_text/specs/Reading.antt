@@ -1,4 +1,4 @@
--- That the text of what workers did is read as its history: the lines behind it are comments.
+-- That the text of what workers did is read as its history: the lines after it are comments.
 use Rattle.std.specs.Prelude.{◌≡◌, ℕ, ◌<◌, ◌^◌, List, length, Result, Ok, Err}
 use Rattle.std.specs.List.{AllByRecursion}
 use Rattle.line_text.specs.Outcome.{outcome_of}
@@ -51,7 +51,7 @@ pub record AreShort (kept : List ℕ) (audit : Result Audit AuditFault) (reports
 
 -- ---- the statement of a law
 
--- the text is read as its history alone is, which `canonical_is_read` of `history_text` tells
+-- the text is read as its history alone is, which `canonical_is_read` of `history_text` says
 abbrev pub WorkIsRead : Type 0
 WorkIsRead =
     (objects : List ObjectLine) (H : List Event) (kept : List ℕ) (audit : Result Audit AuditFault) (reports : List Report) → AreInRange objects H → AreShort kept audit reports

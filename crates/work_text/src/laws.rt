@@ -5,7 +5,7 @@ ghost use Rattle.work_text.specs.Reading.{WorkIsRead};
 
 use history_text::{canonical_is_read, comments_tell_nothing};
 
-/// What workers did is read from its text as a history: behind that of the history all lines are
+/// What workers did is read from its text as a history: after those of the history all lines are
 /// comments.
 pub fn work_is_read()
     ensures { WorkIsRead }

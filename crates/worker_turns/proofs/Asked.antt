@@ -1,16 +1,16 @@
--- What a call that the store answered tells.
-use Rattle.std.proofs.Common.{◌≡◌, ℕ, zero, suc, ◌+◌, ◌≤◌, Bool, true, false, not, ◌⊎◌, List, [], ◌∷◌, ◌++◌, length, Option, Some, None, is_some, Ok, slice_get, inl, inr, refl, sym, ap, ◌∙◌, subst}
+-- What is known after a call that the store answered.
+use Rattle.std.proofs.Common.{◌≡◌, ℕ, ◌+◌, ◌≤◌, true, false, not, ◌⊎◌, List, [], ◌∷◌, ◌++◌, length, Option, Some, None, is_some, Ok, slice_get, inl, inr, refl, sym, ap, ◌∙◌, subst}
 use Rattle.std.specs.Prelude.{if◌then◌else◌, slice_index_or}
 use Rattle.std.proofs.lemmas.Bool.{false≢true, and_parts}
 use Rattle.std.proofs.lemmas.List.{append_cancel_left}
-use Rattle.std.proofs.lemmas.Option.{none-some, same_Some}
 use Rattle.object_trait.specs.Object.{Object}
 use Rattle.object_trait.specs.declared.event.Event.{Event}
 use Rattle.object_trait.specs.declared.event.EventKind.{EventKind}
 use Rattle.object_trait.specs.declared.event.EventKind.TheVariants.{Op}
-use Rattle.type_table.specs.Least.{found_or, first_below}
-use Rattle.serial_order.specs.Answer.{blocker, is_reply, is_free_reply, busy_with, refused, answered, event_of_call}
-use Rattle.serial_order.specs.History.{Seen, seen, is_open}
+use Rattle.type_table.specs.Least.{first_below}
+use Rattle.type_table.proofs.Least.{first_below-passes}
+use Rattle.serial_order.specs.Answer.{blocker, is_reply, is_free_reply, busy_with, refused, event_of_first, event_of_call}
+use Rattle.serial_order.specs.History.{Summary, summary, is_open}
 use Rattle.serial_order.specs.Replay.{call_at, is_full, call_event, appended}
 use Rattle.serial_order.specs.View.{is_legal_for, is_of_call}
 use Rattle.serial_order.specs.declared.command.Command.TheVariants as command
@@ -31,20 +31,7 @@ use Rattle.worker_turns.proofs.Refusals.{not_refused}
 
 -- ---- the operation of a reply
 
--- a number that was found passes, where those found before it do
-found-passes : (test : ℕ → Bool) (n k : ℕ) (before : Option ℕ) (passes : Bool) → test n ≡ passes → ((j : ℕ) → before ≡ Some j → test j ≡ true)
-    → found_or before passes n ≡ Some k → test k ≡ true
-found-passes test n k (Some j) passes here earlier is = earlier k is
-found-passes test n k None true here earlier is = subst (λ i. test i ≡ true) (same_Some n k is) here
-found-passes test n k None false here earlier is = absurd (none-some k is)
-
--- the first number that passes does
-first_below-passes : (test : ℕ → Bool) (n k : ℕ) → first_below n test ≡ Some k → test k ≡ true
-first_below-passes test zero k is = absurd (none-some k is)
-first_below-passes test (suc n) k is =
-    found-passes test n k (first_below n test) (test n) refl (first_below-passes test n) is
-
-module _ (o : Object) (s : Seen) (x t c k : ℕ) where
+module _ (o : Object) (s : Summary) (x t c k : ℕ) where
   -- a refusal isn't a reply
   busy-no_op : (e : Option Entry) → busy_with e t x c ≡ Op t x k → ⊥
   busy-no_op None is = cc
@@ -60,7 +47,7 @@ module _ (o : Object) (s : Seen) (x t c k : ℕ) where
       let reply = and_parts (is_reply o s x t c k) (not (is_some (blocker o s x t k))) free in
       (and_parts (is_of_call o c k) (is_legal_for o s x t k) reply.0).0
 
-  answered-of_call : (found : Option ℕ) → first_below (length o.table.ops) (is_free_reply o s x t c) ≡ found → answered o s x t c found ≡ Op t x k
+  answered-of_call : (found : Option ℕ) → first_below (length o.table.ops) (is_free_reply o s x t c) ≡ found → event_of_first o s x t c found ≡ Op t x k
       → is_of_call o c k ≡ true
   answered-of_call None none is = absurd (refused-no_op (first_below (length o.table.ops) (is_reply o s x t c)) is)
   answered-of_call (Some j) finds is =
@@ -78,7 +65,7 @@ pub record IsAnswered (old : Stored) (w t : ℕ) (call : Call) (a : Answer) (new
   pub there : slice_get (objects old) (call.0) ≡ Some o
   pub c : ℕ
   pub number : number_of (objects old) call ≡ Some c
-  pub event : event_of_call o (seen old.history) (call.0) t c ≡ as_event t (call.0) c a
+  pub event : event_of_call o (summary old.history) (call.0) t c ≡ as_event t (call.0) c a
   pub makes : new ≡ noted old w (as_event t (call.0) c a)
 
 -- where the same was appended, the same happened
@@ -93,7 +80,7 @@ module _ (old : Stored) (w t : ℕ) (call : Call) (a : Answer) (new : Stored) wh
   -- by the event that was appended and that of the answer
   answered-at : (there : Option Object) → slice_get (objects old) (call.0) ≡ there → is_some there ≡ true
       → (number : Option ℕ) → number_of (objects old) call ≡ number → is_some number ≡ true
-      → new ≡ record old { history = appended old.history w (call_event there (seen old.history) (call.0) t number) }
+      → new ≡ record old { history = appended old.history w (call_event there (summary old.history) (call.0) t number) }
       → ((c : ℕ) → number ≡ Some c → Answers old w t (call.0) c (Ok a) new) → IsAnswered old w t call a new
   answered-at None at_object some number numbered is_number after told = absurd (false≢true some)
   answered-at (Some o) at_object some None numbered is_number after told = absurd (false≢true is_number)
@@ -103,7 +90,7 @@ module _ (old : Stored) (w t : ℕ) (call : Call) (a : Answer) (new : Stored) wh
         there = at_object;
         c = c;
         number = numbered;
-        event = same-event old w (event_of_call o (seen old.history) (call.0) t c) (as_event t (call.0) c a) (sym after ∙ told c refl);
+        event = same-event old w (event_of_call o (summary old.history) (call.0) t c) (as_event t (call.0) c a) (sym after ∙ told c refl);
         makes = told c refl;
       }
 
@@ -113,9 +100,9 @@ module _ (old : Stored) (w t : ℕ) (call : Call) (a : Answer) (new : Stored) wh
   by-name (inl (reason, now)) told =
       let there = slice_get (objects old) (call.0) in
       let number = number_of (objects old) call in
-      let fine = not_refused (is_open (seen old.history) t) (is_some there) (is_some number) (is_full old.max old.history 1) (sym reason) in
+      let fine = not_refused (is_open (summary old.history) t) (is_some there) (is_some number) (is_full old.max old.history 1) (sym reason) in
       answered-at there refl fine.0 number refl fine.1
-      (now ∙ ap (λ (r : Option Refusal). record old { history = if is_some r then old.history else appended old.history w (call_event there (seen old.history) (call.0) t number) }) (sym reason))
+      (now ∙ ap (λ (r : Option Refusal). record old { history = if is_some r then old.history else appended old.history w (call_event there (summary old.history) (call.0) t number) }) (sym reason))
       told
   by-name (inr (none, memory, now)) told = absurd cc
 
@@ -138,7 +125,7 @@ reply-answered old w t call k new its = (
     c = its.c;
     number = its.number;
     k = k;
-    of_call = reply-of_call its.o (seen old.history) (call.0) t its.c k its.event;
+    of_call = reply-of_call its.o (summary old.history) (call.0) t its.c k its.event;
     is = refl;
   },
   its.makes,

@@ -10,7 +10,7 @@ use Rattle.serial_order.specs.declared.refusal.Refusal.TheVariants.{NoMemory}
 use Rattle.store_laws.specs.Stored.{Stored, objects}
 use Rattle.jobs_text.specs.Jobs.{Call}
 use Rattle.worker_turns.specs.Progress.{Progress, job_of, IsAtEnd, IsSoFar, IsTold}
-use Rattle.worker_turns.specs.Turns.{goes_to, ends, breaks, GoesOn, TurnsIn, turns_of, turns_in, turns_for, turns_left, TurnsAreCounted}
+use Rattle.worker_turns.specs.Turns.{goes_to, ends, breaks, CallsOrCommits, TurnsIn, turns_of, turns_in, turns_for, turns_left, TurnsAreCounted}
 use Rattle.worker_turns.specs.declared.outcome.Outcome.{Outcome}
 use Rattle.worker_turns.specs.declared.outcome.Outcome.TheVariants.{GaveUp, Refused}
 use Rattle.worker_turns.specs.declared.outcome.Receipt.{Receipt}
@@ -29,7 +29,7 @@ falls : (all used more : ℕ) → used < all → used < more → all - more < al
 falls all used more some less = omega arith
 
 module _ (o : List Object) (p : Progress) (told : IsTold o p) (going : IsAtEnd p → ⊥) where
-  -- the turns that it may take for one try, for the jobs behind this one, and for all that are left
+  -- the turns that it may take for one try, for the jobs after this one, and for all that are left
   abbrev each : ℕ
   each = turns_of (job_of p)
 
@@ -77,7 +77,7 @@ module _ (o : List Object) (p : Progress) (told : IsTold o p) (going : IsAtEnd p
 
 -- a turn of worker w
 module _ (old : Stored) (w : ℕ) (p : Progress) (told : IsTold (objects old) p) (going : IsAtEnd p → ⊥) (new : Stored) (q : Progress) where
-  -- what it makes of its worker is told by one of these
+  -- what it makes of its worker is one of these
   fewer : (r : Progress) → q ≡ r → turns_left r < turns_left p → turns_left q < turns_left p
   fewer r is less = subst (λ z. turns_left z < turns_left p) (sym is) less
 
@@ -91,7 +91,7 @@ module _ (old : Stored) (w : ℕ) (p : Progress) (told : IsTold (objects old) p)
   breaking : (receipts : List Receipt) → q ≡ breaks (record p { receipts = receipts }) → turns_left q < turns_left p
   breaking receipts is = fewer _ is (breaks-counted (objects old) p told going receipts)
 
-  counted-going : (t done : ℕ) (next : Option Call) → turns_in p.phase ≡ done + 1 → GoesOn t done next old w p new q → turns_left q < turns_left p
+  counted-going : (t done : ℕ) (next : Option Call) → turns_in p.phase ≡ done + 1 → CallsOrCommits t done next old w p new q → turns_left q < turns_left p
   counted-going t done None at (makes, is) = ending _ _ is
   counted-going t done (Some call) at (inl (e, reply, makes, is)) = going-on (Going t (done + 1)) _ (omega (arith, at)) is
   counted-going t done (Some call) at (inr (inl (e, no_reply, makes, is))) = going-on (Breaking t done) _ (omega (arith, at)) is

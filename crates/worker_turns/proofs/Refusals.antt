@@ -3,7 +3,7 @@ use Rattle.std.proofs.Common.{◌≡◌, ℕ, Bool, true, false, not, ◌⊎◌,
 use Rattle.std.specs.Prelude.{slice_get, if◌then◌else◌}
 use Rattle.std.proofs.lemmas.Bool.{false≢true}
 use Rattle.std.proofs.lemmas.Option.{none-some, same_Some}
-use Rattle.serial_order.specs.History.{seen, is_open}
+use Rattle.serial_order.specs.History.{summary, is_open}
 use Rattle.serial_order.specs.declared.command.Command.TheVariants as command
 use Rattle.serial_order.specs.declared.refusal.Refusal.{Refusal}
 use Rattle.serial_order.specs.declared.refusal.Refusal.TheVariants.{NotOpen, NoObject, NoCall, TooManyOpen, HistoryFull, NoMemory}
@@ -45,11 +45,11 @@ call_reason true true false full r going is = inl is
 call_reason true true true true r going is = inr (refl, sym (same_Some HistoryFull r is))
 call_reason true true true false r going is = absurd (none-some r is)
 
-pub call_refused : (s : Stored) (t : ℕ) (call : Call) (r : Refusal) → is_open (seen s.history) t ≡ true
+pub call_refused : (s : Stored) (t : ℕ) (call : Call) (r : Refusal) → is_open (summary s.history) t ≡ true
     → (refusal_of s (command.Call t (call.0) (call.1)) ≡ Some r) ⊎ ((refusal_of s (command.Call t (call.0) (call.1)) ≡ None) × (r ≡ NoMemory))
     → IsCallRefusal (objects s) call r
 call_refused s t call r going (inl reason) =
-    elim (call_reason (is_open (seen s.history) t) (is_some (slice_get (objects s) (call.0))) (is_some (number_of (objects s) call)) _ r going reason) [
+    elim (call_reason (is_open (summary s.history) t) (is_some (slice_get (objects s) (call.0))) (is_some (number_of (objects s) call)) _ r going reason) [
       | inl its ↦ inl its
       | inr full ↦ inr (inl full)
     ]

@@ -1,4 +1,4 @@
--- By each turn, what a worker was told goes on being the parts of its jobs.
+-- By each turn, what a worker noted goes on being the parts of its jobs.
 use Rattle.std.proofs.Common.{◌≡◌, ℕ, ◌+◌, ◌<◌, true, List, [], ◌∷◌, ◌++◌, length, Option, Some, None, inl, inr, refl, sym, ap, ◌∙◌, subst, arith, length-append, append_assoc}
 use Rattle.std.specs.Prelude.{slice_get}
 use Rattle.std.proofs.lemmas.List.{append-nil, map-append}
@@ -6,14 +6,14 @@ use Rattle.object_trait.specs.Object.{Object}
 use Rattle.object_trait.specs.declared.event.Event.{Event}
 use Rattle.object_trait.specs.declared.event.EventKind.{EventKind}
 use Rattle.object_trait.specs.declared.event.EventKind.TheVariants.{Begin, Commit, Abort}
-use Rattle.serial_order.specs.History.{begins, seen, is_open}
+use Rattle.serial_order.specs.History.{begins, summary, is_open}
 use Rattle.serial_order.specs.declared.refusal.Refusal.{Refusal}
 use Rattle.serial_order.specs.declared.refusal.Refusal.TheVariants.{NoMemory}
 use Rattle.store_laws.specs.Stored.{Stored, objects}
 use Rattle.jobs_text.specs.Jobs.{Call}
 use Rattle.worker_turns.specs.Parts.{IsNoReply, AreBroken, IsBroken, BreaksBefore, IsWhole, IsRefused, IsPart}
 use Rattle.worker_turns.specs.Progress.{Progress, kinds, job_of, open_of, IsAtEnd, IsBegun, IsSoFar, IsTold}
-use Rattle.worker_turns.specs.Turns.{receipt, goes_to, gets, ends, breaks, HasOpen, Makes, Begins, Calls, Commits, GivesBack, Refuses, GoesOn, TurnsIn, TurnsAreTold}
+use Rattle.worker_turns.specs.Turns.{receipt, goes_to, gets, ends, breaks, HasOpen, Makes, Begins, Calls, Commits, GivesBack, Refuses, CallsOrCommits, TurnsIn, TurnsAreTold}
 use Rattle.worker_turns.specs.declared.outcome.Outcome.{Outcome}
 use Rattle.worker_turns.specs.declared.outcome.Outcome.TheVariants.{Committed, GaveUp, Refused}
 use Rattle.worker_turns.specs.declared.outcome.Receipt.{Receipt}
@@ -123,7 +123,7 @@ module _ (old : Stored) (w : ℕ) (p : Progress) (told : IsTold (objects old) p)
 
   -- ---- the turn in each phase
 
-  -- in front of a try
+  -- before a try
   told-idle : (new : Stored) (q : Progress) → IsSoFar (objects old) (job_of p) Idle told.now → Begins old w p new q → IsTold (objects new) q
   told-idle new q none (inl (makes, goes)) =
       let t = begins old.history in
@@ -140,7 +140,7 @@ module _ (old : Stored) (w : ℕ) (p : Progress) (told : IsTold (objects old) p)
       (breaks-before (IsRefused (objects old) (job_of p) NoMemory) told.now (inl (none, inr (inr refl)))) told.are))
 
   -- where a call is left
-  told-calling : (t done : ℕ) (call : Call) (new : Stored) (q : Progress) → is_open (seen old.history) t ≡ true → slice_get (job_of p) done ≡ Some call
+  told-calling : (t done : ℕ) (call : Call) (new : Stored) (q : Progress) → is_open (summary old.history) t ≡ true → slice_get (job_of p) done ≡ Some call
       → IsSoFar (objects old) (job_of p) (Going t done) told.now → Calls t done call old w p new q → IsTold (objects new) q
   told-calling t done call new q open_now next (replies, begun, now) (inl (e, reply, makes, goes)) =
       goes-on e (Going t (done + 1)) (Begin t ∷ (replies ++ e ∷ [])) new q (ap (λ es. es ++ e ∷ []) now)
@@ -168,8 +168,8 @@ module _ (old : Stored) (w : ℕ) (p : Progress) (told : IsTold (objects old) p)
       (record { replies = replies; are_replies = begun-all (objects old) (job_of p) t done replies begun none; is = ap (λ es. es ++ Commit t ∷ []) now }))
       makes goes
 
-  told-going : (t done : ℕ) (new : Stored) (q : Progress) (next : Option Call) → is_open (seen old.history) t ≡ true → slice_get (job_of p) done ≡ next
-      → IsSoFar (objects old) (job_of p) (Going t done) told.now → GoesOn t done next old w p new q → IsTold (objects new) q
+  told-going : (t done : ℕ) (new : Stored) (q : Progress) (next : Option Call) → is_open (summary old.history) t ≡ true → slice_get (job_of p) done ≡ next
+      → IsSoFar (objects old) (job_of p) (Going t done) told.now → CallsOrCommits t done next old w p new q → IsTold (objects new) q
   told-going t done new q None open_now next so_far turns = told-committing t done new q next so_far turns
   told-going t done new q (Some call) open_now next so_far turns = told-calling t done call new q open_now next so_far turns
 

@@ -38,13 +38,13 @@ first_made = Begin 4 ∷ Op 4 0 0 ∷ Abort 4 ∷ []
 
 -- ---- turns
 
--- what worker 7 is told by its begin, its call, and its commit
+-- what worker 7 notes of its begin, its call, and its commit
 abbrev pub told : List Receipt
 told =
     (record { position = 0; event = record { worker = 7; kind = Begin 0 } }) ∷ (record { position = 1; event = record { worker = 7; kind = Op 0 1 0 } })
     ∷ (record { position = 2; event = record { worker = 7; kind = Commit 0 } }) ∷ []
 
--- it has one job, to count up at the second counter, and two tries; it was told so much and is here
+-- it has one job, to count up at the second counter, and two tries; it noted the first of these and is here
 abbrev pub counting : Phase → ℕ → Progress
 counting phase n = record {
   jobs = ((1, codes "inc:1") ∷ []) ∷ [];

@@ -70,7 +70,7 @@ pub record IsCut (objects : List Object) (calls : List Call) (call : Call) (es :
   pub are_replies : AreReplies objects t (take done calls) replies
   pub is : es ≡ (Begin t ∷ replies) ++ Abort t ∷ []
 
--- so many broken tries, one after another
+-- this many broken tries, one after another
 abbrev pub AreBroken : List Object → List Call → ℕ → List EventKind → Type 0
 AreBroken objects calls zero es = es ≡ []
 AreBroken objects calls (suc k) es =
@@ -88,7 +88,7 @@ call_fault objects call =
 abbrev pub IsBeginRefusal : Refusal → Type 0
 IsBeginRefusal r = (r ≡ TooManyOpen) ⊎ ((r ≡ HistoryFull) ⊎ (r ≡ NoMemory))
 
--- the call was refused for this reason: where it has a fault, for that or for want of memory
+-- the call was refused for this reason: where it has a fault, for that or as memory was refused
 abbrev pub IsCallRefusal : List Object → Call → Refusal → Type 0
 IsCallRefusal objects call r =
     (call_fault objects call ≡ Some r) ⊎ (((call_fault objects call ≡ None) × (r ≡ HistoryFull)) ⊎ (r ≡ NoMemory))

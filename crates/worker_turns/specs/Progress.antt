@@ -1,4 +1,4 @@
--- How far a worker is in its jobs, and what it was told.
+-- How far a worker is in its jobs, and what it noted.
 use Rattle.std.specs.Prelude.{◌≡◌, ℕ, ◌<◌, ◌≤◌, List, [], ◌∷◌, ◌++◌, length, map, take, Option, Some, None, slice_get, slice_index_or}
 use Rattle.object_trait.specs.Object.{Object}
 use Rattle.object_trait.specs.declared.event.EventKind.{EventKind}
@@ -10,7 +10,7 @@ use Rattle.worker_turns.specs.declared.phase.Phase.{Phase}
 use Rattle.worker_turns.specs.declared.phase.Phase.TheVariants.{Idle, Going, Breaking, Refusing}
 use Rattle.worker_turns.specs.Parts.{AreReplies, IsNoReply, AreBroken, AreParts, IsCallRefusal}
 
--- a worker's jobs, how often each may be tried, and what it was told; of the job that is being done how many tries were broken, and
+-- a worker's jobs, how often each may be tried, and what it noted; of the job that is being done how many tries were broken, and
 -- where its try is
 pub record Progress : Type 0 where
   pub jobs : List (List Call)
@@ -46,20 +46,20 @@ open_of (Going t done) = Some t
 open_of (Breaking t done) = Some t
 open_of (Refusing t done refusal) = Some t
 
--- where it is in this phase after so many broken tries of its job: those in front of a try that is still to begin
+-- where it is in this phase after this many broken tries of its job: those before a try that is still to begin
 abbrev pub broken_in : Phase → ℕ → ℕ
 broken_in Idle broken = broken
 broken_in (Going t done) broken = 0
 broken_in (Breaking t done) broken = 0
 broken_in (Refusing t done refusal) broken = 0
 
--- how many tries of its job were broken, where it is in front of another
+-- how many tries of its job were broken, where it is before another
 abbrev pub broken_before : Progress → ℕ
 broken_before p = broken_in p.phase p.broken
 
 -- ---- the try that is being made
 
--- the transaction began, and so many calls had a reply each
+-- the transaction began, and this many calls had a reply each
 pub record IsBegun (objects : List Object) (calls : List Call) (t done : ℕ) (replies : List EventKind) : Type 0 where
   pub within : done ≤ length calls
   pub are_replies : AreReplies objects t (take done calls) replies

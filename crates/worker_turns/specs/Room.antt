@@ -1,4 +1,4 @@
--- The room that a worker keeps for what it will be told.
+-- The room that a worker keeps for what it will note.
 use Rattle.std.specs.Prelude.{ℕ, ◌+◌, ◌<◌, ◌≤◌}
 use Rattle.worker_turns.specs.declared.phase.Phase.{Phase}
 use Rattle.worker_turns.specs.declared.phase.Phase.TheVariants.{Idle, Going, Breaking, Refusing}

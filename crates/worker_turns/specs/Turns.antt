@@ -3,7 +3,7 @@ use Rattle.std.specs.Prelude.{◌≡◌, ℕ, ◌+◌, ◌-◌, ◌*◌, ◌<◌
 use Rattle.object_trait.specs.declared.event.Event.{Event}
 use Rattle.object_trait.specs.declared.event.EventKind.{EventKind}
 use Rattle.object_trait.specs.declared.event.EventKind.TheVariants.{Begin, Commit, Abort}
-use Rattle.serial_order.specs.History.{begins, seen, is_open}
+use Rattle.serial_order.specs.History.{begins, summary, is_open}
 use Rattle.serial_order.specs.declared.command.Command.{Command}
 use Rattle.serial_order.specs.declared.command.Command.TheVariants as command
 use Rattle.serial_order.specs.declared.refusal.Refusal.{Refusal}
@@ -44,7 +44,7 @@ breaks p = record p { broken = p.broken + 1; phase = Idle }
 -- the transaction of its try is open
 abbrev pub HasOpen : List Event → Option ℕ → Type 0
 HasOpen H None = Unit {0}
-HasOpen H (Some t) = is_open (seen H) t ≡ true
+HasOpen H (Some t) = is_open (summary H) t ≡ true
 
 -- ---- turns by phase
 
@@ -52,7 +52,7 @@ HasOpen H (Some t) = is_open (seen H) t ≡ true
 abbrev pub Makes : Stored → ℕ → EventKind → Stored → Type 0
 Makes old w happened new = new ≡ noted old w happened
 
--- the store refuses the command for this reason, or for want of memory where there is no other, and isn't changed
+-- the store refuses the command for this reason, or as memory was refused where there is no other, and isn't changed
 abbrev pub RefusesFor : Stored → Command → Refusal → Stored → Type 0
 RefusesFor old asked r new = (new ≡ old) × ((refusal_of old asked ≡ Some r) ⊎ ((refusal_of old asked ≡ None) × (r ≡ NoMemory)))
 
@@ -86,14 +86,15 @@ GivesBack t old w p new q =
 abbrev pub Refuses : ℕ → Refusal → Stored → ℕ → Progress → Stored → Progress → Type 0
 Refuses t r old w p new q = Makes old w (Abort t) new × (q ≡ ends (Refused r) (gets old.history w (Abort t) p))
 
-abbrev pub GoesOn : ℕ → ℕ → Option Call → Stored → ℕ → Progress → Stored → Progress → Type 0
-GoesOn t done None old w p new q = Commits t old w p new q
-GoesOn t done (Some call) old w p new q = Calls t done call old w p new q
+-- the next call, or the commit where there is none
+abbrev pub CallsOrCommits : ℕ → ℕ → Option Call → Stored → ℕ → Progress → Stored → Progress → Type 0
+CallsOrCommits t done None old w p new q = Commits t old w p new q
+CallsOrCommits t done (Some call) old w p new q = Calls t done call old w p new q
 
 -- a turn in each phase
 abbrev pub TurnsIn : Phase → Stored → ℕ → Progress → Stored → Progress → Type 0
 TurnsIn Idle old w p new q = Begins old w p new q
-TurnsIn (Going t done) old w p new q = GoesOn t done (slice_get (job_of p) done) old w p new q
+TurnsIn (Going t done) old w p new q = CallsOrCommits t done (slice_get (job_of p) done) old w p new q
 TurnsIn (Breaking t done) old w p new q = GivesBack t old w p new q
 TurnsIn (Refusing t done r) old w p new q = Refuses t r old w p new q
 
@@ -114,7 +115,7 @@ turns_in (Going t done) = done + 1
 turns_in (Breaking t done) = done + 2
 turns_in (Refusing t done r) = done + 2
 
--- the most turns that these jobs take, each tried so often
+-- the most turns that these jobs take, each tried this often
 abbrev pub turns_for : ℕ → List (List Call) → ℕ
 turns_for tries [] = 0
 turns_for tries (job ∷ jobs) = tries * turns_of job + turns_for tries jobs
@@ -125,7 +126,7 @@ turns_left p = turns_for p.tries (drop (length p.outcomes) p.jobs) - (p.broken *
 
 -- ---- laws
 
--- by a turn, what a worker was told goes on being the parts of its jobs, where its open transaction is open in the store
+-- by a turn, what a worker noted goes on being the parts of its jobs, where its open transaction is open in the store
 abbrev pub TurnsAreTold : Type 0
 TurnsAreTold =
     (old : Stored) (w : ℕ) (p : Progress) (new : Stored) (q : Progress) → IsTold (objects old) p → (IsAtEnd p → ⊥)

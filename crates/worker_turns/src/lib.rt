@@ -1,4 +1,4 @@
-//! A worker's turns at a store: the jobs that it does one after another, and what it is told of them.
+//! A worker's turns at a store: the jobs that it does one after another, and what it notes of them.
 #![tactic(auto)]
 
 mod laws;

@@ -21,7 +21,7 @@ pub struct Receipt {
     pub event: Event,
 }
 
-/// What a worker was told: the events that it made, in order, and what came of each of its jobs.
+/// What a worker noted: the events that it made, in order, and what came of each of its jobs.
 #[derive(Drop)]
 pub struct Report {
     pub receipts: Vec<Receipt>,

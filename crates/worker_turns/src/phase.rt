@@ -3,9 +3,9 @@ use serial_order::Refusal;
 /// Where a worker is in the job that it does.
 #[derive(Clone, Copy, Debug, PartialEq, Eq)]
 pub enum Phase {
-    /// In front of a try.
+    /// Before a try.
     Idle,
-    /// Transaction t began, and so many of its calls had a reply.
+    /// Transaction t began, and this many of its calls had a reply.
     Going {
         t: u32,
         done: usize,

@@ -4,9 +4,9 @@ ghost use Rattle.std.specs.Prelude.{◌≡◌, ◌+◌, ◌<◌, ◌≤◌, ◌^
 ghost use Rattle.object_trait.specs.declared.event.Event.{Event as EventValue};
 ghost use Rattle.object_trait.specs.declared.event.EventKind.{EventKind as EventKindValue};
 ghost use Rattle.object_trait.specs.declared.event.EventKind.TheVariants.{Abort};
-ghost use Rattle.serial_order.specs.History.{seen, is_open};
+ghost use Rattle.serial_order.specs.History.{summary, is_open};
 ghost use Rattle.worker_turns.specs.Progress.{job_of, open_of};
-ghost use Rattle.worker_turns.specs.Turns.{HasOpen, Turns, Begins, GoesOn, Calls, Commits, GivesBack, Refuses, Makes, receipt, ends};
+ghost use Rattle.worker_turns.specs.Turns.{HasOpen, Turns, Begins, CallsOrCommits, Calls, Commits, GivesBack, Refuses, Makes, receipt, ends};
 ghost use Rattle.worker_turns.specs.declared.phase.Phase.TheVariants as phase;
 
 use crate::outcome::{Outcome, Receipt};
@@ -17,7 +17,7 @@ use serial_order::Refusal;
 use store::{Answer, Store};
 use type_table::Name;
 
-/// The receipts for which there is room in front of a begin and of a call: its own, and that of the
+/// The receipts for which there is room before a begin and before a call: its own, and that of the
 /// transaction's end.
 const PLACES: usize = 2;
 
@@ -30,7 +30,7 @@ impl Worker {
     {
         match self.phase {
             Phase::Idle => self.begin(store, w),
-            Phase::Going { t, done } => self.go_on(store, w, t, done),
+            Phase::Going { t, done } => self.call_or_commit(store, w, t, done),
             Phase::Breaking { t, done: _ } => self.give_back(store, w, t),
             Phase::Refusing {
                 t,
@@ -61,11 +61,11 @@ impl Worker {
     }
 
     /// Makes the next call of t, or commits it where there is none.
-    fn go_on<R: Recovery>(&mut self, store: &mut Store<R>, w: u8, t: u32, done: usize)
+    fn call_or_commit<R: Recovery>(&mut self, store: &mut Store<R>, w: u8, t: u32, done: usize)
         requires going { length self.old.outcomes < length self.old.jobs }
         requires phase { self.old.phase ≡ phase.Going t done }
-        requires still_open { is_open (seen store.old.history) t ≡ true }
-        ensures { GoesOn t done (slice_get (job_of self.old) done) store.old w self.old store.new self.new }
+        requires still_open { is_open (summary store.old.history) t ≡ true }
+        ensures { CallsOrCommits t done (slice_get (job_of self.old) done) store.old w self.old store.new self.new }
     {
         match self.next_call(done) {
             Some((x, name)) => self.call(store, w, t, done, x, name),
@@ -73,7 +73,7 @@ impl Worker {
         }
     }
 
-    /// The call behind so many others of the job that is being done.
+    /// The call after the first ones, this many, of the job that is being done.
     fn next_call(&self, done: usize) -> Option<(u32, Name)>
         requires { length self.now.outcomes < length self.now.jobs }
         ensures call { result ≡ slice_get (job_of self.now) done }
@@ -97,7 +97,7 @@ impl Worker {
         requires going { length self.old.outcomes < length self.old.jobs }
         requires phase { self.old.phase ≡ phase.Going t done }
         requires few { done < 2 ^ 63 }
-        requires still_open { is_open (seen store.old.history) t ≡ true }
+        requires still_open { is_open (summary store.old.history) t ≡ true }
         ensures { Calls t done (x, name) store.old w self.old store.new self.new }
     {
         if self.receipts.reserve(PLACES).is_err() {
@@ -126,7 +126,7 @@ impl Worker {
     fn commit<R: Recovery>(&mut self, store: &mut Store<R>, w: u8, t: u32)
         requires going { length self.old.outcomes < length self.old.jobs }
         requires phase { open_of self.old.phase ≡ Some t }
-        requires still_open { is_open (seen store.old.history) t ≡ true }
+        requires still_open { is_open (summary store.old.history) t ≡ true }
         ensures { Commits t store.old w self.old store.new self.new }
     {
         self.phase = Phase::Idle;
@@ -141,7 +141,7 @@ impl Worker {
     fn give_back<R: Recovery>(&mut self, store: &mut Store<R>, w: u8, t: u32)
         requires going { length self.old.outcomes < length self.old.jobs }
         requires phase { open_of self.old.phase ≡ Some t }
-        requires still_open { is_open (seen store.old.history) t ≡ true }
+        requires still_open { is_open (summary store.old.history) t ≡ true }
         ensures { GivesBack t store.old w self.old store.new self.new }
     {
         self.phase = Phase::Idle;
@@ -157,7 +157,7 @@ impl Worker {
     fn refuse<R: Recovery>(&mut self, store: &mut Store<R>, w: u8, t: u32, refusal: Refusal)
         requires going { length self.old.outcomes < length self.old.jobs }
         requires phase { open_of self.old.phase ≡ Some t }
-        requires still_open { is_open (seen store.old.history) t ≡ true }
+        requires still_open { is_open (summary store.old.history) t ≡ true }
         ensures { Refuses t refusal store.old w self.old store.new self.new }
     {
         self.phase = Phase::Idle;
@@ -179,7 +179,7 @@ impl Worker {
 /// Aborts t, which is open, and takes the receipt.
 fn abort<R: Recovery>(receipts: &mut Vec<Receipt>, store: &mut Store<R>, w: u8, t: u32)
     requires room { vec_len receipts.old < vec_capacity receipts.old }
-    requires still_open { is_open (seen store.old.history) t ≡ true }
+    requires still_open { is_open (summary store.old.history) t ≡ true }
     ensures makes { Makes store.old w (Abort t) store.new }
     ensures gets { receipts.new.items ≡ receipts.old.items ++ receipt store.old.history w (Abort t) ∷ [] }
 {

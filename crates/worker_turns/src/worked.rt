@@ -16,7 +16,7 @@ use object_trait::EventKind;
 use serial_order::Refusal;
 
 /// The first try of a job is broken, and the second commits. It needs two tries; with one it is given
-/// up behind the first.
+/// up after the first.
 pub fn a_job_is_tried_again()
     ensures committed { IsPart counters 2 up_and_down (Outcome.Committed 3) (in_the_way ++ both_made) }
     ensures by_another { IsPart counters 2 up_and_down (Outcome.Committed 2) (in_the_way ++ both_made) → ⊥ }
@@ -30,8 +30,8 @@ pub fn a_broken_try_is_not_left_open()
     ensures left_open { IsBroken counters up_and_down (take 3 in_the_way) → ⊥ }
 {}
 
-/// A job is refused for the fault of its next call, or for want of memory; where its begin is refused,
-/// with no event.
+/// A job is refused for the fault of its next call, or as memory was refused; where its begin is
+/// refused, with no event.
 pub fn a_job_is_refused()
     ensures fault { call_fault counters (9, codes "inc:1") ≡ Some Refusal.NoObject }
     ensures refused { IsPart counters 1 up_and_away (Outcome.Refused Refusal.NoObject) first_made }
@@ -41,7 +41,7 @@ pub fn a_job_is_refused()
     ensures not_at_begin { IsBeginRefusal Refusal.NoObject → ⊥ }
 {}
 
-/// The parts of a worker's jobs stand one behind another, one for each outcome.
+/// The parts of a worker's jobs come one after another, one for each outcome.
 pub fn parts_are_in_order()
     ensures told { AreParts counters 2 (up_and_down ∷ up_and_away ∷ up_and_down ∷ []) (Outcome.Committed 3 ∷ Outcome.Refused Refusal.NoObject ∷ [])
         ((in_the_way ++ both_made) ++ first_made) }
@@ -81,7 +81,7 @@ pub fn a_refused_call_takes_a_turn_for_its_abort()
         (ends (Outcome.Refused Refusal.NoObject) (gets (take 1 one_up) 7 (EventKind.Abort 0) (away Phase.Idle 1))) }
 {}
 
-/// What a worker was told in the midst of its job, and the turns that it has left.
+/// What a worker has noted in the midst of its job, and the turns that it has left.
 pub fn a_worker_in_the_midst()
     ensures told { IsTold (objects (stored (take 2 one_up))) (counting (Phase.Going 0 1) 2) }
     ensures left_out { IsTold (objects (stored (take 2 one_up))) (counting (Phase.Going 0 1) 1) → ⊥ }

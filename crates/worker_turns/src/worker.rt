@@ -1,4 +1,4 @@
-//! A worker: its jobs, and what it was told.
+//! A worker: its jobs, and what it noted.
 
 ghost use Rattle.std.specs.Prelude.{◌≡◌, ◌==◌, ◌<◌, [], length, map, IfOk};
 ghost use Rattle.jobs_text.specs.Jobs.{calls_in};
@@ -11,9 +11,9 @@ use jobs_text::Job;
 use std::alloc::{AllocError, Global};
 use std::marker::Model;
 
-/// A worker with the jobs that it does, one after another, each tried so often at the most.
+/// A worker with the jobs that it does, one after another, each tried at most `tries` times.
 ///
-/// Contracts see its jobs, what it was told, and where it is.
+/// Contracts see its jobs, what it noted, and where it is.
 #[derive(Drop)]
 pub struct Worker {
     pub(crate) jobs: Vec<Job>,
@@ -75,7 +75,7 @@ impl Worker {
         self.outcomes.len() == self.jobs.len()
     }
 
-    /// How many tries of its job were broken, where it is in front of another; in the midst of a try
+    /// How many tries of its job were broken, where it is before another; in the midst of a try
     /// none.
     pub fn broken_before(&self) -> u8
         ensures { result ≡ broken_before self.now }
@@ -86,7 +86,7 @@ impl Worker {
         }
     }
 
-    /// What it was told.
+    /// What it noted.
     pub fn into_report(self) -> Report
         ensures receipts { result.receipts.items ≡ self.receipts }
         ensures outcomes { result.outcomes.items ≡ self.outcomes }

@@ -8,14 +8,14 @@ use Rattle.object_trait.specs.declared.event.Event.{Event}
 use Rattle.object_trait.specs.declared.event.EventKind.{EventKind}
 use Rattle.object_trait.specs.declared.event.EventKind.TheVariants as kind
 use Rattle.object_trait.specs.declared.event.EventKind.TheVariants.{Begin, Op, Busy, Commit, Abort, Rollback}
-use Rattle.serial_order.specs.History.{seen, is_open}
+use Rattle.serial_order.specs.History.{summary, is_open}
 use Rattle.type_table.specs.Limits.{most_open}
 use Rattle.serial_order.specs.Replay.{open_count, is_full, call_at, refusal}
 use Rattle.serial_order.specs.After.{CountsTo}
 use Rattle.serial_order.specs.declared.command.Command.TheVariants as command
 use Rattle.serial_order.specs.declared.refusal.Refusal.{Refusal}
 use Rattle.serial_order.specs.declared.refusal.Refusal.TheVariants.{NotOpen, NoObject, NoCall, TooManyOpen, HistoryFull, NoMemory, BadRollback}
-use Rattle.workers.specs.Standing.{Opening, HasCause}
+use Rattle.workers.specs.SharedState.{Start, HasCause}
 use Rattle.workers.proofs.Follows.{Follows}
 
 -- ---- it goes on owing it
@@ -30,7 +30,7 @@ room-falls (Commit t) before now counts = omega (arith, counts)
 room-falls (Abort t) before now counts = omega (arith, counts)
 room-falls (Rollback t n) before now counts = omega (arith, counts)
 
-pub cause-stays : (o : Opening) (H : List Event) (e : Event) → Follows H e → (r : Refusal) → HasCause o H r → HasCause o (H ++ e ∷ []) r
+pub cause-stays : (o : Start) (H : List Event) (e : Event) → Follows H e → (r : Refusal) → HasCause o H r → HasCause o (H ++ e ∷ []) r
 cause-stays o H e last HistoryFull cause =
     let longer = length-append H (e ∷ []) in
     let falls = room-falls e.kind _ _ last.counts in
@@ -44,22 +44,22 @@ cause-stays o H e last BadRollback cause = tt
 
 -- ---- where the store refuses
 
-module _ (o : Opening) (H : List Event) (objects : List Object) where
+module _ (o : Start) (H : List Event) (objects : List Object) where
   -- the cause of the reason that is given
   by-reason : (reason r : Refusal) → HasCause o H reason → Some reason ≡ Some r → HasCause o H r
   by-reason reason r cause given = subst (HasCause o H) (same_Some reason r given) cause
 
   -- a begin, where fewer are going than there are workers
-  pub begin-cause : (r : Refusal) → open_count (seen H) < open_count (seen o.store.history) + length o.jobs
+  pub begin-cause : (r : Refusal) → open_count (summary H) < open_count (summary o.store.history) + length o.jobs
       → refusal objects o.store.max H command.Begin ≡ Some r → HasCause o H r
   begin-cause r few refused =
-      elim (cases_Bool (nat_le most_open (open_count (seen H)))) [
+      elim (cases_Bool (nat_le most_open (open_count (summary H)))) [
         | inl many ↦
-            let most = leb-true most_open (open_count (seen H)) many in
+            let most = leb-true most_open (open_count (summary H)) many in
             by-reason TooManyOpen r (omega (arith, most, few)) (rw many at refused)
         | inr fine ↦
             elim (cases_Bool (is_full o.store.max H 2)) [
-              | inl full ↦ by-reason HistoryFull r (ltb-true o.store.max (length H + open_count (seen H) + 2) full) (rw (fine, full) at refused)
+              | inl full ↦ by-reason HistoryFull r (ltb-true o.store.max (length H + open_count (summary H) + 2) full) (rw (fine, full) at refused)
               | inr room ↦ absurd (none-some r (rw (fine, room) at refused))
             ]
       ]
@@ -67,7 +67,7 @@ module _ (o : Opening) (H : List Event) (objects : List Object) where
   -- a call
   pub call-cause : (t x : ℕ) (name : List ℕ) (r : Refusal) → refusal objects o.store.max H (command.Call t x name) ≡ Some r → HasCause o H r
   call-cause t x name r refused =
-      elim (cases_Bool (is_open (seen H) t)) [
+      elim (cases_Bool (is_open (summary H) t)) [
         | inr ended ↦ by-reason NotOpen r tt (rw ended at refused)
         | inl going ↦ no_object (rw going at refused)
       ]
@@ -76,7 +76,7 @@ module _ (o : Opening) (H : List Event) (objects : List Object) where
       full_or given =
           elim (cases_Bool (is_full o.store.max H 1)) [
             | inl full ↦
-                let more = ltb-true o.store.max (length H + open_count (seen H) + 1) full in
+                let more = ltb-true o.store.max (length H + open_count (summary H) + 1) full in
                 by-reason HistoryFull r (omega (arith, more)) (rw full at given)
             | inr room ↦ absurd (none-some r (rw room at given))
           ]

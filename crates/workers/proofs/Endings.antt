@@ -5,16 +5,16 @@ use Rattle.std.proofs.lemmas.List.{length-map}
 use Rattle.type_table.proofs.Elements.{found-map}
 use Rattle.object_trait.specs.Object.{Object}
 use Rattle.object_trait.specs.declared.event.Event.{Event}
-use Rattle.serial_order.specs.History.{begins, seen, is_open}
+use Rattle.serial_order.specs.History.{begins, summary, is_open}
 use Rattle.store_laws.specs.Stored.{objects}
 use Rattle.jobs_text.specs.Jobs.{Call}
 use Rattle.worker_turns.specs.declared.outcome.Report.{Report}
 use Rattle.worker_turns.specs.Parts.{AreParts, AreBroken}
 use Rattle.worker_turns.specs.Progress.{Progress, IsTold, IsAtEnd, IsSoFar, kinds, job_of}
 use Rattle.workers.specs.Events.{IsReplayed}
-use Rattle.workers.specs.Standing.{Opening, Standing, HasOwner, IsWorker, IsKept, HasEnded}
+use Rattle.workers.specs.SharedState.{Start, SharedState, HasOwner, IsWorker, IsKeptSince, HasEnded}
 use Rattle.workers.specs.Worked.{IsReport, IsOfNone, IsReportOf, AreReportsOf, HasWorked, EndingIsWorked}
-use Rattle.workers.proofs.Openings.{idle-none}
+use Rattle.workers.proofs.Starts.{idle-none}
 
 -- at the end the receipts are the parts of the jobs
 ended-parts : (types : List Object) (p : Progress) → IsTold types p → IsAtEnd p → AreParts types p.tries p.jobs p.outcomes (kinds p.receipts)
@@ -29,7 +29,7 @@ ended-parts types p told end =
     subst (AreParts types p.tries p.jobs p.outcomes) (sym all) told.are_parts
 
 -- so is its report
-report-ended : (o : Opening) (H : List Event) (w : ℕ) (p : Progress) (r : Report) → IsWorker o H w p → IsAtEnd p → IsReportOf p r → IsReport o H w p.jobs r
+report-ended : (o : Start) (H : List Event) (w : ℕ) (p : Progress) (r : Report) → IsWorker o H w p → IsAtEnd p → IsReportOf p r → IsReport o H w p.jobs r
 report-ended o H w p r its end told =
     let happened : kinds r.receipts.items ≡ kinds p.receipts = ap kinds told.receipts in
     record {
@@ -44,7 +44,7 @@ report-ended o H w p r its end told =
       causes = λ reason inside. its.causes reason (rw told.outcomes at inside);
     }
 
-module _ (o : Opening) (s : Standing) (kept : IsKept o s) (ended : (w : ℕ) → HasEnded s w) where
+module _ (o : Start) (s : SharedState) (kept : IsKeptSince o s) (ended : (w : ℕ) → HasEnded s w) where
   -- no worker has a transaction open
   none-owned : (t : ℕ) → HasOwner t s.workers → ⊥
   none-owned t owner =
@@ -55,9 +55,9 @@ module _ (o : Opening) (s : Standing) (kept : IsKept o s) (ended : (w : ℕ) →
       ]
 
   -- so none that began since the start is open
-  none-open : (t : ℕ) → begins o.store.history ≤ t → is_open (seen s.store.history) t ≡ false
+  none-open : (t : ℕ) → begins o.store.history ≤ t → is_open (summary s.store.history) t ≡ false
   none-open t new =
-      elim (cases_Bool (is_open (seen s.store.history) t)) [
+      elim (cases_Bool (is_open (summary s.store.history) t)) [
         | inl going ↦ absurd (none-owned t (kept.owners t new going))
         | inr closed ↦ closed
       ]

@@ -14,7 +14,7 @@ use Rattle.serial_order.specs.Machine.{MayFollow, RunsOn, IsRun}
 use Rattle.worker_turns.specs.declared.outcome.Receipt.{Receipt}
 use Rattle.worker_turns.specs.Progress.{kinds}
 use Rattle.workers.specs.Events.{by, done_for, done_by}
-use Rattle.workers.specs.Standing.{Opening, past}
+use Rattle.workers.specs.SharedState.{Start, past}
 
 -- ---- runs
 
@@ -74,11 +74,11 @@ by-append w place (e ∷ es) fs =
 -- ---- the events that came since the start
 
 -- none came yet
-pub past-none : (o : Opening) → past o o.store.history ≡ []
+pub past-none : (o : Start) → past o o.store.history ≡ []
 past-none o = drop-length o.store.history
 
-module _ (o : Opening) (H : List Event) (goes_on : o.store.history ++ past o H ≡ H) where
-  -- the history has so many events at least
+module _ (o : Start) (H : List Event) (goes_on : o.store.history ++ past o H ≡ H) where
+  -- the events of the start and those since then are all
   pub start-short : length o.store.history + length (past o H) ≡ length H
   start-short = sym (length-append o.store.history (past o H)) ∙ ap length goes_on
 
@@ -97,7 +97,7 @@ module _ (o : Opening) (H : List Event) (goes_on : o.store.history ++ past o H �
   pub begins-since : begins o.store.history ≤ begins H
   begins-since = rw goes_on at (begins-more o.store.history (past o H))
 
-  -- the worker of the event has it behind its others, at its place
+  -- the worker of the event has it after its others, at its place
   pub by-own : (w : ℕ) (e : Event) → (e.worker == w) ≡ true
       → by w (length o.store.history) (past o (H ++ e ∷ [])) ≡ by w (length o.store.history) (past o H) ++ (record { position = length H; event = e }) ∷ []
   by-own w e own =

@@ -1,4 +1,4 @@
--- What worker 0 was told of its one job.
+-- What worker 0 noted of its one job.
 use Rattle.std.proofs.Common.{◌≡◌, ℕ, zero, suc, List, [], ◌∷◌, subst, refl, arith}
 use Rattle.std.specs.List.{Contains}
 use Rattle.std.specs.Prelude.{codes}
@@ -15,14 +15,14 @@ use Rattle.worker_turns.specs.Parts.{AreParts}
 use Rattle.worker_turns.specs.Progress.{kinds}
 use Rattle.workers.specs.Events.{IsReplayed}
 use Rattle.workers.specs.Worked.{IsReport}
-use Rattle.workers.specs.Examples.{opening, after_both, of_first}
+use Rattle.workers.specs.Examples.{start, after_both, of_first}
 
 -- its one job
 abbrev its_job : List Call
 its_job = (0, codes "inc:1") ∷ []
 
 -- was tried once
-job-done : AreParts (objects opening.store) 1 (its_job ∷ []) (Committed 1 ∷ []) (kinds of_first)
+job-done : AreParts (objects start.store) 1 (its_job ∷ []) (Committed 1 ∷ []) (kinds of_first)
 job-done = (
   kinds of_first,
   [],
@@ -48,7 +48,7 @@ one-outcome : (o p : Outcome) → Contains (o ∷ []) p → o ≡ p
 one-outcome o p (zero, low, at) = at
 one-outcome o p (suc k, low, at) = absurd (omega (arith, low))
 
-pub first-committed : (r : Report) → r.receipts.items ≡ of_first → r.outcomes.items ≡ Committed 1 ∷ [] → IsReport opening after_both 0 (its_job ∷ []) r
+pub first-committed : (r : Report) → r.receipts.items ≡ of_first → r.outcomes.items ≡ Committed 1 ∷ [] → IsReport start after_both 0 (its_job ∷ []) r
 first-committed r receipts outcomes = record {
   receipts = receipts;
   as_many = rw outcomes refl;

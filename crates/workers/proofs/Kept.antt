@@ -6,17 +6,17 @@ use Rattle.std.proofs.lemmas.List.Elements.{All-push}
 use Rattle.std.proofs.lemmas.Option.{same_Some}
 use Rattle.object_trait.specs.declared.event.Event.{Event}
 use Rattle.object_trait.specs.declared.event.EventKind.{EventKind}
-use Rattle.serial_order.specs.History.{seen, is_open}
+use Rattle.serial_order.specs.History.{summary, is_open}
 use Rattle.serial_order.specs.Machine.{IsRun}
 use Rattle.serial_order.specs.Replay.{open_count}
-use Rattle.serial_order.specs.After.{SeenAfter, TransactionsInRun, OpensAfter, BeginnersAfter}
+use Rattle.serial_order.specs.After.{SummaryAfter, TransactionsInRun, OpensAfter, BeginnersAfter}
 use Rattle.serial_order.specs.Held.{OwnAfter}
 use Rattle.store_laws.specs.Stored.{Stored, objects}
 use Rattle.store.specs.Calls.{noted}
 use Rattle.worker_turns.specs.declared.phase.Phase.TheVariants.{Idle}
 use Rattle.worker_turns.specs.Progress.{Progress, IsTold, IsFresh, IsAtEnd, open_of}
 use Rattle.worker_turns.specs.Turns.{Turns, HasOpen, TurnsAreTold}
-use Rattle.workers.specs.Standing.{Opening, Standing, past, is_going, IsWorker, IsKept, TakesTurn, TurnsAreKept}
+use Rattle.workers.specs.SharedState.{Start, SharedState, past, is_going, IsWorker, IsKeptSince, TakesTurn, TurnsAreKept}
 use Rattle.workers.proofs.Events.{past-more, goes_on-more}
 use Rattle.workers.proofs.Follows.{Follows, follows}
 use Rattle.workers.proofs.Lists.{found-set, found-others, map-set_alike, count-fewer}
@@ -26,17 +26,17 @@ use Rattle.workers.proofs.Told.{own-worker, other-worker, others-apart, quiet-wo
 use Rattle.workers.proofs.Turned.{IsNoted, IsQuiet, turned}
 
 -- a transaction that a worker has open is open
-pub has-open : (H : List Event) (own : Option ℕ) → ((t : ℕ) → own ≡ Some t → is_open (seen H) t ≡ true) → HasOpen H own
+pub has-open : (H : List Event) (own : Option ℕ) → ((t : ℕ) → own ≡ Some t → is_open (summary H) t ≡ true) → HasOpen H own
 has-open H None known = tt
 has-open H (Some t) known = known t refl
 
-module _ (o : Opening) (s : Standing) (kept : IsKept o s) (w : ℕ) (let_in : w < s.let_in) (p : Progress) (there : slice_get s.workers w ≡ Some p) (q : Progress) where
+module _ (o : Start) (s : SharedState) (kept : IsKeptSince o s) (w : ℕ) (let_in : w < s.let_in) (p : Progress) (there : slice_get s.workers w ≡ Some p) (q : Progress) where
   -- of the worker before its turn
   its : IsWorker o s.store.history w p
   its = kept.workers w p there
 
   -- with what it has now
-  turned-at : Stored → Standing
+  turned-at : Stored → SharedState
   turned-at store = record { store = store; workers = set s.workers w q; let_in = s.let_in }
 
   -- a worker after the turn is that one, or as it was
@@ -55,7 +55,7 @@ module _ (o : Opening) (s : Standing) (kept : IsKept o s) (w : ℕ) (let_in : w 
   waiting-after v r late now = who (λ k z. s.let_in ≤ k → IsFresh z) (λ early. absurd (omega (arith, early, let_in))) (λ k z other old early. kept.waiting k z early old) v r now late
 
   -- fewer are going than there are workers, where this one isn't
-  few-going : p.phase ≡ Idle → open_count (seen s.store.history) < open_count (seen o.store.history) + length o.jobs
+  few-going : p.phase ≡ Idle → open_count (summary s.store.history) < open_count (summary o.store.history) + length o.jobs
   few-going idle =
       let fewer = count-fewer is_going s.workers w p there (ap (λ f. is_some (open_of f)) idle) in
       let as_many : length s.workers ≡ length o.jobs = sym (length-map s.workers (λ (r : Progress). r.jobs)) ∙ ap length kept.jobs in
@@ -64,7 +64,7 @@ module _ (o : Opening) (s : Standing) (kept : IsKept o s) (w : ℕ) (let_in : w 
 
   -- after a turn with an event
   after-noted : (happened : EventKind) → Follows s.store.history (event w happened) → IsNoted o s.store.history w happened p q → IsTold (objects o.store) q
-      → IsKept o (turned-at (noted s.store w happened))
+      → IsKeptSince o (turned-at (noted s.store w happened))
   unfolding turned-at its
   after-noted happened last told_it told =
       let H = s.store.history in
@@ -81,19 +81,19 @@ module _ (o : Opening) (s : Standing) (kept : IsKept o s) (w : ℕ) (let_in : w 
         waiting = waiting-after;
         inside = rw (past-more o H kept.goes_on e) (All-push (λ (f : Event). f.worker < s.let_in) (past o H) e kept.inside let_in);
         owners = λ t new open_now.
-            elim (open-whose (seen H) happened (open_of p.phase) (open_of q.phase) told_it.leads t (sym (last.opened t) ∙ open_now)) [
+            elim (open-whose (summary H) happened (open_of p.phase) (open_of q.phase) told_it.leads t (sym (last.opened t) ∙ open_now)) [
               | inl own ↦ owner-own s.workers w p q there t own
               | inr old ↦ owner-other s.workers w p q there t (kept.owners t new old.0) old.1
             ];
         open_now =
-            going-after s.workers w p q there (open_count (seen H)) (open_count (seen (H ++ e ∷ []))) (open_count (seen o.store.history)) kept.open_now
+            going-after s.workers w p q there (open_count (summary H)) (open_count (summary (H ++ e ∷ []))) (open_count (summary o.store.history)) kept.open_now
             (going-counts happened (open_of p.phase) (open_of q.phase) told_it.leads _ _ last.counts);
         few_let_in = rw (length-set s.workers w q) kept.few_let_in;
         few = rw (length-set s.workers w q) kept.few;
       }
 
   -- after a turn with none
-  after-quiet : IsQuiet o s.store.history p q → IsTold (objects o.store) q → IsKept o (turned-at s.store)
+  after-quiet : IsQuiet o s.store.history p q → IsTold (objects o.store) q → IsKeptSince o (turned-at s.store)
   unfolding turned-at its
   after-quiet quiet told =
       let H = s.store.history in
@@ -106,14 +106,14 @@ module _ (o : Opening) (s : Standing) (kept : IsKept o s) (w : ℕ) (let_in : w 
         inside = kept.inside;
         owners = λ t new open_now. owner-same s.workers w p q there quiet.leads t (kept.owners t new open_now);
         open_now =
-            going-after s.workers w p q there (open_count (seen H)) (open_count (seen H)) (open_count (seen o.store.history)) kept.open_now
-            (ap (λ b. open_count (seen H) + b) (ap (λ a. cond (is_some a) 1 0) (sym quiet.leads)));
+            going-after s.workers w p q there (open_count (summary H)) (open_count (summary H)) (open_count (summary o.store.history)) kept.open_now
+            (ap (λ b. open_count (summary H) + b) (ap (λ a. cond (is_some a) 1 0) (sym quiet.leads)));
         few_let_in = rw (length-set s.workers w q) kept.few_let_in;
         few = rw (length-set s.workers w q) kept.few;
       }
 
--- what the worker was told goes on being the parts of its jobs
-told-after : TurnsAreTold → (o : Opening) (s : Standing) → IsKept o s → (w : ℕ) (p : Progress) → slice_get s.workers w ≡ Some p → (IsAtEnd p → ⊥) → (new : Stored) (q : Progress)
+-- what the worker noted goes on being the parts of its jobs
+told-after : TurnsAreTold → (o : Start) (s : SharedState) → IsKeptSince o s → (w : ℕ) (p : Progress) → slice_get s.workers w ≡ Some p → (IsAtEnd p → ⊥) → (new : Stored) (q : Progress)
     → Turns s.store w p new q → IsTold (objects new) q
 told-after tells o s kept w p there going new q turn =
     let its = kept.workers w p there in
@@ -121,10 +121,10 @@ told-after tells o s kept w p there going new q turn =
     tells s.store w p new q (subst (λ types. IsTold types p) (sym same) its.told) going
     (has-open s.store.history (open_of p.phase) (λ t now. (its.owns t now).still_open)) turn
 
-module _ (now : SeenAfter) (in_run : TransactionsInRun) (opens : OpensAfter) (own : OwnAfter) (began : BeginnersAfter) (tells : TurnsAreTold) where
+module _ (now : SummaryAfter) (in_run : TransactionsInRun) (opens : OpensAfter) (own : OwnAfter) (began : BeginnersAfter) (tells : TurnsAreTold) where
   -- with the store's event or without
-  after-turn : (o : Opening) (s : Standing) (w : ℕ) (new : Standing) → IsRun (objects s.store) s.store.history → IsRun (objects new.store) new.store.history
-      → IsKept o s → TakesTurn s w new → IsKept o new
+  after-turn : (o : Start) (s : SharedState) (w : ℕ) (new : SharedState) → IsRun (objects s.store) s.store.history → IsRun (objects new.store) new.store.history
+      → IsKeptSince o s → TakesTurn s w new → IsKeptSince o new
   unfolding turned-at
   after-turn o s w new run on kept turn =
       let p = turn.p in
@@ -135,12 +135,12 @@ module _ (now : SeenAfter) (in_run : TransactionsInRun) (opens : OpensAfter) (ow
       elim (turned o s.store w p (kept.workers w p turn.there) new.store q max (few-going o s kept w turn.let_in p turn.there q) turn.turn) [
         | inl quiet ↦
             let same : objects new.store ≡ objects o.store = ap objects quiet.0 ∙ types in
-            subst (IsKept o) (sym (turn.is ∙ ap (turned-at o s kept w turn.let_in p turn.there q) quiet.0))
+            subst (IsKeptSince o) (sym (turn.is ∙ ap (turned-at o s kept w turn.let_in p turn.there q) quiet.0))
             (after-quiet o s kept w turn.let_in p turn.there q quiet.1 (subst (λ l. IsTold l q) same told))
         | inr made ↦
             let same : objects new.store ≡ objects o.store = ap objects made.1 ∙ types in
             let last = follows now in_run opens own began (objects s.store) s.store.history (event w made.0) run (subst (λ z. IsRun (objects z) z.history) made.1 on) in
-            subst (IsKept o) (sym (turn.is ∙ ap (turned-at o s kept w turn.let_in p turn.there q) made.1))
+            subst (IsKeptSince o) (sym (turn.is ∙ ap (turned-at o s kept w turn.let_in p turn.there q) made.1))
             (after-noted o s kept w turn.let_in p turn.there q made.0 last made.2 (subst (λ l. IsTold l q) same told))
       ]
 

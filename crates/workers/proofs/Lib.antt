@@ -1,6 +1,6 @@
 pub mod Lists
 pub mod Events
-pub mod Openings
+pub mod Starts
 pub mod Follows
 pub mod Causes
 pub mod Turned

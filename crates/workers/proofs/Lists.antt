@@ -1,8 +1,9 @@
--- Elements of lists by their places: in a list with more behind it, and in one of which an element is another.
+-- Elements of lists by their places: in a list with more after it, and in one of which an element is another.
 use Rattle.std.proofs.Common.{◌≡◌, ℕ, zero, suc, ◌+◌, ◌<◌, ◌==◌, Bool, true, false, cond, ◌||◌, List, [], ◌∷◌, ◌++◌, filter, length, map, set, take, drop, ◌⊎◌, Some, slice_get, slice_index_or, refl, sym, ap, ◌∙◌, inl, inr, arith}
 use Rattle.std.specs.List.{Contains}
 use Rattle.std.proofs.lemmas.Bool.{cases_Bool, eq-eqb}
 use Rattle.std.proofs.lemmas.Option.{none-some, same_Some}
+use Rattle.std.proofs.Math.Bool.{or-true}
 use Rattle.type_table.proofs.Elements.{filter-length}
 use Rattle.serial_order.specs.Operations.{is_among}
 
@@ -16,14 +17,14 @@ read-found (z ∷ xs) (suc i) x y there read = read-found xs i x y there read
 
 -- ---- what is still to come
 
--- it begins with the element at the first place that isn't behind
+-- it begins with the element at place n
 pub next-found : {X : Type 0} (xs : List X) (n : ℕ) (x : X) (rest : List X) → drop n xs ≡ x ∷ rest → slice_get xs n ≡ Some x
 next-found [] zero x rest coming = absurd (cc)
 next-found [] (suc n) x rest coming = absurd (cc)
 next-found (z ∷ xs) zero x rest coming = cc
 next-found (z ∷ xs) (suc n) x rest coming = next-found xs n x rest coming
 
--- then what is behind has it too
+-- the elements before the next place have it too
 pub next-behind : {X : Type 0} (xs : List X) (n : ℕ) (x : X) (rest : List X) → drop n xs ≡ x ∷ rest → take (suc n) xs ≡ take n xs ++ x ∷ []
 next-behind [] zero x rest coming = absurd (cc)
 next-behind [] (suc n) x rest coming = absurd (cc)
@@ -70,7 +71,7 @@ found-others (z ∷ xs) zero y (suc j) other = refl
 found-others (z ∷ xs) (suc i) y zero other = refl
 found-others (z ∷ xs) (suc i) y (suc j) other = found-others xs i y j (λ e. other (ap (λ n. suc n) e))
 
--- where f can't tell it from the one before, f makes the same of each
+-- where f gives the same of the new element and the old one, it gives the same of each
 pub map-set_alike : {X Y : Type 0} (f : X → Y) (xs : List X) (i : ℕ) (x y : X) → slice_get xs i ≡ Some x → f y ≡ f x → map f (set xs i y) ≡ map f xs
 map-set_alike f [] i x y there alike = refl
 map-set_alike f (z ∷ xs) zero x y there alike = ap (λ k. k ∷ map f xs) (alike ∙ ap f (sym (same_Some z x there)))
@@ -119,11 +120,7 @@ count-none test (z ∷ xs) none = rw (one-more (test z) z (filter test xs), none
 among-at : (ts : List ℕ) (t k : ℕ) → k < length ts → slice_index_or ts k t ≡ t → is_among ts t ≡ true
 among-at [] t k low at = absurd (omega (arith, low))
 among-at (u ∷ ts) t zero low at = ap (λ b. b || is_among ts t) (eq-eqb u t at)
-among-at (u ∷ ts) t (suc k) low at = rw (among-at ts t k (omega (arith, low)) at) (or-last (u == t))
-  where
-    or-last : (b : Bool) → (b || true) ≡ true
-    or-last true = refl
-    or-last false = refl
+among-at (u ∷ ts) t (suc k) low at = rw (among-at ts t k (omega (arith, low)) at) (or-true (u == t))
 
 pub among : (ts : List ℕ) (t : ℕ) → Contains ts t → is_among ts t ≡ true
 among ts t inside = among-at ts t (inside.0) (inside.1) (inside.2)

@@ -9,11 +9,11 @@ use Rattle.object_trait.specs.declared.event.EventKind.{EventKind}
 use Rattle.object_trait.specs.declared.event.EventKind.TheVariants as kind
 use Rattle.object_trait.specs.declared.event.EventKind.TheVariants.{Begin, Op, Busy, Commit, Abort, Rollback}
 use Rattle.serial_order.specs.Operations.{of}
-use Rattle.serial_order.specs.History.{seen, begins, standing, is_open}
+use Rattle.serial_order.specs.History.{summary, begins, surviving, is_open}
 use Rattle.serial_order.specs.After.{beginners}
 use Rattle.serial_order.specs.declared.entry.Entry.{Entry}
 use Rattle.workers.specs.Events.{done_for, done_by, IsReplayed}
-use Rattle.workers.specs.Standing.{Opening, past, IsOwn}
+use Rattle.workers.specs.SharedState.{Start, past, IsOwn}
 use Rattle.workers.proofs.Events.{commits-more, commits-last, begins-more, begins-since, done_by-more}
 use Rattle.workers.proofs.Follows.{Follows, IsApart, done_for-apart, committed-apart, ahead-apart, own-stays}
 use Rattle.workers.proofs.Turned.{Leads}
@@ -25,7 +25,7 @@ event w happened = record { worker = w; kind = happened }
 -- ---- who began it
 
 -- what a worker began it began, where it is open still
-pub stays-own : (o : Opening) (H : List Event) (e : Event) → Follows H e → (v t : ℕ) → IsOwn o H v t → is_open (seen (H ++ e ∷ [])) t ≡ true → IsOwn o (H ++ e ∷ []) v t
+pub stays-own : (o : Start) (H : List Event) (e : Event) → Follows H e → (v t : ℕ) → IsOwn o H v t → is_open (summary (H ++ e ∷ [])) t ≡ true → IsOwn o (H ++ e ∷ []) v t
 stays-own o H e last v t own open_now = record {
   still_open = open_now;
   beginner = ap (λ l. slice_get l t) last.began_by ∙ found-front (beginners H) _ t v own.beginner;
@@ -33,7 +33,7 @@ stays-own o H e last v t own open_now = record {
 }
 
 -- what it begins is its own
-begins-own : (o : Opening) (H : List Event) (w u : ℕ) → Follows H (event w (Begin u)) → o.store.history ++ past o H ≡ H → IsOwn o (H ++ event w (Begin u) ∷ []) w u
+begins-own : (o : Start) (H : List Event) (w u : ℕ) → Follows H (event w (Begin u)) → o.store.history ++ past o H ≡ H → IsOwn o (H ++ event w (Begin u) ∷ []) w u
 begins-own o H w u last goes_on =
     let is_next : u ≡ begins H = last.may in
     record {
@@ -45,7 +45,7 @@ begins-own o H w u last goes_on =
     }
 
 -- the transaction that a worker has open after its event is its own
-pub leads-own : (o : Opening) (H : List Event) (w : ℕ) (happened : EventKind) → Follows H (event w happened) → o.store.history ++ past o H ≡ H
+pub leads-own : (o : Start) (H : List Event) (w : ℕ) (happened : EventKind) → Follows H (event w happened) → o.store.history ++ past o H ≡ H
     → (before now : Option ℕ) → Leads happened before now → ((t : ℕ) → before ≡ Some t → IsOwn o H w t) → (t : ℕ) → now ≡ Some t → IsOwn o (H ++ event w happened ∷ []) w t
 leads-own o H w (Begin u) last goes_on before now (was, is) own t given =
     subst (IsOwn o (H ++ event w (Begin u) ∷ []) w) (same_Some u t (sym is ∙ given)) (begins-own o H w u last goes_on)
@@ -73,12 +73,12 @@ leads-apart (Abort u) before now (was, is) t other = ne_eqb u t (λ same. other 
 leads-apart (Rollback u n) before now leads t other = absurd leads
 
 -- two workers have no transaction in common
-pub own-apart : (o : Opening) (H : List Event) (w v t : ℕ) → IsOwn o H w t → IsOwn o H v t → w ≡ v
+pub own-apart : (o : Start) (H : List Event) (w v t : ℕ) → IsOwn o H w t → IsOwn o H v t → w ≡ v
 own-apart o H w v t first second = same_Some w v (sym first.beginner ∙ second.beginner)
 
 -- ---- what it executed
 
--- no operation that lives is of a transaction that hasn't begun
+-- no operation that survives is of a transaction that hasn't begun
 none-of : (begun : ℕ) (t : ℕ) (V : List Entry) (Rest : Entry → Type 0) → begun ≤ t → AllByRecursion (λ (e : Entry). (e.by < begun) × Rest e) V → of t V ≡ []
 none-of begun t [] Rest ahead each = refl
 none-of begun t (e ∷ V) Rest ahead each =
@@ -90,18 +90,18 @@ none-of begun t (e ∷ V) Rest ahead each =
 done_by-none : (t : ℕ) (es : List EventKind) (happened : EventKind) → done_for t happened ≡ [] → done_by t (es ++ happened ∷ []) ≡ done_by t es
 done_by-none t es happened none = done_by-more t es happened ∙ ap (λ l. done_by t es ++ l) none ∙ append-nil (done_by t es)
 
--- what lives of the transaction that a worker has open after its event is what it executed
+-- what survives of the transaction that a worker has open after its event is what it executed
 pub leads-operations : (H : List Event) (w : ℕ) (happened : EventKind) → Follows H (event w happened) → (es : List EventKind) (before now : Option ℕ) → Leads happened before now
-    → ((t : ℕ) → before ≡ Some t → of t (standing H) ≡ done_by t es) → ((t : ℕ) → begins H ≤ t → done_by t es ≡ []) → (t : ℕ) → now ≡ Some t
-    → of t (standing (H ++ event w happened ∷ [])) ≡ done_by t (es ++ happened ∷ [])
+    → ((t : ℕ) → before ≡ Some t → of t (surviving H) ≡ done_by t es) → ((t : ℕ) → begins H ≤ t → done_by t es ≡ []) → (t : ℕ) → now ≡ Some t
+    → of t (surviving (H ++ event w happened ∷ [])) ≡ done_by t (es ++ happened ∷ [])
 leads-operations H w (Begin u) last es before now (was, is) own ahead t given =
     let is_next : t ≡ begins H = sym (same_Some u t (sym is ∙ given)) ∙ last.may in
     let behind : begins H ≤ t = omega (arith, is_next) in
-    last.own t ∙ none-of (begins H) t (standing H) _ behind last.in_run.stand ∙ sym (done_by-none t es (Begin u) refl ∙ ahead t behind)
+    last.own t ∙ none-of (begins H) t (surviving H) _ behind last.in_run.survive ∙ sym (done_by-none t es (Begin u) refl ∙ ahead t behind)
 leads-operations H w (Op u x k) last es before now (was, is) own ahead t given =
     let mine : (u == t) ≡ true = eq-eqb u t (same_Some u t (sym is ∙ given)) in
     let entry : List Entry = (record { by = u; at = x; op = k }) ∷ [] in
-    last.own t ∙ ap (λ b. cond b (of t (standing H) ++ entry) (of t (standing H))) mine ∙ ap (λ l. l ++ entry) (own t (was ∙ sym is ∙ given))
+    last.own t ∙ ap (λ b. cond b (of t (surviving H) ++ entry) (of t (surviving H))) mine ∙ ap (λ l. l ++ entry) (own t (was ∙ sym is ∙ given))
     ∙ ap (λ b. done_by t es ++ cond b entry []) (sym mine) ∙ sym (done_by-more t es (Op u x k))
 leads-operations H w (Busy c u x v) last es before now (was, is) own ahead t given =
     last.own t ∙ own t (was ∙ sym is ∙ given) ∙ sym (done_by-none t es (Busy c u x v) refl)
@@ -138,7 +138,7 @@ module _ (H : List Event) (e : Event) (last : Follows H e) where
       done_by-none t es e.kind (done_for-apart t e.kind (ahead-apart H e last t old)) ∙ ahead t old
 
 -- what a worker commits is replayed as it was executed
-pub committed-now : (H : List Event) (w t : ℕ) → Follows H (event w (Commit t)) → (es : List EventKind) → of t (standing H) ≡ done_by t es
+pub committed-now : (H : List Event) (w t : ℕ) → Follows H (event w (Commit t)) → (es : List EventKind) → of t (surviving H) ≡ done_by t es
     → IsReplayed (H ++ event w (Commit t) ∷ []) t (es ++ Commit t ∷ [])
 committed-now H w t last es own = record {
   committed = commits-last H w t;

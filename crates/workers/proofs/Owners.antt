@@ -5,17 +5,17 @@ use Rattle.std.proofs.lemmas.Option.{none-some, same_Some}
 use Rattle.object_trait.specs.declared.event.EventKind.{EventKind}
 use Rattle.object_trait.specs.declared.event.EventKind.TheVariants as kind
 use Rattle.object_trait.specs.declared.event.EventKind.TheVariants.{Begin, Op, Busy, Commit, Abort, Rollback}
-use Rattle.serial_order.specs.History.{Seen, is_open}
+use Rattle.serial_order.specs.History.{Summary, is_open}
 use Rattle.serial_order.specs.After.{is_open_after, CountsTo}
 use Rattle.worker_turns.specs.Progress.{Progress, open_of}
-use Rattle.workers.specs.Standing.{is_going, HasOwner}
+use Rattle.workers.specs.SharedState.{is_going, HasOwner}
 use Rattle.workers.proofs.Lists.{found-set, found-others, count-set}
 use Rattle.workers.proofs.Turned.{Leads}
 
 -- ---- by an event
 
 -- what is open and isn't the worker's
-kept-open : (s : Seen) (u t : ℕ) (before now : Option ℕ) → before ≡ Some u → now ≡ Some u → is_open s t ≡ true → (now ≡ Some t) ⊎ ((is_open s t ≡ true) × (before ≡ Some t → ⊥))
+kept-open : (s : Summary) (u t : ℕ) (before now : Option ℕ) → before ≡ Some u → now ≡ Some u → is_open s t ≡ true → (now ≡ Some t) ⊎ ((is_open s t ≡ true) × (before ≡ Some t → ⊥))
 kept-open s u t before now was is going =
     elim (cases_Bool (t == u)) [
       | inl same ↦ inl (is ∙ ap Some (sym (eqb-true t u same)))
@@ -23,13 +23,13 @@ kept-open s u t before now was is going =
     ]
 
 -- what isn't ended
-left-open : (s : Seen) (u t : ℕ) (before now : Option ℕ) → before ≡ Some u → (not (t == u) && is_open s t) ≡ true → (now ≡ Some t) ⊎ ((is_open s t ≡ true) × (before ≡ Some t → ⊥))
+left-open : (s : Summary) (u t : ℕ) (before now : Option ℕ) → before ≡ Some u → (not (t == u) && is_open s t) ≡ true → (now ≡ Some t) ⊎ ((is_open s t ≡ true) × (before ≡ Some t → ⊥))
 left-open s u t before now was going =
     let parts = and_parts (not (t == u)) (is_open s t) going in
     inr (parts.1, λ e. false≢true (sym (not-true (t == u) parts.0) ∙ eq-eqb t u (sym (same_Some u t (sym was ∙ e)))))
 
 -- what is open after the worker's event is its own, or was open and wasn't
-pub open-whose : (s : Seen) (happened : EventKind) (before now : Option ℕ) → Leads happened before now → (t : ℕ) → is_open_after s happened t ≡ true
+pub open-whose : (s : Summary) (happened : EventKind) (before now : Option ℕ) → Leads happened before now → (t : ℕ) → is_open_after s happened t ≡ true
     → (now ≡ Some t) ⊎ ((is_open s t ≡ true) × (before ≡ Some t → ⊥))
 open-whose s (Begin u) before now (was, is) t going =
     elim (or_cases (t == u) (is_open s t) going) [

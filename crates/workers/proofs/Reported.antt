@@ -4,12 +4,12 @@ use Rattle.std.proofs.lemmas.List.{length_push, length-take-le}
 use Rattle.std.proofs.lemmas.Option.{none-some}
 use Rattle.worker_turns.specs.declared.outcome.Report.{Report}
 use Rattle.worker_turns.specs.Progress.{Progress}
-use Rattle.workers.specs.Standing.{Standing}
+use Rattle.workers.specs.SharedState.{SharedState}
 use Rattle.workers.specs.Worked.{IsReportOf, IsOfNone, AreReportsOf}
 use Rattle.workers.proofs.Lists.{found-both, next-behind}
 
 -- those of no worker
-pub reports-none : (s : Standing) → AreReportsOf (record s { workers = [] }) []
+pub reports-none : (s : SharedState) → AreReportsOf (record s { workers = [] }) []
 reports-none s = record {
   as_many = refl;
   started = λ w p r early there. absurd (none-some p there);
@@ -17,7 +17,7 @@ reports-none s = record {
 }
 
 -- and that of one worker more
-pub reports-more : (s : Standing) (done : List Progress) (reports : List Report) (p : Progress) (r : Report) → AreReportsOf (record s { workers = done }) reports
+pub reports-more : (s : SharedState) (done : List Progress) (reports : List Report) (p : Progress) (r : Report) → AreReportsOf (record s { workers = done }) reports
     → (length done < s.let_in → IsReportOf p r) → (s.let_in ≤ length done → IsOfNone p.jobs r)
     → AreReportsOf (record s { workers = done ++ p ∷ [] }) (reports ++ r ∷ [])
 reports-more s done reports p r told started others =
@@ -37,7 +37,7 @@ reports-more s done reports p r told started others =
     }
 
 -- of the next of a list
-pub reports-next : (s : Standing) (workers : List Progress) (n m : ℕ) (reports : List Report) (p : Progress) (r : Report) (rest : List Progress) → drop n workers ≡ p ∷ rest
+pub reports-next : (s : SharedState) (workers : List Progress) (n m : ℕ) (reports : List Report) (p : Progress) (r : Report) (rest : List Progress) → drop n workers ≡ p ∷ rest
     → m ≡ n + 1 → n ≤ length workers → AreReportsOf (record s { workers = take n workers }) reports
     → (n < s.let_in → IsReportOf p r) → (s.let_in ≤ n → IsOfNone p.jobs r)
     → AreReportsOf (record s { workers = take m workers }) (reports ++ r ∷ [])

@@ -5,22 +5,22 @@ use Rattle.std.proofs.lemmas.Option.{same_Some}
 use Rattle.store_laws.specs.Stored.{Stored, objects}
 use Rattle.worker_turns.specs.Progress.{Progress, IsTold, IsAtEnd, open_of}
 use Rattle.worker_turns.specs.Turns.{Turns, HasOpen, TurnsAreCounted, turns_left}
-use Rattle.workers.specs.Doing.{IsGoing, Steps}
-use Rattle.workers.specs.Standing.{Opening, Standing, IsKept, TakesTurn}
+use Rattle.workers.specs.Doing.{IsGoing, TakesTurnIfAny}
+use Rattle.workers.specs.SharedState.{Start, SharedState, IsKeptSince, TakesTurn}
 use Rattle.workers.proofs.Kept.{has-open}
 use Rattle.workers.proofs.Lists.{found-set}
 
--- what a worker was told, by the types of the store as it is
-told-now : (o : Opening) (s : Standing) → IsKept o s → (w : ℕ) (p : Progress) → slice_get s.workers w ≡ Some p → IsTold (objects s.store) p
+-- what a worker noted, by the types of the store as it is
+told-now : (o : Start) (s : SharedState) → IsKeptSince o s → (w : ℕ) (p : Progress) → slice_get s.workers w ≡ Some p → IsTold (objects s.store) p
 told-now o s kept w p there =
     let same : objects s.store ≡ objects o.store = ap objects kept.store in
     subst (λ types. IsTold types p) (sym same) (kept.workers w p there).told
 
 -- each turn takes at least one from those that it has left
-turn-counts : TurnsAreCounted → (o : Opening) (s : Standing) → IsKept o s → (w : ℕ) (new : Standing) (turn : TakesTurn s w new) → turns_left turn.q < turns_left turn.p
+turn-counts : TurnsAreCounted → (o : Start) (s : SharedState) → IsKeptSince o s → (w : ℕ) (new : SharedState) (turn : TakesTurn s w new) → turns_left turn.q < turns_left turn.p
 turn-counts counted o s kept w new turn = counted s.store w turn.p new.store turn.q (told-now o s kept w turn.p turn.there) turn.going turn.turn
 
-module _ (o : Opening) (s : Standing) (kept : IsKept o s) (w : ℕ) (its : IsGoing s w) (p : Progress) (read : p ≡ its.p) where
+module _ (o : Start) (s : SharedState) (kept : IsKeptSince o s) (w : ℕ) (its : IsGoing s w) (p : Progress) (read : p ≡ its.p) where
   -- it has a job without an outcome
   pub has-job : length p.outcomes < length p.jobs
   has-job =
@@ -45,9 +45,9 @@ module _ (o : Opening) (s : Standing) (kept : IsKept o s) (w : ℕ) (its : IsGoi
     }
 
     -- and what is answered says whether it is at its end
-    pub steps : TurnsAreCounted → (ended : Bool) → ended ≡ (length q.outcomes == length q.jobs) → Steps s w ended (record { store = store; workers = set s.workers w q; let_in = s.let_in })
+    pub steps : TurnsAreCounted → (ended : Bool) → ended ≡ (length q.outcomes == length q.jobs) → TakesTurnIfAny s w ended (record { store = store; workers = set s.workers w q; let_in = s.let_in })
     steps counted ended says =
-        let new : Standing = record { store = store; workers = set s.workers w q; let_in = s.let_in } in
+        let new : SharedState = record { store = store; workers = set s.workers w q; let_in = s.let_in } in
         record {
           turn = inl takes;
           fewer = turn-counts counted o s kept w new;

@@ -5,12 +5,12 @@ use Rattle.object_trait.specs.declared.event.Event.{Event}
 use Rattle.object_trait.specs.declared.event.EventKind.{EventKind}
 use Rattle.object_trait.specs.declared.event.EventKind.TheVariants.{Commit}
 use Rattle.serial_order.specs.Operations.{of}
-use Rattle.serial_order.specs.History.{standing}
+use Rattle.serial_order.specs.History.{surviving}
 use Rattle.store_laws.specs.Stored.{objects}
 use Rattle.worker_turns.specs.Progress.{Progress, IsTold, kinds, open_of}
 use Rattle.worker_turns.specs.Turns.{receipt}
 use Rattle.workers.specs.Events.{done_by, IsReplayed}
-use Rattle.workers.specs.Standing.{Opening, past, IsWorker}
+use Rattle.workers.specs.SharedState.{Start, past, IsWorker}
 use Rattle.workers.proofs.Causes.{cause-stays}
 use Rattle.workers.proofs.Events.{begins-more, by-own, by-others, kinds-more}
 use Rattle.workers.proofs.Follows.{Follows, IsApart, own-stays, open-stays}
@@ -19,12 +19,12 @@ use Rattle.workers.proofs.Turned.{Leads, IsNoted, IsQuiet}
 
 -- what is replayed of a transaction that the worker commits now
 commits-now : (H : List Event) (w : ℕ) (happened : EventKind) → Follows H (event w happened) → (es : List EventKind) (before now : Option ℕ) → Leads happened before now
-    → ((t : ℕ) → before ≡ Some t → of t (standing H) ≡ done_by t es) → (t : ℕ) → happened ≡ Commit t → IsReplayed (H ++ event w happened ∷ []) t (es ++ happened ∷ [])
+    → ((t : ℕ) → before ≡ Some t → of t (surviving H) ≡ done_by t es) → (t : ℕ) → happened ≡ Commit t → IsReplayed (H ++ event w happened ∷ []) t (es ++ happened ∷ [])
 commits-now H w happened last es before now leads own t is =
     subst (λ k. Follows H (event w k) → Leads k before now → IsReplayed (H ++ event w k ∷ []) t (es ++ k ∷ [])) (sym is)
     (λ now_last now_leads. committed-now H w t now_last es (own t now_leads.0)) last leads
 
-module _ (o : Opening) (H : List Event) (goes_on : o.store.history ++ past o H ≡ H) where
+module _ (o : Start) (H : List Event) (goes_on : o.store.history ++ past o H ≡ H) where
   -- after a turn of its own with this event
   pub own-worker : (w : ℕ) (happened : EventKind) → Follows H (event w happened) → (p q : Progress) → IsWorker o H w p → IsNoted o H w happened p q
       → IsTold (objects o.store) q → IsWorker o (H ++ event w happened ∷ []) w q

@@ -1,4 +1,4 @@
--- The turns of a worker, told in two cases: the store makes an event of the worker, or makes none.
+-- The turns of a worker, in two cases: the store makes an event of the worker, or makes none.
 use Rattle.std.proofs.Common.{◌≡◌, ◌⊎◌, ℕ, ◌+◌, ◌<◌, List, [], ◌∷◌, ◌++◌, length, Option, Some, None, slice_get, refl, sym, ap, subst, inl, inr}
 use Rattle.std.specs.List.{Contains}
 use Rattle.std.proofs.lemmas.List.Elements.{Contains-push_cases}
@@ -6,7 +6,7 @@ use Rattle.object_trait.specs.declared.event.Event.{Event}
 use Rattle.object_trait.specs.declared.event.EventKind.{EventKind}
 use Rattle.object_trait.specs.declared.event.EventKind.TheVariants as kind
 use Rattle.object_trait.specs.declared.event.EventKind.TheVariants.{Begin, Op, Busy, Commit, Abort, Rollback}
-use Rattle.serial_order.specs.History.{seen, begins}
+use Rattle.serial_order.specs.History.{summary, begins}
 use Rattle.serial_order.specs.Replay.{open_count}
 use Rattle.serial_order.specs.declared.command.Command.{Command}
 use Rattle.serial_order.specs.declared.command.Command.TheVariants as command
@@ -20,8 +20,8 @@ use Rattle.worker_turns.specs.declared.outcome.Outcome.TheVariants.{Committed, G
 use Rattle.worker_turns.specs.declared.phase.Phase.{Phase}
 use Rattle.worker_turns.specs.declared.phase.Phase.TheVariants.{Idle, Going, Breaking, Refusing}
 use Rattle.worker_turns.specs.Progress.{Progress, job_of, open_of}
-use Rattle.worker_turns.specs.Turns.{receipt, goes_to, gets, ends, breaks, Begins, Calls, GivesBack, Refuses, GoesOn, TurnsIn, Turns}
-use Rattle.workers.specs.Standing.{Opening, HasCause, IsWorker}
+use Rattle.worker_turns.specs.Turns.{receipt, goes_to, gets, ends, breaks, Begins, Calls, GivesBack, Refuses, CallsOrCommits, TurnsIn, Turns}
+use Rattle.workers.specs.SharedState.{Start, HasCause, IsWorker}
 use Rattle.workers.proofs.Causes.{begin-cause, call-cause}
 
 -- ---- two cases
@@ -37,7 +37,7 @@ Leads (Abort t) before now = (before ≡ Some t) × (now ≡ None)
 Leads (Rollback t n) before now = ⊥
 
 -- the store makes an event of the worker
-pub record IsNoted (o : Opening) (H : List Event) (w : ℕ) (happened : EventKind) (p q : Progress) : Type 0 where
+pub record IsNoted (o : Start) (H : List Event) (w : ℕ) (happened : EventKind) (p q : Progress) : Type 0 where
   pub jobs : q.jobs ≡ p.jobs
   pub tries : q.tries ≡ p.tries
   pub receipts : q.receipts ≡ p.receipts ++ receipt H w happened ∷ []
@@ -48,7 +48,7 @@ pub record IsNoted (o : Opening) (H : List Event) (w : ℕ) (happened : EventKin
   pub refusing : (t done : ℕ) (r : Refusal) → q.phase ≡ Refusing t done r → HasCause o H r
 
 -- the store makes none
-pub record IsQuiet (o : Opening) (H : List Event) (p q : Progress) : Type 0 where
+pub record IsQuiet (o : Start) (H : List Event) (p q : Progress) : Type 0 where
   pub jobs : q.jobs ≡ p.jobs
   pub tries : q.tries ≡ p.tries
   pub receipts : q.receipts ≡ p.receipts
@@ -59,13 +59,13 @@ pub record IsQuiet (o : Opening) (H : List Event) (p q : Progress) : Type 0 wher
   pub refusing : (t done : ℕ) (r : Refusal) → q.phase ≡ Refusing t done r → HasCause o H r
 
 -- a turn is one or the other
-abbrev pub IsTurned : Opening → Stored → ℕ → Progress → Stored → Progress → Type 0
+abbrev pub IsTurned : Start → Stored → ℕ → Progress → Stored → Progress → Type 0
 IsTurned o old w p new q =
     ((new ≡ old) × IsQuiet o old.history p q) ⊎ ((happened : EventKind) × (new ≡ noted old w happened) × IsNoted o old.history w happened p q)
 
 -- ---- what the worker notes
 
--- outcomes are told apart by their names, and so are phases
+-- outcomes of different names differ, and so are phases
 refused_committed : (t : ℕ) (r : Refusal) → Refused r ≡ Committed t → ⊥
 refused_committed t r same = cc
 
@@ -105,7 +105,7 @@ breaking_refusing u more t done r same = cc
 refusing_refusing : (u more : ℕ) (reason : Refusal) (t done : ℕ) (r : Refusal) → Refusing u more reason ≡ Refusing t done r → reason ≡ r
 refusing_refusing u more reason t done r same = cc
 
-module _ (o : Opening) (old : Stored) (w : ℕ) (p : Progress) (its : IsWorker o old.history w p) where
+module _ (o : Start) (old : Stored) (w : ℕ) (p : Progress) (its : IsWorker o old.history w p) where
   -- its try goes on by the event
   goes-noted : (happened : EventKind) (phase : Phase) → Leads happened (open_of p.phase) (open_of phase)
       → ((t done : ℕ) (r : Refusal) → phase ≡ Refusing t done r → ⊥) → IsNoted o old.history w happened p (goes_to phase (gets old.history w happened p))
@@ -133,7 +133,7 @@ module _ (o : Opening) (old : Stored) (w : ℕ) (p : Progress) (its : IsWorker o
     refusing = λ t done r is. absurd (idle_refusing t done r is);
   }
 
-  -- refusals that it was told of and one more have a cause
+  -- refusals that it noted and one more have a cause
   causes-more : (outcome : Outcome) → ((r : Refusal) → outcome ≡ Refused r → HasCause o old.history r)
       → (r : Refusal) → Contains (p.outcomes ++ outcome ∷ []) (Refused r) → HasCause o old.history r
   causes-more outcome cause r inside =
@@ -190,7 +190,7 @@ module _ (o : Opening) (old : Stored) (w : ℕ) (p : Progress) (its : IsWorker o
 
 -- ---- turns by phase
 
-module _ (o : Opening) (old : Stored) (w : ℕ) (p : Progress) (its : IsWorker o old.history w p) (new : Stored) (q : Progress) (max : old.max ≡ o.store.max) where
+module _ (o : Start) (old : Stored) (w : ℕ) (p : Progress) (its : IsWorker o old.history w p) (new : Stored) (q : Progress) (max : old.max ≡ o.store.max) where
   -- an event with which the worker is as it is noted
   made : (happened : EventKind) (r : Progress) → new ≡ noted old w happened → q ≡ r → IsNoted o old.history w happened p r → IsTurned o old w p new q
   made happened r is same told = inr (happened, is, subst (IsNoted o old.history w happened p) (sym same) told)
@@ -199,14 +199,14 @@ module _ (o : Opening) (old : Stored) (w : ℕ) (p : Progress) (its : IsWorker o
   kept : (r : Progress) → new ≡ old → q ≡ r → IsQuiet o old.history p r → IsTurned o old w p new q
   kept r is same told = inl (is, subst (IsQuiet o old.history p) (sym same) told)
 
-  -- the cause of a refusal that may be for want of memory
+  -- the cause of a refusal, which may be that memory was refused
   cause-of : (asked : Command) (r : Refusal) → ((reason : Refusal) → refusal_of old asked ≡ Some reason → HasCause o old.history reason)
       → (refusal_of old asked ≡ Some r) ⊎ ((refusal_of old asked ≡ None) × (r ≡ NoMemory)) → HasCause o old.history r
   cause-of asked r cause (inl reason) = cause r reason
-  cause-of asked r cause (inr (none, wanted)) = subst (HasCause o old.history) (sym wanted) tt
+  cause-of asked r cause (inr (none, memory_refused)) = subst (HasCause o old.history) (sym memory_refused) tt
 
-  -- in front of a try
-  begins-turned : p.phase ≡ Idle → open_count (seen old.history) < open_count (seen o.store.history) + length o.jobs → Begins old w p new q → IsTurned o old w p new q
+  -- before a try
+  begins-turned : p.phase ≡ Idle → open_count (summary old.history) < open_count (summary o.store.history) + length o.jobs → Begins old w p new q → IsTurned o old w p new q
   begins-turned idle few (inl (is, same)) =
       let t = begins old.history in
       made (Begin t) _ is same (goes-noted o old w p its (Begin t) (Going t 0) (ap open_of idle, refl) (λ u done r e. going_refusing t 0 u done r e))
@@ -237,20 +237,20 @@ module _ (o : Opening) (old : Stored) (w : ℕ) (p : Progress) (its : IsWorker o
       (ends-noted o old w p its (Abort t) (Refused NoMemory) (going, refl) (refused_not_run NoMemory) (λ u z. absurd (refused_committed u NoMemory z))
       (λ r z. subst (HasCause o old.history) (same_reason NoMemory r z) tt))
 
-  goes-turned : (t done : ℕ) (next : Option Call) → open_of p.phase ≡ Some t → GoesOn t done next old w p new q → IsTurned o old w p new q
-  goes-turned t done None going (is, same) =
+  calls_or_commits-turned : (t done : ℕ) (next : Option Call) → open_of p.phase ≡ Some t → CallsOrCommits t done next old w p new q → IsTurned o old w p new q
+  calls_or_commits-turned t done None going (is, same) =
       made (Commit t) _ is same
       (ends-noted o old w p its (Commit t) (Committed t) (going, refl) (committed_not_run t) (λ u z. ap Commit (same_number t u z)) (λ r z. absurd (committed_refused t r z)))
-  goes-turned t done (Some call) going turn = calls-turned t done call going turn
+  calls_or_commits-turned t done (Some call) going turn = calls-turned t done call going turn
 
-  -- behind a call with no reply
+  -- after a call with no reply
   gives_back-turned : (t : ℕ) → open_of p.phase ≡ Some t → GivesBack t old w p new q → IsTurned o old w p new q
   gives_back-turned t going (is, inl (fewer, same)) = made (Abort t) _ is same (breaks-noted o old w p its (Abort t) (going, refl))
   gives_back-turned t going (is, inr (last, same)) =
       made (Abort t) _ is same
       (ends-noted o old w p its (Abort t) GaveUp (going, refl) gave_up_not_run (λ u z. absurd (gave_up_committed u z)) (λ r z. absurd (gave_up_refused r z)))
 
-  -- behind a refused call
+  -- after a refused call
   refuses-turned : (t : ℕ) (reason : Refusal) → open_of p.phase ≡ Some t → HasCause o old.history reason → Refuses t reason old w p new q → IsTurned o old w p new q
   refuses-turned t reason going cause (is, same) =
       made (Abort t) _ is same
@@ -258,13 +258,13 @@ module _ (o : Opening) (old : Stored) (w : ℕ) (p : Progress) (its : IsWorker o
       (λ r z. subst (HasCause o old.history) (same_reason reason r z) cause))
 
   -- in each phase
-  in-phase : (phase : Phase) → p.phase ≡ phase → (p.phase ≡ Idle → open_count (seen old.history) < open_count (seen o.store.history) + length o.jobs)
+  in-phase : (phase : Phase) → p.phase ≡ phase → (p.phase ≡ Idle → open_count (summary old.history) < open_count (summary o.store.history) + length o.jobs)
       → TurnsIn phase old w p new q → IsTurned o old w p new q
   in-phase Idle is few turn = begins-turned is (few is) turn
-  in-phase (Going t done) is few turn = goes-turned t done (slice_get (job_of p) done) (ap open_of is) turn
+  in-phase (Going t done) is few turn = calls_or_commits-turned t done (slice_get (job_of p) done) (ap open_of is) turn
   in-phase (Breaking t done) is few turn = gives_back-turned t (ap open_of is) turn
   in-phase (Refusing t done r) is few turn = refuses-turned t r (ap open_of is) (its.refusing t done r is) turn
 
   -- where fewer are going than there are workers, if this one isn't
-  pub turned : (p.phase ≡ Idle → open_count (seen old.history) < open_count (seen o.store.history) + length o.jobs) → Turns old w p new q → IsTurned o old w p new q
+  pub turned : (p.phase ≡ Idle → open_count (summary old.history) < open_count (summary o.store.history) + length o.jobs) → Turns old w p new q → IsTurned o old w p new q
   turned few turn = in-phase p.phase refl few turn

@@ -4,7 +4,7 @@ use Rattle.std.specs.List.{All}
 use Rattle.object_trait.specs.declared.event.Event.{Event}
 use Rattle.store_laws.specs.Stored.{Stored}
 use Rattle.worker_turns.specs.declared.outcome.Report.{Report}
-use Rattle.workers.specs.Standing.{Opening, past}
+use Rattle.workers.specs.SharedState.{Start, past}
 use Rattle.workers.specs.Worked.{HasWorked}
 
 -- no event is of a worker below 0
@@ -13,7 +13,7 @@ none-inside [] inside = refl
 none-inside (e ∷ es) inside = absurd (let low = inside 0 e (omega arith) in omega (arith, low))
 
 -- where no worker was started, the store is as it was
-pub store-same : (o : Opening) (new : Stored) (reports : List Report) → HasWorked o 0 new reports → new ≡ o.store
+pub store-same : (o : Start) (new : Stored) (reports : List Report) → HasWorked o 0 new reports → new ≡ o.store
 store-same o new reports worked =
     let none = none-inside (past o new.history) worked.inside in
     let same : new.history ≡ o.store.history = sym worked.history ∙ ap (λ l. o.store.history ++ l) none ∙ append-nil o.store.history in

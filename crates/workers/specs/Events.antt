@@ -5,7 +5,7 @@ use Rattle.object_trait.specs.declared.event.Event.{Event}
 use Rattle.object_trait.specs.declared.event.EventKind.{EventKind}
 use Rattle.object_trait.specs.declared.event.EventKind.TheVariants.{Op}
 use Rattle.serial_order.specs.Operations.{of}
-use Rattle.serial_order.specs.History.{commits, standing}
+use Rattle.serial_order.specs.History.{commits, surviving}
 use Rattle.serial_order.specs.declared.entry.Entry.{Entry}
 use Rattle.worker_turns.specs.declared.outcome.Receipt.{Receipt}
 
@@ -26,4 +26,4 @@ done_by t es = flat_map (done_for t) es
 -- t committed, and the operations that the serial order replays for it are those that it executed by these
 pub record IsReplayed (H : List Event) (t : ℕ) (es : List EventKind) : Type 0 where
   pub committed : Contains (commits H) t
-  pub operations : of t (standing H) ≡ done_by t es
+  pub operations : of t (surviving H) ≡ done_by t es

@@ -4,11 +4,11 @@ use Rattle.object_trait.specs.declared.event.Event.{Event}
 use Rattle.object_trait.specs.declared.event.EventKind.TheVariants.{Begin, Op, Commit, Abort}
 use Rattle.store_laws.specs.Examples.{one_up, stored}
 use Rattle.worker_turns.specs.declared.outcome.Receipt.{Receipt}
-use Rattle.workers.specs.Standing.{Opening}
+use Rattle.workers.specs.SharedState.{Start}
 
 -- each of two workers has one job, to count up at a counter of its own, and one try; worker 7 was there before
-abbrev pub opening : Opening
-opening = record {
+abbrev pub start : Start
+start = record {
   store = stored one_up;
   jobs = (((0, codes "inc:1") ∷ []) ∷ []) ∷ (((1, codes "inc:1") ∷ []) ∷ []) ∷ [];
   tries = 1;
@@ -24,7 +24,7 @@ since =
 abbrev pub after_both : List Event
 after_both = one_up ++ since
 
--- what worker 0 was told
+-- what worker 0 noted
 abbrev pub of_first : List Receipt
 of_first =
     (record { position = 3; event = record { worker = 0; kind = Begin 1 } }) ∷ (record { position = 5; event = record { worker = 0; kind = Op 1 0 0 } })

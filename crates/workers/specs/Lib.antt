@@ -1,5 +1,5 @@
 pub mod Events
-pub mod Standing
+pub mod SharedState
 pub mod Worked
 pub mod Doing
 pub mod Examples

@@ -7,9 +7,9 @@ ghost use Rattle.workers.specs.Doing.{AreGoing, HaveEnded};
 ghost use Rattle.workers.specs.Worked.{DidNothing, Works};
 ghost use Rattle.workers.specs.declared.fault.WorkFault.{WorkFault as WorkFaultValue};
 
-use crate::floor::{Floor, Opened};
 use crate::returned::Worked;
 use crate::run::reported;
+use crate::shared::{HasStart, Shared};
 use crate::team::{Team, team_of};
 use jobs_text::Job;
 use object_trait::Recovery;
@@ -33,20 +33,20 @@ pub fn stress<R: Recovery>(
     ensures works { Works (record { store = store; jobs = map calls_in jobs.items; tries = tries }) result.fault result.store result.reports.items }
     ensures whole { (fault : WorkFaultValue) → result.fault ≡ Some fault → DidNothing store result.store result.reports.items }
 {
-    stress_opened::<R, Brand>(alloc, store, jobs, tries, seed)
+    stress_from_start::<R, Brand>(alloc, store, jobs, tries, seed)
 }
 
-/// The same by an opening, which the floor's type has.
-fn stress_opened<R: Recovery, S: Opened>(
+/// The same from a start, which the type of what is shared has.
+fn stress_from_start<R: Recovery, S: HasStart>(
     alloc: Global,
     store: Store<R>,
     jobs: Vec<Vec<Job>>,
     tries: u8,
     seed: u64,
 ) -> Worked<R>
-    requires { S.opening ≡ record { store = store; jobs = map calls_in jobs.items; tries = tries } }
-    ensures works { Works S.opening result.fault result.store result.reports.items }
-    ensures whole { (fault : WorkFaultValue) → result.fault ≡ Some fault → DidNothing S.opening.store result.store result.reports.items }
+    requires { S.start ≡ record { store = store; jobs = map calls_in jobs.items; tries = tries } }
+    ensures works { Works S.start result.fault result.store result.reports.items }
+    ensures whole { (fault : WorkFaultValue) → result.fault ≡ Some fault → DidNothing S.start.store result.store result.reports.items }
 {
     let Team { workers, reports } = match team_of(alloc, jobs, tries) {
         Ok(team) => team,
@@ -58,38 +58,38 @@ fn stress_opened<R: Recovery, S: Opened>(
             };
         }
     };
-    let mut floor: Floor<R, S> = Floor::new(store, workers);
-    draw_all(alloc, &mut floor, seed);
-    reported(floor, reports)
+    let mut shared: Shared<R, S> = Shared::new(store, workers);
+    draw_all(alloc, &mut shared, seed);
+    reported(shared, reports)
 }
 
 /// Lets all workers in and draws their turns. Where memory is refused none is let in.
-fn draw_all<R: Recovery, S: Opened>(alloc: Global, floor: &mut Floor<R, S>, seed: u64)
-    requires { floor.old.let_in ≡ 0 }
-    ensures ended { HaveEnded floor.new }
-    ensures let_in { (floor.new.let_in ≡ length S.opening.jobs) ⊎ (floor.new.let_in ≡ 0) }
+fn draw_all<R: Recovery, S: HasStart>(alloc: Global, shared: &mut Shared<R, S>, seed: u64)
+    requires { shared.old.let_in ≡ 0 }
+    ensures ended { HaveEnded shared.new }
+    ensures let_in { (shared.new.let_in ≡ length S.start.jobs) ⊎ (shared.new.let_in ≡ 0) }
 {
     let Ok(mut going) = Vec::with_capacity(alloc, MOST_WORKERS) else {
         return;
     };
-    for _ in 0..floor.count() {
-        floor.let_one_in();
+    for _ in 0..shared.count() {
+        shared.let_one_in();
     }
-    floor.put_going(&mut going);
-    draw_turns(floor, going, seed);
+    shared.put_going(&mut going);
+    draw_turns(shared, going, seed);
 }
 
 /// Draws turns until each worker is at its end.
-fn draw_turns<R: Recovery, S: Opened>(floor: &mut Floor<R, S>, mut going: Vec<u8>, seed: u64)
-    requires going { AreGoing floor.old going.items }
+fn draw_turns<R: Recovery, S: HasStart>(shared: &mut Shared<R, S>, mut going: Vec<u8>, seed: u64)
+    requires going { AreGoing shared.old going.items }
     requires few { vec_len going ≤ 16 }
-    ensures ended { HaveEnded floor.new }
-    ensures let_in { floor.new.let_in ≡ floor.old.let_in }
+    ensures ended { HaveEnded shared.new }
+    ensures let_in { shared.new.let_in ≡ shared.old.let_in }
 {
     let mut words = Lcg64Xsh32::new(seed, 0);
     while !going.is_empty() {
         let place = pick(&mut words, going.len() as u32) as usize;
-        if floor.step(going[place]) {
+        if shared.step(going[place]) {
             going.remove(place);
         }
     }

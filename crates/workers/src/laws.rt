@@ -1,15 +1,15 @@
-//! Laws of what lies under the lock: each is a function that does nothing, whose contract is the law.
+//! Laws of what is under the lock: each is a function that does nothing, whose contract is the law.
 //! It calls the laws on which it depends.
 
-ghost use Rattle.workers.specs.Standing.{OpeningIsKept, LettingInIsKept, TurnsAreKept};
+ghost use Rattle.workers.specs.SharedState.{StartIsKept, LettingInIsKept, TurnsAreKept};
 ghost use Rattle.workers.specs.Worked.{EndingIsWorked};
 
-use serial_order::{beginners_after, opens_after, own_after, seen_after, transactions_in_run};
+use serial_order::{beginners_after, opens_after, own_after, summary_after, transactions_in_run};
 use worker_turns::turns_are_told;
 
 /// What is known whenever the lock is free holds at the start.
-pub fn opening_is_kept()
-    ensures { OpeningIsKept }
+pub fn start_is_kept()
+    ensures { StartIsKept }
 {}
 
 /// It goes on holding where one more worker is let in.
@@ -21,7 +21,7 @@ pub fn letting_in_is_kept()
 pub fn turns_are_kept()
     ensures { TurnsAreKept }
 {
-    seen_after();
+    summary_after();
     transactions_in_run();
     opens_after();
     own_after();

@@ -3,18 +3,18 @@
 
 mod drawn;
 mod fault;
-mod floor;
 mod gate;
 mod laws;
 mod returned;
 mod run;
+mod shared;
 mod team;
 mod waiting;
 
 pub use drawn::{pick, stress};
 pub use fault::WorkFault;
 pub use gate::{Gate, NoGate};
-pub use laws::{ending_is_worked, letting_in_is_kept, opening_is_kept, turns_are_kept};
+pub use laws::{ending_is_worked, letting_in_is_kept, start_is_kept, turns_are_kept};
 pub use returned::Worked;
 pub use run::run_workers;
 pub use worker_turns::{Outcome, Receipt, Report};

@@ -18,7 +18,7 @@ pub struct Team {
     pub reports: Vec<Report>,
 }
 
-/// A worker for each list of jobs, each job tried so often at the most.
+/// A worker for each list of jobs, each job tried at most `tries` times.
 ///
 /// # Errors
 ///
@@ -40,7 +40,7 @@ pub fn team_of(alloc: Global, jobs: Vec<Vec<Job>>, tries: u8) -> Result<Team, Wo
     }
 }
 
-/// The workers for so many lists of jobs and tries as there may be.
+/// The workers for lists of jobs and tries, whose numbers are in range.
 fn workers_of(alloc: Global, jobs: Vec<Vec<Job>>, tries: u8) -> Result<Team, AllocError>
     requires lists { are_workers (length jobs.items) ≡ true }
     requires tries { are_tries tries ≡ true }

@@ -2,7 +2,7 @@
 
 ghost use Rattle.std.specs.Prelude.{◌<◌};
 
-use crate::floor::{Floor, Opened};
+use crate::shared::{HasStart, Shared};
 use object_trait::Recovery;
 use std::sync::{Mutex, MutexGuard, Wait};
 use std::thread;
@@ -11,25 +11,25 @@ use std::thread;
 const LOOKS: u32 = 10;
 /// Pauses between looks double up to the one of this number.
 const LONGEST_BETWEEN_LOOKS: u32 = 6;
-/// Pauses in front of a try double up to the one of this number.
+/// Pauses before a try double up to the one of this number.
 const LONGEST_BEFORE_A_TRY: u32 = 3;
 
 /// Takes the lock. Each look at a lock that is held slows its holder down, so there are pauses between
 /// them, longer and longer.
-pub(crate) fn take<'a, R: Recovery, H: Wait, S: Opened>(
+pub(crate) fn take<'a, R: Recovery, H: Wait, S: HasStart>(
     rt: &H,
-    floor: &'a Mutex<Floor<R, S>>,
-) -> MutexGuard<'a, Floor<R, S>> {
+    shared: &'a Mutex<Shared<R, S>>,
+) -> MutexGuard<'a, Shared<R, S>> {
     for look in 0..LOOKS {
-        if let Some(held) = floor.try_lock() {
+        if let Some(held) = shared.try_lock() {
             return held;
         }
         pause(look.min(LONGEST_BETWEEN_LOOKS));
     }
-    floor.lock(rt)
+    shared.lock(rt)
 }
 
-/// Waits in front of a try where so many tries of its job were broken: the transaction that was in the
+/// Waits before a try where this many tries of its job were broken: the transaction that was in the
 /// way may end meanwhile.
 pub(crate) fn wait_for_a_try(broken: u8) {
     if broken > 0 {

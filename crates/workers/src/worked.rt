@@ -7,9 +7,9 @@ ghost use Rattle.store_laws.specs.Examples.{one_up, stored};
 ghost use Rattle.worker_turns.specs.Progress.{kinds};
 ghost use Rattle.worker_turns.specs.declared.outcome.Report.{Report as ReportValue};
 ghost use Rattle.workers.specs.Events.{by, done_by, IsReplayed};
-ghost use Rattle.workers.specs.Standing.{past, HasCause};
+ghost use Rattle.workers.specs.SharedState.{past, HasCause};
 ghost use Rattle.workers.specs.Worked.{IsReport, Works, are_workers, are_tries};
-ghost use Rattle.workers.specs.Examples.{opening, since, after_both, of_first, of_second};
+ghost use Rattle.workers.specs.Examples.{start, since, after_both, of_first, of_second};
 
 use crate::fault::WorkFault;
 use serial_order::Refusal;
@@ -17,8 +17,8 @@ use worker_turns::Outcome;
 
 /// Each worker's events are those that it made, at their places in the whole history.
 pub fn events_of_two_workers()
-    ensures since_then { past opening after_both ≡ since }
-    ensures before { past opening one_up ≡ [] }
+    ensures since_then { past start after_both ≡ since }
+    ensures before { past start one_up ≡ [] }
     ensures first { by 0 3 since ≡ of_first }
     ensures second { by 1 3 since ≡ of_second }
     ensures nobody { by 7 3 since ≡ [] }
@@ -37,20 +37,20 @@ pub fn operations_of_two_workers()
 /// A worker that was started has an outcome for each job, which says that it was run.
 pub fn a_job_that_was_run()
     ensures committed { (r : ReportValue) → r.receipts.items ≡ of_first → r.outcomes.items ≡ Outcome.Committed 1 ∷ []
-        → IsReport opening after_both 0 (((0, codes "inc:1") ∷ []) ∷ []) r }
+        → IsReport start after_both 0 (((0, codes "inc:1") ∷ []) ∷ []) r }
     ensures not_run { (r : ReportValue) → r.outcomes.items ≡ Outcome.NotRun ∷ []
-        → IsReport opening one_up 0 (((0, codes "inc:1") ∷ []) ∷ []) r → ⊥ }
-    ensures invented { (r : ReportValue) → r.receipts.items ≡ of_first → IsReport opening one_up 0 (((0, codes "inc:1") ∷ []) ∷ []) r → ⊥ }
-    ensures of_another { (r : ReportValue) → r.receipts.items ≡ of_second → IsReport opening after_both 0 (((0, codes "inc:1") ∷ []) ∷ []) r → ⊥ }
+        → IsReport start one_up 0 (((0, codes "inc:1") ∷ []) ∷ []) r → ⊥ }
+    ensures invented { (r : ReportValue) → r.receipts.items ≡ of_first → IsReport start one_up 0 (((0, codes "inc:1") ∷ []) ∷ []) r → ⊥ }
+    ensures of_another { (r : ReportValue) → r.receipts.items ≡ of_second → IsReport start after_both 0 (((0, codes "inc:1") ∷ []) ∷ []) r → ⊥ }
 {}
 
 /// A job is refused since the history is full only where it is, and since too many transactions are
 /// open only where there can be.
 pub fn a_refusal_has_a_cause()
-    ensures full { HasCause opening after_both Refusal.HistoryFull }
-    ensures not_full { HasCause opening (take 1 one_up) Refusal.HistoryFull → ⊥ }
-    ensures few_open { HasCause opening after_both Refusal.TooManyOpen → ⊥ }
-    ensures memory { HasCause opening after_both Refusal.NoMemory }
+    ensures full { HasCause start after_both Refusal.HistoryFull }
+    ensures not_full { HasCause start (take 1 one_up) Refusal.HistoryFull → ⊥ }
+    ensures few_open { HasCause start after_both Refusal.TooManyOpen → ⊥ }
+    ensures memory { HasCause start after_both Refusal.NoMemory }
 {}
 
 /// 1 to 16 lists of jobs may be handed in, and 1 to 100 tries.
@@ -68,9 +68,9 @@ pub fn how_many_there_may_be()
 /// With lists and tries as there may be, neither fault comes; without one, nothing was done and no
 /// report is there.
 pub fn a_fault_has_a_cause()
-    ensures lists { (new : Stored) (reports : List ReportValue) → Works opening (Some WorkFault.BadWorkers) new reports → ⊥ }
-    ensures tries { (new : Stored) (reports : List ReportValue) → Works opening (Some WorkFault.BadTries) new reports → ⊥ }
-    ensures no_lists { Works (record opening { jobs = [] }) (Some WorkFault.BadWorkers) (stored one_up) [] }
-    ensures changed { Works (record opening { jobs = [] }) (Some WorkFault.BadWorkers) (stored after_both) [] → ⊥ }
-    ensures no_report { (new : Stored) → Works opening None new [] → ⊥ }
+    ensures lists { (new : Stored) (reports : List ReportValue) → Works start (Some WorkFault.BadWorkers) new reports → ⊥ }
+    ensures tries { (new : Stored) (reports : List ReportValue) → Works start (Some WorkFault.BadTries) new reports → ⊥ }
+    ensures no_lists { Works (record start { jobs = [] }) (Some WorkFault.BadWorkers) (stored one_up) [] }
+    ensures changed { Works (record start { jobs = [] }) (Some WorkFault.BadWorkers) (stored after_both) [] → ⊥ }
+    ensures no_report { (new : Stored) → Works start None new [] → ⊥ }
 {}

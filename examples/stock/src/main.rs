@@ -1,4 +1,4 @@
-//! Sixteen threads take pieces of one stock and give them back, beside a mutex round the stock. Built behind
+//! Sixteen threads take pieces of one stock and give them back, beside a mutex round the stock. Built after
 //! `make library` in bindings/c:
 //!
 //! ```text
@@ -42,7 +42,7 @@ impl Shop {
         self.store.lock().expect("no thread panics with the lock")
     }
 
-    /// One transaction of one operation, which is asked until nobody is in the way.
+    /// One transaction of one operation, which is asked until nobody blocks it.
     fn transact(&self, worker: u8, call: u8) -> Result<(), Error> {
         let id = self.lock().begin_as(worker)?.leave();
         while !self.try_call(id, call)? {

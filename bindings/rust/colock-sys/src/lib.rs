@@ -3,7 +3,7 @@
 
 use std::ffi::c_void;
 
-/// The version of these calls, which [`colock_version`] has to tell too.
+/// The version of these calls, which [`colock_version`] has to return too.
 pub const VERSION: u32 = 1;
 
 /// The codes that a call returns.
@@ -92,8 +92,11 @@ extern "C" {
     pub fn colock_type_tables(slot: *mut Handle, kind: u32, text: *const u8, text_count: usize, fault: *mut Fault) -> u32;
     pub fn colock_type_account(slot: *mut Handle, kind: u32, cap: u64, amounts: *const u64, amounts_count: usize, fault: *mut Fault) -> u32;
     pub fn colock_type_counter(slot: *mut Handle, kind: u32, cap: u64, amounts: *const u64, amounts_count: usize, fault: *mut Fault) -> u32;
+    pub fn colock_type_stock(slot: *mut Handle, kind: u32, cap: u64, amounts: *const u64, amounts_count: usize, fault: *mut Fault) -> u32;
     pub fn colock_type_set(slot: *mut Handle, kind: u32, elements: *const u8, elements_count: usize, fault: *mut Fault) -> u32;
     pub fn colock_type_semiqueue(slot: *mut Handle, kind: u32, elements: *const u8, elements_count: usize, capacity: u64, fault: *mut Fault) -> u32;
+    pub fn colock_type_queue(slot: *mut Handle, kind: u32, elements: *const u8, elements_count: usize, capacity: u64, fault: *mut Fault) -> u32;
+    pub fn colock_type_seats(slot: *mut Handle, kind: u32, count: u64, fault: *mut Fault) -> u32;
     pub fn colock_type_shape(slot: *mut Handle, shape: *mut Shape) -> u32;
     pub fn colock_type_name(slot: *mut Handle, room: *mut u8, room_count: usize, count: *mut u64) -> u32;
     pub fn colock_type_call(slot: *mut Handle, k: u64, room: *mut u8, room_count: usize, count: *mut u64) -> u32;

@@ -49,7 +49,7 @@ impl Plain {
     }
 }
 
-/// How often threads do something in a second, for so long. What they do is told the thread and the time.
+/// How often threads do something in a second, for this long. What they do gets the thread and the time.
 fn per_second(threads: u64, limit: Duration, act: impl Fn(u64, u64) + Sync) -> f64 {
     let (is_over, count) = (AtomicBool::new(false), AtomicU64::new(0));
     let start = Instant::now();

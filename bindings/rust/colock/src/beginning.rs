@@ -1,13 +1,13 @@
 //! How transactions begin over a child. A begin is put off until its transaction asks for something, and is written
 //! together with that call, so that both are answered at once.
 //!
-//! The call needs the name of the transaction, which is foretold: it is the name that was told last, and one more for
+//! The call needs the name of the transaction, which is foretold: it is the name in the last answer, and one more for
 //! each begin that was written since. Begins are written in one order, nobody else begins, and one that is refused takes
 //! no number. So within a life a foretold number is never below the one that the begin gets, and above all that were
-//! given before. Right behind its begin such a name means this transaction, or none: a call by it is done for this one,
-//! or refused. Nothing else is asked by a name that wasn't told.
+//! given before. Right after its begin such a name means this transaction, or none: a call by it is done for this one,
+//! or refused. Nothing else is asked by a name that wasn't answered.
 //!
-//! What a thread asks else, and what is asked of the whole store, comes behind the begins that it put off.
+//! What else a thread asks, and what is asked of the whole store, comes after the begins that it put off.
 
 use crate::calling::Call;
 use crate::error::Error;
@@ -23,7 +23,7 @@ use std::sync::Arc;
 use std::thread::{self, ThreadId};
 use std::time::{Duration, Instant};
 
-/// With so many transactions none is put off any more: 1,024 may be open, and who begins one more is told so at once.
+/// With this many transactions none is put off any more: 1,024 may be open, and the begin of one more is refused at once.
 const MOST_PUT_OFF: usize = 512;
 
 /// How long it is waited before a full epoch is asked again for a begin.
@@ -62,7 +62,7 @@ pub(crate) struct Sent {
     place: u64,
 }
 
-/// A begin that was written with a call behind it.
+/// A begin that was written with a call after it.
 struct Both {
     begin: Sent,
     foretold: Id,
@@ -96,7 +96,7 @@ impl Names {
         self.last.map(|id| Id { life: id.life, number: id.number.saturating_add(ahead) })
     }
 
-    /// A begin was answered, maybe behind one that was written later.
+    /// A begin was answered, maybe after one that was written later.
     fn see(&mut self, place: u64, name: Option<Id>) {
         if place > self.seen {
             self.seen = place;
@@ -140,7 +140,7 @@ impl Served {
         Ok(slot)
     }
 
-    /// Puts the begins that a thread put off, or all of them, in front of what comes next.
+    /// Puts the begins that a thread put off, or all of them, before what comes next.
     fn put_due(&mut self, of: Option<ThreadId>) {
         for PutOff { age, .. } in self.begins.due(of) {
             let sent = self.put_begin();
@@ -152,7 +152,7 @@ impl Served {
         Sent { place: self.begins.names.write(), slot: self.conversation.put(Request::Begin) }
     }
 
-    /// Writes a begin, behind those that were put off.
+    /// Writes a begin, after those that were put off.
     fn send_begin(&mut self) -> Result<Sent, Error> {
         self.put_due(None);
         let sent = self.put_begin();
@@ -181,7 +181,7 @@ impl Served {
         }
         self.begins.let_go(age);
         self.put_due(Some(thread::current().id()));
-        // behind those that were just put
+        // after those that were just put
         let Some(foretold) = self.begins.names.next() else { return Ok(None) };
         let begin = self.put_begin();
         let call = self.conversation.put(Request::Call(foretold, object, name));
@@ -229,7 +229,7 @@ impl SharedStore {
         self.await_begin(behind, guard, sent, (lock, behind.link.limit()))
     }
 
-    /// Begins a transaction whose begin was put off. A full epoch is waited for so long.
+    /// Begins a transaction whose begin was put off. A full epoch is waited for this long.
     pub(crate) fn begin_at_last(&self, age: u64, patience: Option<Duration>) -> Result<Id, Error> {
         let behind = self.child().ok_or(Error::NotOpen)?;
         let mut guard = self.enter()?;
@@ -276,7 +276,7 @@ impl SharedStore {
         let since = served.moment;
         let Some(both) = served.send_both(age, object, name)? else { return Ok(None) };
         drop(guard);
-        // it is answered behind the begin
+        // it is answered after the begin
         let told = behind.link.answered(&both.call);
         let begun = behind.link.answered(&both.begin.slot)?;
         let begun = self.lock().sees_begin(behind, both.begin.place, &begun);
@@ -313,7 +313,7 @@ mod tests {
         // two are on their way
         assert_eq!((names.write(), names.write(), names.next()), (2, 3, id(3, 10)));
         names.see(3, id(3, 9));
-        names.see(2, id(3, 8)); // seen behind the later one
+        names.see(2, id(3, 8)); // seen after the later one
         assert_eq!(names.next(), id(3, 10));
     }
 

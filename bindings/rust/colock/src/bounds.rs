@@ -1,4 +1,4 @@
-//! Between which states the operations of a numeric type are legal, and which of them may be in each other's way.
+//! Between which states the operations of a numeric type are legal, and which of them may block one another.
 
 use crate::error::Error;
 use crate::types::Type;
@@ -18,13 +18,13 @@ impl Bounds {
         Ok(low.zip(high).map(|((low, to), (high, _))| Bounds { low, high, moves: to - low }))
     }
 
-    /// Whether there is a number at which both are legal, and one of them isn't behind the other.
+    /// Whether there is a number at which both are legal, and one of them isn't legal after the other.
     pub(crate) fn may_block(self, other: Bounds) -> bool {
         let (low, high) = (self.low.max(other.low), self.high.min(other.high));
         low <= high && !(self.is_legal_behind(other, low, high) && other.is_legal_behind(self, low, high))
     }
 
-    /// Whether it is legal behind another operation, from one number to another.
+    /// Whether it is legal after another operation, from one number to another.
     fn is_legal_behind(self, other: Bounds, low: i64, high: i64) -> bool {
         self.low <= low + other.moves && high + other.moves <= self.high
     }

@@ -1,4 +1,4 @@
-//! The calls of a shared store: what is in the way is looked for at the gate, then at the store; and it is waited for.
+//! The calls of a shared store: what is in the way is looked for at the gate, then at the store; and the call waits for it.
 
 use crate::child::ok;
 use crate::error::Error;
@@ -101,7 +101,7 @@ impl SharedStore {
         (guard, told.map(|told| told.reply))
     }
 
-    /// Whom the gate of an object puts in front of a call.
+    /// Whom the gate of an object puts before a call.
     fn at_gate(&self, state: &State, ticket: Ticket, object: u32, call: Call<'_>) -> Option<u64> {
         let calls = self.calls_at(object).ok()?;
         let (number, _) = self.resolved(object, call).ok()?;
@@ -134,7 +134,7 @@ impl SharedStore {
         (guard, reply.map(|reply| Told { reply, has_let_go: false }))
     }
 
-    /// The same, where a child is asked. `since` tells how often operations were taken back before.
+    /// The same, where a child is asked. `since` says how often operations were taken back before.
     fn executed_by_child<'s>(
         &'s self,
         guard: Guard<'s>,
@@ -214,7 +214,7 @@ impl SharedStore {
     /// is known who was in its way then.
     pub(crate) fn call_waiting(&self, ticket: Ticket, object: u32, call: Call<'_>, deadline: Option<Instant>, first: Option<InTheWay>) -> Result<Reply, Error> {
         let Ok((number, _)) = self.resolved(object, call) else {
-            return self.call_now(ticket, object, call); // which tells what is wrong
+            return self.call_now(ticket, object, call); // which says what is wrong
         };
         let asker = Asker { number: ticket.id.number, age: ticket.age, object, call: number };
         let wait = Wait { ticket, asker, deadline };
@@ -256,7 +256,7 @@ impl SharedStore {
                 Ok(Look::Again) => {}
                 Err(error) => return (guard, Err(error)),
             }
-            // behind the first look the store is asked without an event
+            // after the first look the store is asked without an event
             (guard, look) = self.look(guard, wait, Verb::Would);
         }
     }
@@ -310,7 +310,7 @@ impl SharedStore {
         (guard, woken)
     }
 
-    /// Waits for the end of a transaction, at most so long, and holds nothing meanwhile.
+    /// Waits for the end of a transaction, at most this long, and holds nothing meanwhile.
     pub(crate) fn wait_for_end(&self, life: Option<u64>, number: u64, limit: Duration) {
         let deadline = Instant::now().checked_add(limit);
         let Ok(mut guard) = self.enter() else { return };
@@ -385,7 +385,7 @@ impl SharedStore {
         if let Ok(served) = guard.served() {
             served.takes_back(number);
         }
-        // what they ask next is behind this request
+        // what they ask next comes after this request
         guard.waiting.rolled_back(number);
         let (guard, text) = self.ask(guard, Request::Rollback(ticket.id, count), lock);
         (guard, text.and_then(|text| self.done(&text)))

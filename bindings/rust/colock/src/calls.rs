@@ -93,7 +93,7 @@ fn bounds(of: &Type) -> Result<Vec<Option<Bounds>>, Error> {
     }
 }
 
-/// Whether two operations may be in each other's way by their bounds, where they have any.
+/// Whether two operations may block one another by their bounds, where they have any.
 fn may_block(bounds: &[Option<Bounds>], one: usize, other: usize) -> bool {
     let of = |k: usize| bounds.get(k).copied().flatten();
     of(one).zip(of(other)).is_some_and(|(one, other)| one.may_block(other))
@@ -111,7 +111,7 @@ mod tests {
         assert_eq!((account.number("withdraw:1"), account.number("balance"), account.number("x")), (Some(2), Some(4), None));
         assert_eq!((account.name(4), account.name(5), account.name(200)), (Some("balance"), None, None));
         assert_eq!((account.operation(2, "short"), account.operation(4, "2"), account.operation(2, "full")), (Some(3), Some(6), None));
-        // a withdrawal that is held may come back, which a reading would have told otherwise
+        // a withdrawal that is held may come back, which a reading would have seen otherwise
         assert!(account.blocks(2, 4));
         assert!(account.blocks(4, 2));
         assert!(!account.blocks(4, 4));
@@ -124,7 +124,7 @@ mod tests {
         assert_eq!((counter.blocks(0, 0), counter.blocks(0, 1), counter.blocks(1, 0), counter.blocks(1, 1)), (false, true, true, false));
     }
 
-    /// Of numbers, two operations that can't be done one behind the other are those that don't commute.
+    /// Of numbers, two operations that can't be done one after the other are those that don't commute.
     #[test]
     fn in_escrow_calls_block_as_in_deferred_update() {
         let all = |calls: &Calls| (0..64).flat_map(|held| (0..64).map(move |call| (held, call))).filter(|(held, call)| calls.blocks(*held, *call)).collect();
@@ -135,7 +135,7 @@ mod tests {
         assert_eq!(account(Kind::Escrow), account(Kind::Intentions));
         let items = |kind| blocks(Type::semiqueue(&["a", "b", "c"], 1, kind).unwrap());
         assert_eq!(items(Kind::Escrow), items(Kind::Intentions));
-        // by reasoning: a withdrawal makes room for a deposit that was refused, and two balances are in nobody's way
+        // by reasoning: a withdrawal makes room for a deposit that was refused, and two balances block nobody
         let small = Calls::of(&Type::account(5, &[1], Kind::Escrow).unwrap()).unwrap();
         assert!(small.blocks(0, 2) && small.blocks(2, 0) && small.blocks(4, 0) && !small.blocks(4, 4));
     }

@@ -74,7 +74,7 @@ type Whole<'l> = Vec<(Pending, &'l str)>;
 
 impl Flight {
     /// Whether a thread is to write what was asked, or is about to be, since all that was written is answered, and no other
-    /// thread does. It is told so once.
+    /// thread does. The answer is yes once.
     fn is_to_write(&mut self) -> bool {
         let is_to_write = !self.is_writing && self.queue.len() == self.unwritten;
         self.is_writing |= is_to_write;
@@ -210,7 +210,7 @@ impl Link {
             flight.gather.answers(whole.iter().filter(|(pending, _)| pending.wakes).count() as u64);
             (taken, flight.is_to_write())
         };
-        // without the lock, which they want who are woken
+        // without the lock, since those who are woken take it
         whole.iter().for_each(|(pending, answer)| pending.close(answer));
         if is_to_write {
             self.write_gathered();
@@ -246,7 +246,7 @@ impl Link {
     /// The child is killed and reaped, and all requests in flight fail. Whoever sleeps is woken by the reader, whose
     /// pipe ends.
     pub(crate) fn lose(&self, words: &str) {
-        // before the kill, behind which the reader finds that the output has ended
+        // before the kill, after which the reader finds that the output has ended
         let words = self.reason.get_or_init(|| words.to_string());
         self.kill();
         let said = said_in(&self.said);
@@ -291,7 +291,7 @@ impl Link {
 
     // ---- requests
 
-    /// Puts requests behind those that aren't answered. Where the child is lost they fail.
+    /// Puts requests after those that aren't answered. Where the child is lost they fail.
     fn expect(&self, requests: &mut Vec<Pending>, lines: &[u8]) -> Result<(), Error> {
         let mut flight = locked(&self.flight);
         if let Some(words) = &flight.lost {
@@ -307,7 +307,7 @@ impl Link {
     }
 
     /// Writes what was asked up to now, where no other thread is about to and all that was written is answered: else it is
-    /// written behind these answers. It is called without a lock that others want who ask.
+    /// written after these answers. It is called without a lock that others take who ask.
     pub(crate) fn write(&self) {
         let is_to_write = {
             let mut flight = locked(&self.flight);
@@ -318,7 +318,7 @@ impl Link {
         }
     }
 
-    /// Writes what is asked, by a thread that was told to.
+    /// Writes what is asked, by a thread that is to write.
     fn write_gathered(&self) {
         loop {
             let lines = self.gathered();
@@ -394,7 +394,7 @@ impl Conversation {
         Conversation { link, lines: Vec::new(), requests: Vec::new(), tag: 0 }
     }
 
-    /// Puts a request behind those that are to be asked. Its answer comes into the slot, behind `ask_all`.
+    /// Puts a request after those that are to be asked. Its answer comes into the slot, after `ask_all`.
     pub(crate) fn put(&mut self, request: Request<'_>) -> Arc<Slot> {
         self.tag += 1;
         // a write into memory doesn't fail
@@ -450,7 +450,7 @@ fn shown(line: &[u8]) -> String {
     String::from_utf8_lossy(&line[..line.len().min(80)]).escape_debug().to_string()
 }
 
-/// The lines of a list, and nothing of the `ok` behind them.
+/// The lines of a list, and nothing of the `ok` after them.
 pub(crate) fn listed<'t>(link: &Link, text: &'t str) -> Result<&'t str, Error> {
     let (lines, last) = match text.rfind('\n') {
         Some(place) => (&text[..=place], &text[place + 1..]),
@@ -463,7 +463,7 @@ pub(crate) fn listed<'t>(link: &Link, text: &'t str) -> Result<&'t str, Error> {
     }
 }
 
-/// What is behind an `ok`.
+/// What comes after an `ok`.
 pub(crate) fn ok<'t>(link: &Link, text: &'t str) -> Result<&'t str, Error> {
     match answer(text) {
         Some(Answer::Ok(rest)) => Ok(rest),

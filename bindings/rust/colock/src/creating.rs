@@ -41,7 +41,7 @@ fn written(program: &Path, room: &Room, place: usize, of: &Type, limit: Duration
             output_of(program, &[Path::new("tables"), raw.as_path()], limit)?
         }
         Source::Family(words) => {
-            // a word that begins with a hyphen comes behind this one
+            // a word that begins with a hyphen comes after this one
             let hyphen = words.iter().any(|word| word.starts_with('-')).then_some("--");
             let words = ["make"].into_iter().chain(hyphen).chain(words.iter().map(String::as_str));
             output_of(program, &words.map(Path::new).collect::<Vec<&Path>>(), limit)?

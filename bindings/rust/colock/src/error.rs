@@ -67,7 +67,7 @@ pub enum Error {
     /// The child is lost, in words. Nothing that was asked since the last answer is known to be done.
     ConnectionLost(String),
     /// The child was lost while a commit was in flight: it may be durable or not. This is the transaction's id,
-    /// of which [`SharedStore::committed`](crate::SharedStore::committed) tells when the file was opened again.
+    /// by which [`SharedStore::committed`](crate::SharedStore::committed) says what became of it, with the file open again.
     OutcomeUnknown(String),
     /// A file wasn't opened or made, in words: those of the program, or why it wasn't started.
     CannotOpen(String),
@@ -102,11 +102,11 @@ pub enum FaultKind {
     BadNumber = 5,
     /// A number out of its range, or too many lines of a section.
     OutOfRange = 6,
-    /// A section or an entry behind its place.
+    /// A section or an entry after its place.
     OutOfOrder = 7,
     /// A section that must be there isn't, or the text has no `end`.
     Missing = 8,
-    /// A line behind `end`.
+    /// A line after `end`.
     AfterEnd = 9,
     /// An operation that came before.
     TwiceOp = 10,
@@ -125,7 +125,7 @@ pub enum CheckRefusal {
         /// The operation.
         operation: u64,
     },
-    /// By the text a state looks like another, and an operation tells them apart.
+    /// By the text a state looks like another, and an operation distinguishes them.
     NotSimulation {
         /// The state.
         state: u64,
@@ -265,7 +265,7 @@ impl fmt::Display for Error {
 }
 
 impl Error {
-    /// The words of what the library by itself never tells.
+    /// The words of the errors that the library by itself never returns.
     fn write_of_clients(&self, f: &mut fmt::Formatter<'_>) -> fmt::Result {
         match self {
             Error::Busy { blocker } => write!(f, "transaction {blocker} is in the way"),

@@ -105,7 +105,7 @@ impl<P: AsRawFd> Unforked<P> {
         AT_FORK.call_once(|| {
             // SAFETY: these functions take nothing, and are there as long as the process is.
             let _ = unsafe { pthread_atfork(Some(before), Some(behind_in_parent), Some(behind_in_fork)) };
-            // it fails for want of memory only; then a fork has the pipes
+            // it fails only as memory was refused; then a fork has the pipes
         });
         PIPES.with(|files| files.push(pipe.as_raw_fd()));
         Unforked(ManuallyDrop::new(pipe))
@@ -132,7 +132,7 @@ impl<P: AsRawFd> Drop for Unforked<P> {
         // it is closed with the lock: else its number could be another file's where a fork still finds it
         PIPES.with(|files| {
             files.retain(|other| *other != file);
-            // SAFETY: it isn't used behind this.
+            // SAFETY: it isn't used after this.
             unsafe { ManuallyDrop::drop(&mut self.0) };
         });
     }

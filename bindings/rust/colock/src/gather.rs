@@ -9,7 +9,7 @@
 pub(crate) struct Gather {
     /// How many threads were answered, and haven't asked again.
     outside: u64,
-    /// How many writes go without a wait behind one that waited in vain, and how many of them are left.
+    /// How many writes go without a wait after one that waited for nothing, and how many of them are left.
     skips: u32,
     left: u32,
 }
@@ -18,7 +18,7 @@ pub(crate) struct Gather {
 const MOST_SKIPS: u32 = 255;
 
 impl Gather {
-    /// So many threads are answered.
+    /// This many threads are answered.
     pub(crate) fn answers(&mut self, threads: u64) {
         self.outside += threads;
     }

@@ -31,7 +31,7 @@ impl Handle {
 
 impl Drop for Handle {
     fn drop(&mut self) {
-        // SAFETY: a handle as `at` says. One that holds nothing is told so by a code.
+        // SAFETY: a handle as `at` says. For one that holds nothing a code is returned.
         unsafe { sys::colock_close(self.at()) };
     }
 }

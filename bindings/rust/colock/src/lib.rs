@@ -81,7 +81,7 @@
 //! A [`SharedStore`] is shared between threads as it is, and its calls may wait: [`SharedTransaction::call_within`]
 //! sleeps until who is in the way has ended or taken operations back. [`SharedTransaction::call`] never waits.
 //!
-//! - **The gate.** A call goes behind an older transaction that waits at the same object, where it would block that
+//! - **The gate.** A call goes after an older transaction that waits at the same object, where it would block that
 //!   one's call. So a stream of young ones keeps nobody waiting for ever. Who is waited for passes.
 //! - **Deadlock.** Where transactions wait in a circle, the youngest of them is aborted at once, and its call fails
 //!   with [`Error::Deadlock`].
@@ -122,7 +122,7 @@
 //! [`OpenOptions`] opens a store in a file, with the same calls. The program `colock serve` has the file, as a child
 //! process; a commit that was answered survives a crash. A child that is lost isn't started again: each call fails with
 //! [`Error::ConnectionLost`] then, and a commit that was in flight with [`Error::OutcomeUnknown`]. Open the file again,
-//! and [`SharedStore::committed`] tells what became of it.
+//! and [`SharedStore::committed`] says what became of it.
 //!
 //! ```no_run
 //! use colock::{Error, Kind, OpenOptions, Type};

@@ -160,7 +160,7 @@ impl<'t> OpenOptions<'t> {
         })
     }
 
-    /// The store of a child that was started, when it has greeted and told its objects.
+    /// The store of a child that was started, when it has greeted and listed its objects.
     fn greeted(&self, link: &Arc<Link>, greeting: &Slot, archive: Option<PathBuf>) -> Result<SharedStore, Error> {
         let life = life_of(&link.answered(greeting)?)?;
         let mut conversation = Conversation::new(Arc::clone(link));
@@ -201,7 +201,7 @@ fn life_of(greeting: &str) -> Result<u64, Error> {
     Err(Error::CannotOpen(told))
 }
 
-/// An object as a child tells it: its kind, and the place of its type.
+/// An object as a child lists it: its kind, and the place of its type.
 type ObjectLine = (Kind, usize);
 
 fn objects_of(lines: &str, link: &Link) -> Result<Vec<ObjectLine>, Error> {
@@ -232,7 +232,7 @@ fn texts_of(lines: &str) -> Vec<String> {
 struct Made(Vec<(ObjectLine, Type)>);
 
 impl Made {
-    /// Makes them. Nothing is told where a text is missing.
+    /// Makes them. No error is given where a text is missing.
     fn of(objects: &[ObjectLine], texts: &[String]) -> Result<Made, Option<Error>> {
         let mut made = Made(Vec::new());
         for object in objects {

@@ -33,8 +33,8 @@ impl SharedStore {
     /// where that isn't certain. It answers of transactions of this opening, of those of the one before it, where that
     /// crashed, and of those of the archive.
     ///
-    /// An archived history tells of the life in which its epoch ended. Of an earlier life of that epoch, which crashed,
-    /// nothing is told by it: what such a life lost left its number to a later transaction.
+    /// An archived history is of the life in which its epoch ended. Of an earlier life of that epoch, which crashed,
+    /// it says nothing: what such a life lost left its number to a later transaction.
     ///
     /// ```
     /// # use colock::{Kind, SharedStore, Type};
@@ -100,11 +100,11 @@ impl SharedStore {
 }
 
 impl Past {
-    /// What the events that were found tell of a transaction of the life before this opening's.
+    /// What the events that were found say of a transaction of the life before this opening's.
     ///
     /// An end of that life's epoch would have made the file's life one greater, and this opening's two. So the epoch
     /// goes on, its durable events are those that were found, and a number that isn't among them was never durable:
-    /// events behind them may have it again.
+    /// events after them may have it again.
     fn before_this_opening(&self, events: &[Event], number: u64) -> Option<bool> {
         let found = usize::try_from(self.found?.events).ok()?;
         // fewer are there where another epoch has begun meanwhile
@@ -120,7 +120,7 @@ impl Past {
         }
     }
 
-    /// The events of this opening's first life: those behind what was found, and behind the aborts of what was open.
+    /// The events of this opening's first life: those after what was found, and after the aborts of what was open.
     fn since_this_opening<'e>(&self, events: &'e [Event]) -> Option<&'e [Event]> {
         let Found { events: found, aborted } = self.found?;
         events.get(usize::try_from(found.checked_add(aborted)?).ok()?..)
@@ -146,7 +146,7 @@ fn read(text: &str) -> Option<Vec<Event>> {
     body.lines().filter(|line| !line.starts_with("object ")).map(event).collect()
 }
 
-/// Whether a number was committed or aborted; nothing where no event tells.
+/// Whether a number was committed or aborted; nothing where no event says.
 fn outcome(events: &[Event], number: u64) -> Option<bool> {
     events.iter().find_map(|event| match event {
         Event::Commit { transaction, .. } => (*transaction == number).then_some(true),

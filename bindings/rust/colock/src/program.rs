@@ -79,7 +79,7 @@ impl Drop for Room {
     }
 }
 
-/// The bytes of a file from its beginning, at most so many. Where it is written isn't moved.
+/// The bytes of a file from its beginning, at most this many. The place at which it is written isn't moved.
 fn beginning(file: &File, most: usize) -> Vec<u8> {
     let mut room = vec![0; most];
     let mut count = 0;
@@ -90,7 +90,7 @@ fn beginning(file: &File, most: usize) -> Vec<u8> {
     room
 }
 
-/// What a program said on standard error, without the line that tells what a service found.
+/// What a program said on standard error, without the line that says what a service found.
 pub(crate) fn said_in(file: &File) -> String {
     let bytes = beginning(file, MOST_SAID);
     let text = String::from_utf8_lossy(&bytes);
@@ -104,7 +104,7 @@ pub(crate) fn found_in(file: &File) -> Option<Found> {
     String::from_utf8_lossy(&bytes).lines().find_map(found)
 }
 
-/// What a line `colock: PATH: E events, A aborted, T ms` tells.
+/// What a line `colock: PATH: E events, A aborted, T ms` says.
 fn found(line: &str) -> Option<Found> {
     let (_, told) = line.strip_prefix("colock: ")?.rsplit_once(": ")?;
     let words: Vec<&str> = told.split(' ').collect();
@@ -117,7 +117,7 @@ fn found(line: &str) -> Option<Found> {
     }
 }
 
-/// Runs a command of the program to its end, and tells what it wrote.
+/// Runs a command of the program to its end, and returns what it wrote.
 pub(crate) fn output_of(program: &Path, words: &[&Path], limit: Duration) -> Result<Vec<u8>, Error> {
     let no_file = |error: io::Error| Error::CannotOpen(format!("no temporary file: {error}"));
     let (wrote, said) = (nameless_file().map_err(no_file)?, nameless_file().map_err(no_file)?);

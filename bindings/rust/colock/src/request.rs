@@ -95,7 +95,7 @@ impl fmt::Display for Request<'_> {
 /// The last line of an answer, without the tag.
 #[derive(Clone, Debug, PartialEq, Eq)]
 pub(crate) enum Answer<'a> {
-    /// It is done, with what is behind the word.
+    /// It is done, with what comes after the word.
     Ok(&'a str),
     Reply(&'a str),
     Busy(Id),

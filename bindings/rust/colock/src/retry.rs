@@ -17,7 +17,7 @@ const LONGEST_LOOK: Duration = Duration::from_secs(10);
 pub struct Retry {
     /// How many tries there are at most, at least one.
     pub tries: u32,
-    /// Behind the n-th try it sleeps a random time up to this times 2 to the n, and at most a second.
+    /// After the n-th try it sleeps a random time up to this times 2 to the n, and at most a second.
     pub backoff: Duration,
 }
 

@@ -17,7 +17,7 @@ use std::mem;
 use std::sync::atomic::{AtomicU64, Ordering};
 use std::sync::{Arc, Mutex, MutexGuard};
 
-/// The most events that a child tells at once.
+/// The most events that a child answers at once.
 const MOST_EVENTS: u32 = 65_536;
 
 /// A store of objects that threads share, in memory or in a file, whose calls may wait.
@@ -123,7 +123,7 @@ impl SharedStore {
 
     // ---- what a child is asked
 
-    /// Asks a child, and has the lock again behind the answer.
+    /// Asks a child, and has the lock again after the answer.
     pub(crate) fn ask<'s>(&'s self, mut guard: Guard<'s>, request: Request<'_>, lock: Lock) -> (Guard<'s>, Result<String, Error>) {
         match guard.send(request) {
             Ok(slot) => self.awaited(guard, &slot, lock),
@@ -131,7 +131,7 @@ impl SharedStore {
         }
     }
 
-    /// Waits for an answer of a child, and has the lock again behind it.
+    /// Waits for an answer of a child, and has the lock again after it.
     pub(crate) fn awaited<'s>(&'s self, guard: Guard<'s>, slot: &Slot, lock: Lock) -> (Guard<'s>, Result<String, Error>) {
         let Some(behind) = &self.behind else {
             return (guard, Err(Error::NotOpen));
@@ -176,7 +176,7 @@ impl SharedStore {
     /// Begins a transaction. Where it is dropped, it aborts.
     ///
     /// Over a child its begin may go there only with what is asked next, by this thread or of the whole store. Then what
-    /// keeps it from beginning is told by its first call.
+    /// keeps it from beginning comes at its first call.
     ///
     /// ```
     /// # use colock::{Kind, SharedStore, Type};
@@ -195,7 +195,7 @@ impl SharedStore {
         self.begin_aged(0, None)
     }
 
-    /// Begins a transaction as a worker, which is a number that its events tell.
+    /// Begins a transaction as a worker, which is a number that its events have.
     ///
     /// ```
     /// # use colock::{Kind, SharedStore, Type};
@@ -390,7 +390,7 @@ impl SharedStore {
         Ok(self.lock().memory()?.forgotten_count())
     }
 
-    /// Forgets the first so many of the events that are in memory, or all of them.
+    /// Forgets the first events, this many of those that are in memory, or all of them.
     ///
     /// ```
     /// # use colock::{Kind, SharedStore, Type};
@@ -455,7 +455,7 @@ impl SharedStore {
         Ok(())
     }
 
-    /// Aborts each transaction that is open, in ascending order, as the worker that began it. Their owners are told
+    /// Aborts each transaction that is open, in ascending order, as the worker that began it. Their owners' next calls fail with
     /// [`Error::NotOpen`].
     ///
     /// ```
@@ -496,7 +496,7 @@ impl SharedStore {
     // ---- the end
 
     /// Closes it. Over a child the end is asked for: what is open is aborted, the epoch ends, all of it durable, and
-    /// the child is reaped. A drop does the same and tells no error.
+    /// the child is reaped. A drop does the same and reports no error.
     ///
     /// ```
     /// # use colock::{Kind, SharedStore, Type};

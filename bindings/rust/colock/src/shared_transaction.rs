@@ -68,7 +68,7 @@ impl<'s> SharedTransaction<'s> {
         self.begun(None).map(|id| Ticket { id, age: self.age, worker: self.worker })
     }
 
-    /// Its name, where it has begun or does so now. A full epoch is waited for so long.
+    /// Its name, where it has begun or does so now. A full epoch is waited for this long.
     fn begun(&self, patience: Option<Duration>) -> Result<Id, Error> {
         if let Some(id) = self.name.get() {
             return Ok(*id);
@@ -87,7 +87,7 @@ impl<'s> SharedTransaction<'s> {
     }
 
     /// Its number: that of the transactions before it, since the store began, or began anew. One that couldn't begin, as
-    /// its next call tells, has a number that is no transaction's.
+    /// its next call says, has a number that is no transaction's.
     ///
     /// ```
     /// # use colock::{Kind, SharedStore, Type};
@@ -101,7 +101,7 @@ impl<'s> SharedTransaction<'s> {
     }
 
     /// Its name `S.N`: the life of the store in which it began, and its number. In memory the life is how often the
-    /// store began anew. [`SharedStore::committed`] tells what became of it.
+    /// store began anew. [`SharedStore::committed`] says what became of it.
     ///
     /// ```
     /// # use colock::{Kind, SharedStore, Type};
@@ -141,7 +141,7 @@ impl<'s> SharedTransaction<'s> {
         self.called(object, Call::Name(name))
     }
 
-    /// As [`SharedTransaction::call`], by the number that [`SharedStore::call_number`] tells.
+    /// As [`SharedTransaction::call`], by the number that [`SharedStore::call_number`] gives.
     ///
     /// ```
     /// # use colock::{Kind, Reply, SharedStore, Type};
@@ -171,7 +171,7 @@ impl<'s> SharedTransaction<'s> {
         }
     }
 
-    /// What was told of a first call that was made together with the begin.
+    /// What was answered to a first call that was made together with the begin.
     fn first_told(&mut self, object: u32, call: Call<'_>) -> Result<Option<FirstTold>, Error> {
         if self.name.get().is_some() {
             return Ok(None);
@@ -182,7 +182,7 @@ impl<'s> SharedTransaction<'s> {
         }))
     }
 
-    /// Calls, and waits for who is in the way, at most so long in all. It is never [`Reply::Busy`]. A call that waits
+    /// Calls, and waits for who is in the way, at most this long in all. It is never [`Reply::Busy`]. A call that waits
     /// leaves one event of it at most.
     ///
     /// ```
@@ -336,7 +336,7 @@ impl<'s> SharedTransaction<'s> {
         Ok(ticket)
     }
 
-    /// Aborts it: nothing stays of its operations. A drop does the same and tells no error.
+    /// Aborts it: nothing stays of its operations. A drop does the same and reports no error.
     ///
     /// ```
     /// # use colock::{Kind, SharedStore, Type};

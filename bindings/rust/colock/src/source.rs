@@ -7,7 +7,7 @@ pub(crate) enum Source {
     Text(Vec<u8>),
     /// This text, in which the tables were made anew.
     Tables(Vec<u8>),
-    /// A family, by the words behind `colock make`.
+    /// A family, by the words after `colock make`.
     Family(Vec<String>),
 }
 

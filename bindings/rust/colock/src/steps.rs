@@ -14,7 +14,7 @@ const MOST_OPERATIONS: usize = 64;
 const LONGEST_NAME: usize = 32;
 
 impl Type {
-    /// The type whose steps a function tells. An operation is a call with its reply. The function tells the state
+    /// The type whose steps a function gives. An operation is a call with its reply. The function gives the state
     /// to which an operation leads, or `None` where it isn't legal. States are found from `initial` on, breadth
     /// first, and numbered as they are found; for [`Kind::Escrow`] in ascending order, so that a number may begin in the
     /// middle. Which operations conflict is found out and checked.
@@ -90,7 +90,7 @@ impl<S: Clone + Ord + Hash> Found<S> {
         Ok(found)
     }
 
-    /// Finds what is one step behind a state.
+    /// Finds what is one step after a state.
     fn follow(&mut self, from: usize, operations: &[(&str, &str)], step: &mut impl FnMut(&S, (&str, &str)) -> Option<S>) {
         let state = self.states[from].clone();
         for (k, operation) in operations.iter().enumerate() {
@@ -171,7 +171,7 @@ impl Type {
         Ok(())
     }
 
-    /// What is in front of a row of the grid.
+    /// What comes before a row of the grid.
     fn row_name(&self, requested: u64, widest: usize) -> Result<String, fmt::Error> {
         let call = self.call_name(requested).map_err(|_| fmt::Error)?;
         let reply = self.reply_name(requested).map_err(|_| fmt::Error)?;

@@ -76,7 +76,7 @@ impl Store {
         self.begin_as(0)
     }
 
-    /// Begins a transaction as a worker, which is a number that its events tell.
+    /// Begins a transaction as a worker, which is a number that its events have.
     ///
     /// ```
     /// # use colock::{Kind, Store, Type};
@@ -113,7 +113,7 @@ impl Store {
     /// # Errors
     ///
     /// [`Error::NotOpen`] where it is another store's, or this one began anew since. Where it has ended, its calls
-    /// tell so.
+    /// say so.
     pub fn resume(&self, id: TransactionId) -> Result<Transaction<'_>, Error> {
         if id.life != self.life {
             return Err(Error::NotOpen);
@@ -174,7 +174,7 @@ impl Store {
     /// ```
     pub fn open_count(&self) -> u64 {
         let mut count = 0;
-        // SAFETY: as in `new`. The handle holds a store, of which this is always told.
+        // SAFETY: as in `new`. The handle holds a store, of which this is always known.
         unsafe { sys::colock_open_count(self.handle.at(), &mut count) };
         count
     }
@@ -250,12 +250,12 @@ impl Store {
 
     fn counts(&self) -> (u64, u64) {
         let (mut count, mut forgotten) = (0, 0);
-        // SAFETY: as in `new`. The handle holds a store, of which this is always told.
+        // SAFETY: as in `new`. The handle holds a store, of which this is always known.
         unsafe { sys::colock_event_count(self.handle.at(), &mut count, &mut forgotten) };
         (count, forgotten)
     }
 
-    /// Forgets the first so many of the events that are in memory, or all of them.
+    /// Forgets the first events, this many of those that are in memory, or all of them.
     ///
     /// ```
     /// # use colock::{Kind, Store, Type};

@@ -45,7 +45,7 @@ pub(crate) struct State {
     pub(crate) held: Held,
     pub(crate) waiting: Waiting,
     pub(crate) stats: Stats,
-    /// Of a child the life that was told last, in memory how often the store began anew.
+    /// Of a child the life that was answered last, in memory how often the store began anew.
     pub(crate) life: u64,
 }
 
@@ -76,7 +76,7 @@ impl State {
         }
     }
 
-    /// A transaction has begun over a child. Where a later life was told meanwhile, it has been aborted.
+    /// A transaction has begun over a child. Where a later life was answered meanwhile, it has been aborted.
     pub(crate) fn began(&mut self, id: Id) {
         self.told_life(id.life);
         if let (Held::Child(served), true) = (&mut self.held, id.life == self.life) {
@@ -102,7 +102,7 @@ impl State {
         }
     }
 
-    /// A life was told. Where it is a new one, what was open has been aborted.
+    /// A life was answered. Where it is a new one, what was open has been aborted.
     pub(crate) fn told_life(&mut self, life: u64) {
         if let (Held::Child(served), true) = (&mut self.held, life > self.life) {
             self.life = life;
@@ -118,7 +118,7 @@ impl Served {
         Served { conversation, begins: Begins::default(), open: BTreeMap::new(), moment: 0 }
     }
 
-    /// Whether a blocker that was told of may have let go since a moment.
+    /// Whether a blocker in an answer may have let go since a moment.
     pub(crate) fn has_let_go(&self, number: u64, since: u64) -> bool {
         self.open.get(&number).is_none_or(|moment| *moment > since)
     }

@@ -8,7 +8,7 @@ use std::mem;
 #[derive(Clone, Copy, Debug, PartialEq, Eq, Hash)]
 #[must_use = "a call that was busy was not executed"]
 pub enum Reply {
-    /// This operation was executed. [`Type::reply_name`](crate::Type::reply_name) tells its reply.
+    /// This operation was executed. [`Type::reply_name`](crate::Type::reply_name) gives its reply.
     Operation(u64),
     /// What another transaction did is in its way, and nothing was executed.
     Busy {
@@ -117,7 +117,7 @@ impl<'s> Transaction<'s> {
         answered(|answer| unsafe { sys::colock_call(store.handle().at(), worker, number, object, name.as_ptr(), name.len(), answer) })
     }
 
-    /// Calls the call of this number, which [`Store::call_number`] tells once.
+    /// Calls the call of this number, for which [`Store::call_number`] is asked once.
     ///
     /// ```
     /// # use colock::{Kind, Reply, Store, Type};
@@ -219,7 +219,7 @@ impl<'s> Transaction<'s> {
         done(unsafe { sys::colock_commit(store.handle().at(), worker, number) })
     }
 
-    /// Aborts it: nothing stays of its operations. A drop does the same and tells no error.
+    /// Aborts it: nothing stays of its operations. A drop does the same and reports no error.
     ///
     /// ```
     /// # use colock::{Kind, Store, Type};

@@ -17,7 +17,7 @@ pub struct Turn<'s> {
 
 impl SharedStore {
     /// Does a whole transaction in one turn of the store's lock: it begins, `f` makes its calls, and it commits. An
-    /// error of `f` aborts it, and a panic too. Over a child the commit is awaited behind the turn.
+    /// error of `f` aborts it, and a panic too. Over a child the commit is awaited after the turn.
     ///
     /// `f` may use the store by its turn only: any other call of this store in it would wait for itself for ever.
     ///

@@ -11,10 +11,11 @@ pub enum Kind {
     Undo = 0,
     /// Each transaction keeps its operations by itself until it commits.
     Intentions = 1,
-    /// The same of a number: what has to wait is told by how far others may move it, and by no conflict table.
+    /// The same of a number: how far others may move it says what has to wait, and no conflict table does.
     ///
     /// A type has to be numeric: each operation is legal from a lowest to a highest state, and moves all of these as far.
-    /// A counter and an account are, a set isn't, and a semiqueue is where it has one element, or a capacity of 1.
+    /// A counter, a stock and an account are, a set isn't, a semiqueue and a queue are where they have one element, or a
+    /// capacity of 1, and seats are where there is one.
     Escrow = 2,
 }
 
@@ -132,6 +133,25 @@ impl Type {
         })
     }
 
+    /// A stock of 0 to `cap`: `give:A` and `take:A` for each amount A, whose refusals, `full` and `short`, are replies.
+    /// Amounts are 1 to `cap`, ascending.
+    ///
+    /// ```
+    /// let stock = colock::Type::stock(1000, &[1, 10], colock::Kind::Undo)?;
+    /// assert_eq!((stock.call_name(3)?, stock.reply_name(3)?), ("take:1".into(), "short".into()));
+    /// # Ok::<(), colock::Error>(())
+    /// ```
+    ///
+    /// # Errors
+    ///
+    /// As of [`Type::account`].
+    pub fn stock(cap: u64, amounts: &[u64], kind: Kind) -> Result<Type, Error> {
+        // SAFETY: as in `read`.
+        Type::made(Source::family("stock", cap, amounts), |handle, fault| unsafe {
+            sys::colock_type_stock(handle, kind as u32, cap, amounts.as_ptr(), amounts.len(), fault)
+        })
+    }
+
     /// A set: `insert:E`, `delete:E` and `member:E` for each element E, which are names.
     ///
     /// ```
@@ -168,6 +188,43 @@ impl Type {
         })
     }
 
+    /// A queue of at most `capacity` items: `enq:E` for each element E, and `deq`, whose reply is the item that is longest
+    /// there.
+    ///
+    /// ```
+    /// let queue = colock::Type::queue(&["mail", "report"], 2, colock::Kind::Undo)?;
+    /// assert_eq!((queue.states(), queue.reply_name(3)?), (7, "report".into()));
+    /// # Ok::<(), colock::Error>(())
+    /// ```
+    ///
+    /// # Errors
+    ///
+    /// As of [`Type::account`].
+    pub fn queue(elements: &[&str], capacity: u64, kind: Kind) -> Result<Type, Error> {
+        let text = spaced(elements)?;
+        // SAFETY: as in `read`.
+        Type::made(Source::family("queue", capacity, elements), |handle, fault| unsafe {
+            sys::colock_type_queue(handle, kind as u32, text.as_ptr(), text.len(), capacity, fault)
+        })
+    }
+
+    /// 1 to 6 seats, each free, held or booked: `hold:I`, `release:I`, `book:I` and `cancel:I` for each I from 1 to
+    /// `count`, and `free`, whose reply is how many are free.
+    ///
+    /// ```
+    /// let seats = colock::Type::seats(3, colock::Kind::Undo)?;
+    /// assert_eq!((seats.call_name(1)?, seats.reply_name(1)?), ("hold:1".into(), "taken".into()));
+    /// # Ok::<(), colock::Error>(())
+    /// ```
+    ///
+    /// # Errors
+    ///
+    /// As of [`Type::account`].
+    pub fn seats(count: u64, kind: Kind) -> Result<Type, Error> {
+        // SAFETY: as in `read`.
+        Type::made(Source::family("seats", count, &[""; 0]), |handle, fault| unsafe { sys::colock_type_seats(handle, kind as u32, count, fault) })
+    }
+
     fn made(source: Source, make: impl FnOnce(*mut sys::Handle, *mut sys::Fault) -> u32) -> Result<Type, Error> {
         let mut fault = sys::Fault::default();
         match Handle::made(|handle| make(handle, &mut fault)) {
@@ -186,7 +243,7 @@ impl Type {
 
     fn shape(&self) -> sys::Shape {
         let mut shape = sys::Shape::default();
-        // SAFETY: a handle as `Handle::at` says. It holds a type, of which this is always told.
+        // SAFETY: a handle as `Handle::at` says. It holds a type, of which this is always known.
         unsafe { sys::colock_type_shape(self.handle.at(), &mut shape) };
         shape
     }

@@ -100,7 +100,7 @@ impl Waiting {
         self.waiters.is_empty() && self.onlookers.is_empty()
     }
 
-    /// The oldest who waits at the object and whom this call has to go behind.
+    /// The oldest who waits at the object and whom this call has to go after.
     pub(crate) fn in_the_way(&self, asker: Asker, calls: &Calls) -> Option<u64> {
         let is_ahead = |waiter: &&Waiter| {
             let other = waiter.asker;
@@ -169,7 +169,7 @@ impl Waiting {
         }
     }
 
-    /// A transaction waits no more, and who waited behind it at the gate looks again.
+    /// A transaction waits no more, and who waited after it at the gate looks again.
     pub(crate) fn leave(&mut self, number: u64) {
         if self.waiters.remove(&number).is_some() {
             self.wake_where(|edge| edge.by_gate && edge.to == number);
@@ -280,8 +280,8 @@ mod tests {
         waiting.wait_for(asker(3, DOWN), 70, false);
         waiting.wait_for(asker(2, UP), 70, false);
         let ahead = |age, call| waiting.in_the_way(asker(age, call), &calls);
-        assert_eq!(ahead(5, UP), Some(30)); // behind both downs, of which 3 is older
-        assert_eq!(ahead(5, DOWN), Some(20)); // behind the up
+        assert_eq!(ahead(5, UP), Some(30)); // after both downs, of which 3 is older
+        assert_eq!(ahead(5, DOWN), Some(20)); // after the up
         assert_eq!(ahead(2, UP), None); // nobody older is blocked by it
         assert_eq!(ahead(7, UP), None); // all wait for it
         let elsewhere = Asker { object: 1, ..asker(5, UP) };

@@ -134,10 +134,23 @@ fn families_have_ranges() {
         Type::set(&[], Kind::Undo),
         Type::semiqueue(&["a"], 0, Kind::Undo),
         Type::semiqueue(&["a"], u64::MAX, Kind::Undo),
+        Type::stock(5, &[2, 1], Kind::Undo),
+        Type::stock(1 << 40, &[1], Kind::Undo),
+        Type::queue(&["a", "a"], 2, Kind::Undo),
+        Type::queue(&["a"], u64::MAX, Kind::Undo),
+        Type::seats(0, Kind::Undo),
+        Type::seats(u64::MAX, Kind::Undo),
     ] {
         assert_eq!(wrong.err(), Some(Error::BadParameter));
     }
-    for large in [Type::account(1000, &[1], Kind::Undo), Type::counter(1023, &many, Kind::Undo), Type::semiqueue(&["a", "b", "c"], 100, Kind::Undo)] {
+    for large in [
+        Type::account(1000, &[1], Kind::Undo),
+        Type::counter(1023, &many, Kind::Undo),
+        Type::semiqueue(&["a", "b", "c"], 100, Kind::Undo),
+        Type::stock(1023, &many, Kind::Undo),
+        Type::queue(&["a", "b"], 10, Kind::Undo),
+        Type::seats(7, Kind::Undo),
+    ] {
         assert_eq!(large.err(), Some(Error::TooLarge));
     }
 }

@@ -1,4 +1,4 @@
-//! A store in a file: made, opened again, killed, archived; and what is told of its transactions then.
+//! A store in a file: made, opened again, killed, archived; and what is said of its transactions then.
 
 mod common;
 
@@ -18,7 +18,7 @@ const KILLS_OF_AN_EPOCH: u64 = 5;
 
 const SIZE: u64 = 31;
 
-/// A wheel whose ticks all commute: it tells how many there were, modulo its size. Where it is can be read, so that no two
+/// A wheel whose ticks all commute: it says how many there were, modulo its size. Where it is can be read, so that no two
 /// states look alike.
 fn wheel() -> Type {
     let places: Vec<String> = (0..SIZE).map(|place| place.to_string()).collect();
@@ -198,7 +198,7 @@ fn commit_on(store: &SharedStore, known: &Mutex<Known>) {
     loop {
         let Ok(mut t) = store.begin() else { return };
         let Ok(Reply::Operation(_)) = t.call(0, "tick") else { return };
-        let id = t.id(); // told with the answer to the call
+        let id = t.id(); // known with the answer to the call
         match t.commit() {
             Ok(()) => known.lock().unwrap().answered.push(id),
             Err(Error::OutcomeUnknown(of)) => {
@@ -224,7 +224,7 @@ fn killed(store: SharedStore, after: Duration) -> Known {
     known.into_inner().unwrap()
 }
 
-/// How many of the commits that were known of the opening before are there, by what is told of each.
+/// How many of the commits that were known of the opening before are there, by what is said of each.
 fn told(store: &SharedStore, known: &Known) -> u64 {
     let of_each = |ids: &[String]| ids.iter().map(|id| store.committed(id).unwrap().unwrap()).collect::<Vec<bool>>();
     assert!(of_each(&known.answered[known.answered.len().saturating_sub(5)..]).iter().all(|is_committed| *is_committed));
@@ -292,7 +292,7 @@ fn an_archive_tells_of_epochs_that_ended() {
     assert_eq!((store.committed("3.0"), store.committed("2.0"), store.committed("4.0")), (Ok(Some(true)), Ok(Some(false)), Ok(None)));
     kill(&store);
     drop(store);
-    // the epoch goes on behind the crash, and ends in life 4
+    // the epoch goes on after the crash, and ends in life 4
     let store = options.clone().open(folder.file("a.db")).unwrap();
     assert_eq!(store.committed("3.0"), Ok(Some(true)));
     store.close().unwrap();
@@ -381,7 +381,7 @@ fn a_long_history_is_read_in_pieces() {
             });
         }
     });
-    // 36 transactions, with a begin and a commit: 65,536 of these events are told at once
+    // 36 transactions, with a begin and a commit: 65,536 of these events are answered at once
     let told = lines(&store, 0);
     assert_eq!((told.len(), store.event_count()), (36 * 2_002, Ok(36 * 2_002)));
     assert_eq!(lines(&store, 65_000), told[65_000..]);

@@ -18,7 +18,7 @@ use std::time::Duration;
 const THREADS: u64 = 8;
 const OBJECTS: u64 = 4;
 
-/// A scheduler in which nobody does anything for so long is stuck.
+/// A scheduler in which nobody does anything for this long is stuck.
 const STUCK: Duration = Duration::from_secs(5);
 
 /// A wait that isn't to end by its limit: who isn't woken is stuck long before.
@@ -153,7 +153,7 @@ impl<'a> Arena<'a> {
         Ok(())
     }
 
-    /// Calls that wait so long.
+    /// Calls that wait this long.
     fn wait(&self, t: &mut SharedTransaction<'_>, drawn: &mut Drawn, limit: Duration) -> Done {
         for _ in 0..1 + drawn.below(4) {
             let (object, name) = self.random_call(drawn);
@@ -224,7 +224,7 @@ impl<'a> Arena<'a> {
     }
 }
 
-/// Lets them fight, until so many transactions are done.
+/// Lets them fight, until this many transactions are done.
 fn fight(store: &SharedStore, types: &[Type], transactions: u64, seed: u64) {
     let arena = Arena::new(store, types, transactions);
     let is_over = AtomicBool::new(false);

@@ -1,4 +1,4 @@
-//! A child that isn't as it should be: a script of the shell, which says what a test wants. None makes a client hang.
+//! A child that isn't as it should be: a script of the shell, which says what a test needs. None makes a client hang.
 
 mod common;
 
@@ -134,7 +134,7 @@ fn broken_lines_are_no_answers() {
 fn an_answer_that_nobody_asked_for_is_a_loss() {
     let fake = Fake::serving("kept) echo \"$tag ok 1\"; echo \"$tag ok 2\" ;;");
     let store = fake.open().unwrap();
-    let _first = store.kept(0); // which was told, or lost already
+    let _first = store.kept(0); // which was answered, or lost already
     common::until(|| store.kept(0).is_err());
     // where the next request is on its way already, the line is another one's
     let told = lost(|| store.kept(0));
@@ -163,7 +163,7 @@ fn an_answer_that_is_late_is_a_loss() {
     assert!(start.elapsed() < SOON);
 }
 
-/// A program whose first transaction holds what the second wants. Commits and counts are never answered.
+/// A program whose first transaction holds what the second asks for. Commits and counts are never answered.
 const SILENT: &str = "begin) echo \"$tag ok 1.$((n + 0))\"; n=$((n + 1)) ;;
     call) case \"$rest\" in 1.1*) echo \"$tag busy 1.0\" ;; *) echo \"$tag reply ok\" ;; esac ;;
     commit | stats) ;;";
@@ -210,7 +210,7 @@ fn a_commit_wakes_before_it_is_answered() {
 }
 
 /// A program that answers the call of the second transaction late, with what was so before the first one ends or rolls back.
-/// A file beside it tells that it has the call.
+/// A file beside it says that it has the call.
 const BELATED: &str = r#"begin) echo "$tag ok 1.$((n + 0))"; n=$((n + 1)) ;;
     call) case "$rest" in 1.1*) if [ -z "$told" ]; then told=1; : > "$0.called"; sleep 0.3; echo "$tag busy 1.0"; else echo "$tag reply ok"; fi ;;
         *) echo "$tag reply ok" ;; esac ;;

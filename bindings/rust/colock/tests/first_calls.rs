@@ -68,7 +68,7 @@ fn a_begin_goes_with_the_first_call() {
 
 #[test]
 fn another_name_than_the_foretold_one_is_called_by() {
-    // another life, and a life in which one that isn't told to the client was refused
+    // another life, and a life in which one that the client doesn't know was refused
     for name in ["2.0", "1.0"] {
         let (told, id, asked) = first_call(&[&format!("ok {name}"), "refused NotOpen", "reply ok", "ok"]);
         assert_eq!((told, id.as_str()), (Ok(Reply::Operation(0)), name));

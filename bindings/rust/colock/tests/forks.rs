@@ -1,4 +1,4 @@
-//! A process that forks: the fork hasn't the pipes, and is told so; its parent goes on. The tests are alone in their process.
+//! A process that forks: the fork hasn't the pipes, and its calls fail; its parent goes on. The tests are alone in their process.
 
 mod common;
 

@@ -50,7 +50,7 @@ fn holder(store: &SharedStore, object: u32) -> SharedTransaction<'_> {
     holder
 }
 
-/// That a call waits for a transaction, and is executed behind what ends the wait.
+/// That a call waits for a transaction, and is executed after what ends the wait.
 fn waits_until(make: Make, end: impl FnOnce(&mut Option<SharedTransaction<'_>>)) {
     let store = filled(make, 1);
     let (start, mut blocker) = (store.event_count().unwrap(), Some(holder(&store, 0)));
@@ -108,7 +108,7 @@ fn a_call_waits_for_one_after_another(make: Make) {
         let waiter = scope.spawn(|| store.begin().unwrap().call_within(0, "dec:1", LONG));
         until_asleep(&store, 1);
         first.commit().unwrap();
-        until_asleep(&store, 2); // behind the second now
+        until_asleep(&store, 2); // after the second now
         second.commit().unwrap();
         assert_eq!(waiter.join().unwrap(), Ok(Reply::Operation(1)));
     });
@@ -212,7 +212,7 @@ fn the_gate_lets_the_older_go_first(make: Make) {
         let waiter = scope.spawn(|| waiting(older, 0));
         until_asleep(&store, 1);
         let start = store.event_count().unwrap();
-        // beside the first, but in front of who waits for it
+        // beside the first, but before who waits for it
         assert_eq!(younger.call(0, "inc:1"), Ok(Reply::Busy { blocker: name }));
         assert_eq!(younger.would(0, "inc:1"), Ok(Reply::Busy { blocker: name }));
         assert_eq!(younger.call_within(0, "inc:1", Duration::ZERO), Err(Error::TimedOut));
@@ -329,7 +329,7 @@ fn take(store: &SharedStore, holding: &AtomicU64) {
     take.abort().unwrap();
 }
 
-/// What becomes of a give, at most so long, while 15 threads take.
+/// What becomes of a give, at most this long, while 15 threads take.
 fn give_among_takes(store: &SharedStore, limit: Duration) -> Result<Reply, Error> {
     let (is_over, holding) = (AtomicBool::new(false), AtomicU64::new(0));
     thread::scope(|scope| {
@@ -401,7 +401,7 @@ fn tries_end(make: Make) {
     blocker.commit().unwrap();
 }
 
-/// A retry whose first try begins before another transaction, and its second one behind it: in a circle of the two the
+/// A retry whose first try begins before another transaction, and its second one after it: in a circle of the two the
 /// other one is the youngest.
 fn a_retry_keeps_its_age(make: Make) {
     let store = filled(make, 2);
@@ -468,7 +468,7 @@ fn stats_count(make: Make) {
     assert!((SHORT / 2..SHORT + AT_ONCE).contains(&stats.waited), "{:?}", stats.waited);
 }
 
-/// A store of counters up to 5 in escrow, each with so many pieces.
+/// A store of counters up to 5 in escrow, each with this many pieces.
 fn pieces(make: Make, objects: u32, count: u64) -> Fixture {
     let of = Type::counter(5, &[1], Kind::Escrow).unwrap();
     let store = make(&vec![&of; objects as usize]);
@@ -478,7 +478,7 @@ fn pieces(make: Make, objects: u32, count: u64) -> Fixture {
     store
 }
 
-/// A transaction that takes so many pieces.
+/// A transaction that takes this many pieces.
 fn taker(store: &SharedStore, object: u32, count: u64) -> SharedTransaction<'_> {
     let mut taker = store.begin().unwrap();
     assert!((0..count).all(|_| taker.call(object, "dec:1") == Ok(Reply::Operation(1))));
@@ -505,7 +505,7 @@ fn the_gate_of_a_number_lets_gives_pass(make: Make) {
     thread::scope(|scope| {
         let waiter = scope.spawn(|| waiting(older, 0));
         until_asleep(&store, 1);
-        // a take goes behind the one that waits; a give is in no take's way
+        // a take goes after the one that waits; a give blocks no take
         assert_eq!((younger.call(0, "dec:1"), younger.would(0, "dec:1")), (Ok(Reply::Busy { blocker: name }), Ok(Reply::Busy { blocker: name })));
         assert_eq!(younger.call(0, "inc:1"), Ok(Reply::Operation(0)));
         first.abort().unwrap();

@@ -90,7 +90,7 @@ fn round<R: Clock + AllocGlobal, M: Fresh>(
     })
 }
 
-/// A store of so many new objects of a checked type, whose history may have so many events.
+/// A store of this many new objects of a checked type, whose history may have this many events.
 pub fn store_of<M: Fresh>(
     alloc: Global,
     checked: &Arc<CheckedType>,
@@ -104,7 +104,7 @@ pub fn store_of<M: Fresh>(
     store_at(alloc, fresh, max_events)
 }
 
-/// A store of these new objects, whose history may have so many events.
+/// A store of these new objects, whose history may have this many events.
 pub fn store_at<M: Fresh>(alloc: Global, fresh: Vec<M>, max_events: u32) -> Result<Store<M>> {
     match Store::new(alloc, fresh, max_events) {
         Ok(store) => Ok(store),
@@ -122,7 +122,7 @@ fn commands_at<M: Fresh>(
     Ok(commands_of(alloc, workload, &numbers)?)
 }
 
-/// The numbers of the calls of a type, as a store of it tells them.
+/// The numbers of the calls of a type, as a store of it gives them.
 fn numbers_of<M: Fresh>(alloc: Global, checked: &Arc<CheckedType>) -> Result<Vec<u8>> {
     let store = store_of::<M>(alloc, checked, 1, MOST_EVENTS)?;
     let numbers = numbers_in(alloc, &store, checked.table().ops());

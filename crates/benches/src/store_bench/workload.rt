@@ -42,7 +42,7 @@ impl Mode {
     }
 }
 
-/// So many open transactions, each of which makes so many calls and ends, in each of so many rounds.
+/// This many open transactions, each of which makes this many calls and ends, in each of this many rounds.
 #[derive(Clone, Copy)]
 pub struct Workload {
     pub objects: u32,

@@ -29,11 +29,15 @@ pub fn run<H: Clock + AllocGlobal + Threads + Wait + Sync>(
 ) -> Result<(Duration, Told)> {
     let jobs = work.jobs(rt.alloc())?;
     let store = store_of::<Object>(rt.alloc(), checked, 1, MOST_EVENTS)?;
-    let (reports, fault, time) = timed(rt, store, jobs, work);
+    let Timed {
+        reports,
+        fault,
+        time,
+    } = time_turns(rt, store, jobs, work);
     told_in(&reports, fault, time)
 }
 
-/// What the reports tell, where the workers had no fault and the clock told the time.
+/// What the reports say, where the workers had no fault and the clock gave the time.
 fn told_in(
     reports: &[Report],
     fault: Option<WorkFault>,
@@ -45,13 +49,21 @@ fn told_in(
     }
 }
 
-/// Runs the workers, and closes the store behind the time.
-fn timed<H: Clock + AllocGlobal + Threads + Wait + Sync>(
+/// What workers reported, and how long they took.
+#[derive(Drop)]
+struct Timed {
+    reports: Vec<Report>,
+    fault: Option<WorkFault>,
+    time: io::Result<Duration>,
+}
+
+/// Runs the workers, and closes the store after the time was taken.
+fn time_turns<H: Clock + AllocGlobal + Threads + Wait + Sync>(
     rt: &H,
     store: Store<Object>,
     jobs: Vec<Vec<Job>>,
     work: Work,
-) -> (Vec<Report>, Option<WorkFault>, io::Result<Duration>) {
+) -> Timed {
     let gate = Thinking {
         rt,
         time: work.pace.think,
@@ -64,5 +76,9 @@ fn timed<H: Clock + AllocGlobal + Threads + Wait + Sync>(
     } = run_workers(rt, store, jobs, work.pace.tries, &gate);
     let time = start.and_then(|start| start.elapsed(rt));
     let _ = store.close();
-    (reports, fault, time)
+    Timed {
+        reports,
+        fault,
+        time,
+    }
 }

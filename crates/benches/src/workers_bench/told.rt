@@ -37,7 +37,7 @@ impl Told {
         Ok(())
     }
 
-    /// Takes in what a worker was told of a call.
+    /// Counts in the answer to a worker's call.
     fn note(&mut self, receipt: Receipt) {
         match receipt.event.kind {
             EventKind::Busy { .. } => self.busy = self.busy.saturating_add(1),
@@ -60,7 +60,7 @@ impl Told {
     }
 }
 
-/// What the reports of workers tell.
+/// What the reports of workers say.
 pub fn told_of(reports: &[Report]) -> Result<Told> {
     let mut told = Told::new();
     for report in reports {

@@ -8,7 +8,7 @@ use type_table::Name;
 /// The one object.
 const OBJECT: u32 = 0;
 
-/// So many workers, each with so many jobs, which are tried so often.
+/// This many workers, each with this many jobs, each tried this often at most.
 #[derive(Clone, Copy)]
 pub struct Pace {
     pub workers: u32,
@@ -52,7 +52,7 @@ impl Work<'_> {
         Ok(Job { calls })
     }
 
-    /// The call at a place, counted on from the first behind the last.
+    /// The call at a place, counted on from the first after the last.
     fn call(&self, place: usize) -> Option<Name> {
         let place = place.checked_rem(self.calls.len())?;
         self.calls.get(place).copied()

@@ -23,7 +23,7 @@ struct Kept {
     text: Vec<u8>,
 }
 
-/// An archive in memory, which keeps so many histories and fails at the next one.
+/// An archive in memory, which keeps this many histories and fails at the next one.
 #[derive(Drop)]
 struct Shelf {
     alloc: Global,
@@ -50,7 +50,7 @@ impl Archive for Shelf {
     }
 }
 
-/// An archive that wants none, and counts what it is given nevertheless.
+/// An archive that asks for none, and counts what it is given nevertheless.
 #[derive(Drop)]
 struct Unwilling {
     given: u32,
@@ -69,7 +69,7 @@ impl Archive for Unwilling {
     }
 }
 
-/// A shelf with room for so many.
+/// A shelf with room for this many.
 fn empty_shelf(rt: &impl AllocGlobal, room: usize) -> Shelf {
     let alloc = rt.alloc();
     Shelf {
@@ -104,7 +104,7 @@ impl Numbered for MemStore {
 type Ended = (Result<(), ServeFault>, u32, u32);
 
 /// A client that asks these lines, read byte by byte, is served with epochs that are full with four events and this
-/// archive; what is open may go on for so long then. Its trees come back.
+/// archive; what is open may go on for `drain` then. Its trees come back.
 fn served<S: Alter + Drop, A: Archive>(
     rt: &(impl Abort + AllocGlobal + Clock),
     trees: S,
@@ -203,7 +203,7 @@ fn an_epoch_that_is_not_kept_does_not_end(rt: HostRuntime) {
     is_held(&rt, no_trees(&rt));
 }
 
-/// That an archive that wants none is given none.
+/// That an archive that asks for none is given none.
 fn is_let_go<S: Alter + Drop>(rt: &(impl Abort + AllocGlobal + Clock), trees: S)
     requires { IsClean (S.Store.view trees) → IsTrue (S.Store.view trees).is_numbered }
 {
@@ -212,13 +212,13 @@ fn is_let_go<S: Alter + Drop>(rt: &(impl Abort + AllocGlobal + Clock), trees: S)
     assert!(rt; told == (Ok(()), 2, 1) && none.given == 0);
 }
 
-/// Where the archive wants none, the next epoch begins without it.
+/// Where the archive asks for none, the next epoch begins without it.
 #[test]
 fn an_archive_that_wants_none_is_given_none(rt: HostRuntime) {
     is_let_go(&rt, no_trees(&rt));
 }
 
-/// That the history is kept at the end too, and the end told.
+/// That the history is kept at the end too, and the end is answered.
 fn is_kept_at_the_end<S: Alter + Drop>(rt: &(impl Abort + AllocGlobal + Clock), trees: S)
     requires { IsClean (S.Store.view trees) → IsTrue (S.Store.view trees).is_numbered }
 {
@@ -245,7 +245,7 @@ fn is_kept_at_the_end<S: Alter + Drop>(rt: &(impl Abort + AllocGlobal + Clock), 
     assert!(rt; ended.is_ok() && has_one(&shelf, text.as_slice()));
 }
 
-/// The last epoch is kept before the client is told of the end.
+/// The last epoch is kept before the end is answered.
 #[test]
 fn the_last_epoch_is_kept(rt: HostRuntime) {
     is_kept_at_the_end(&rt, no_trees(&rt));

@@ -168,7 +168,7 @@ pub fn opened_but<S: Alter + Drop>(
     store.expect(rt, "the file isn't opened")
 }
 
-/// That so many events came, and that both objects have this state; the store is let go.
+/// That this many events came, and that both objects have this state; the store is let go.
 pub fn has<S: Alter + Drop>(rt: &impl Abort, store: Durable<S>, events: u32, state: u32) {
     let seen = store.store();
     let told = (seen.event_count(), seen.kept(0), seen.kept(1));

@@ -11,8 +11,8 @@ use std::process::Abort;
 use std::rt::Clock;
 use std::time::Duration;
 
-/// That a client which asks these lines, read byte by byte, is told these answers, where an epoch is full with four
-/// events and what is open may go on for so long then.
+/// That a client which asks these lines, read byte by byte, gets these answers, where an epoch is full with four
+/// events and what is open may go on for `drain` then.
 fn are_told<S: Alter + Drop>(
     rt: &(impl Abort + AllocGlobal + Clock),
     trees: S,

@@ -23,7 +23,7 @@ fn a_commit_that_was_not_settled_is_gone(rt: HostRuntime) {
     has(&rt, restarted(&rt, store), 0, 0);
 }
 
-/// One settling is for all that came before it, and for nothing behind it.
+/// One settling is for all that came before it, and for nothing after it.
 #[test]
 fn two_commits_are_settled_at_once(rt: HostRuntime) {
     let mut store = opened(&rt, no_trees(&rt));

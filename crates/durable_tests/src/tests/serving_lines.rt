@@ -82,7 +82,7 @@ t end
 t \nt ok
 ";
 
-/// An output that takes so many bytes, three at a time.
+/// An output that takes this many bytes, three at a time.
 pub fn output(rt: &(impl Abort + AllocGlobal), room: usize) -> Gathered<Sink<Narrow>>
     ensures { sink_fault (under result) ≡ None }
 {
@@ -90,8 +90,8 @@ pub fn output(rt: &(impl Abort + AllocGlobal), room: usize) -> Gathered<Sink<Nar
     Gathered::new(rt.alloc(), sink).expect(rt, "no output")
 }
 
-/// What a client is told of these lines, read so many bytes at a time, where its output takes so many; how that ended,
-/// and the store behind it.
+/// What a client gets for these lines, read this many bytes at a time, where its output takes this many; how that ended,
+/// and the store after it.
 fn told<S: Alter + Drop>(
     rt: &(impl Abort + AllocGlobal + Clock),
     store: Durable<S>,
@@ -122,7 +122,7 @@ fn told<S: Alter + Drop>(
     (said, served, server.into_store())
 }
 
-/// Each line is answered in its order, read so many bytes at a time; nothing behind the end is done.
+/// Each line is answered in its order, read this many bytes at a time; nothing after the end is done.
 fn are_answered<S: Alter + Drop>(rt: &(impl Abort + AllocGlobal + Clock), trees: S, piece: usize)
     requires trees { IsClean (S.Store.view trees) → IsTrue (S.Store.view trees).is_numbered }
     requires piece { 0 < piece × piece ≤ 4096 }
@@ -175,7 +175,7 @@ fn lines_without_a_request(rt: HostRuntime) {
 static COMMITTED: &[u8] =
     b"a begin\nb call 1.0 0 inc:1\nc call 1.0 1 inc:1\nd begin\ne commit 1.0\n";
 
-/// That its answered commit is found behind a crash.
+/// That its answered commit is found after a crash.
 fn is_found<S: Alter + Reopen + Drop>(rt: &(impl Abort + AllocGlobal + Clock), trees: S)
     requires { IsClean (S.Store.view trees) → IsTrue (S.Store.view trees).is_numbered }
 {
@@ -189,13 +189,13 @@ fn is_found<S: Alter + Reopen + Drop>(rt: &(impl Abort + AllocGlobal + Clock), t
     }
 }
 
-/// What was answered is found behind a crash, and what was open is aborted.
+/// What was answered is found after a crash, and what was open is aborted.
 #[test]
 fn an_answered_commit_is_found(rt: HostRuntime) {
     is_found(&rt, no_trees(&rt));
 }
 
-/// That the client is told so many bytes of the answers.
+/// That the client gets this many bytes of the answers.
 fn is_told_a_beginning<S: Alter + Drop>(
     rt: &(impl Abort + AllocGlobal + Clock),
     trees: S,
@@ -209,13 +209,13 @@ fn is_told_a_beginning<S: Alter + Drop>(
     assert!(rt; is_beginning && served == Err(ServeFault::Output(OutFault::Device)));
 }
 
-/// The client is told a beginning where its output stops.
+/// The client gets a beginning where its output stops.
 #[test]
 fn an_output_stops(rt: HostRuntime) {
     is_told_a_beginning(&rt, no_trees(&rt), 20);
 }
 
-/// What is told from the greeting to the end, where the client has asked for it.
+/// What is written from the greeting to the end, where the client has asked for it.
 fn is_served<S: Alter + Drop>(
     rt: &(impl Abort + AllocGlobal + Clock),
     trees: S,
@@ -251,7 +251,7 @@ fn is_served<S: Alter + Drop>(
     assert!(rt; (is_told, served, life) == (true, Ok(()), 2));
 }
 
-/// What was open is aborted, the file begins anew at the states that were kept, and then the end is told.
+/// What was open is aborted, the file begins anew at the states that were kept, and then the end is answered.
 #[test]
 fn a_client_is_served_to_the_end(rt: HostRuntime) {
     is_served(&rt, no_trees(&rt), ASKED.as_bytes(), b"u ok\n");

@@ -28,7 +28,7 @@ enum Reached {
     Epoch,
 }
 
-/// Which file stops. What asks a file that stops asks nothing of the other behind that, so the two together are each
+/// Which file stops. What asks a file that stops asks nothing of the other after that, so the two together are each
 /// moment at which the machine may stop.
 #[derive(Clone, Copy)]
 pub enum Stops {
@@ -44,7 +44,7 @@ pub struct Calls {
 }
 
 impl Stops {
-    /// So many of the file that stops, and all of the other.
+    /// This many of the file that stops, and all of the other.
     pub fn behind(self, calls: u64) -> Calls {
         match self {
             Stops::Log => Calls {
@@ -252,7 +252,7 @@ fn events_found<S: Alter + Drop>(rt: &(impl Abort + AllocGlobal), trees: S) -> u
     events
 }
 
-/// How far a store in these trees comes until the disk stops, and how many events are found behind that.
+/// How far a store in these trees comes until the disk stops, and how many events are found after that.
 fn found_in<S: FoundAgain + Drop>(
     rt: &(impl Abort + AllocGlobal),
     trees: S,
@@ -274,7 +274,7 @@ fn found_over<D: Crash + Drop>(
     found_in(rt, new_trees(rt, files)?)
 }
 
-/// The same of files in memory: so many calls are passed on, and each one after fails. None where that were too few
+/// The same of files in memory: this many calls are passed on, and each one after fails. None where that was too few
 /// for new trees.
 fn found_after(rt: &(impl Abort + AllocGlobal), calls: Calls) -> Option<(Reached, u32)> {
     let files = Files {
@@ -284,7 +284,7 @@ fn found_after(rt: &(impl Abort + AllocGlobal), calls: Calls) -> Option<(Reached
     found_over(rt, files)
 }
 
-/// The greatest number of calls, below 1,024, behind which no commit is settled.
+/// The greatest number of calls, below 1,024, after which no commit is settled.
 fn calls_too_few(rt: &(impl Abort + AllocGlobal), stops: Stops) -> u64 {
     let mut few = 0u64;
     for step in [512u64, 256, 128, 64, 32, 16, 8, 4, 2, 1] {
@@ -295,7 +295,7 @@ fn calls_too_few(rt: &(impl Abort + AllocGlobal), stops: Stops) -> u64 {
     few
 }
 
-/// How many stops behind these calls leave the old file or the new one, until another epoch has begun.
+/// How many stops after these calls leave the old file or the new one, until another epoch has begun.
 fn stops_behind(rt: &(impl Abort + AllocGlobal), stops: Stops, few: u64) -> Option<u32> {
     let mut stopped = 0u32;
     for calls in few.saturating_add(1)..few.saturating_add(100) {

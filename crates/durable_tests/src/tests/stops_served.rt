@@ -18,21 +18,21 @@ use std::time::Duration;
 const LINES: &[u8] =
     b"a begin\nb call 1.0 0 inc:1\ndone commit 1.0\na begin\nb call 1.1 0 inc:1\ndone commit 1.1\ne end\n";
 
-/// How many commits a client was told, and in which state the object is found behind that.
+/// How many commits were answered to a client, and in which state the object is found after that.
 #[derive(Clone, Copy)]
 struct Found {
     told: usize,
     kept: Option<u32>,
 }
 
-/// How many commits were told.
+/// How many commits were answered.
 fn commits_in(said: &[u8]) -> usize {
     said.split(|byte| *byte == b'\n')
         .filter(|line| *line == b"done ok".as_slice())
         .count()
 }
 
-/// How many commits a client is told by this store, until its disk stops, where each line is a group of its own.
+/// How many commits this store answers to a client until its disk stops, where each line is a group of its own.
 fn commits_told<S: Alter + Drop>(
     rt: &(impl Abort + AllocGlobal + Clock),
     store: Durable<S>,
@@ -95,7 +95,7 @@ fn found_over<D: Crash + Drop>(
     found_in(rt, new_trees(rt, files)?)
 }
 
-/// The same of files in memory: so many calls are passed on, and each one after fails.
+/// The same of files in memory: this many calls are passed on, and each one after fails.
 fn found_after(rt: &(impl Abort + AllocGlobal + Clock), calls: Calls) -> Option<Found> {
     let files = Files {
         log: Fuse::new(Memory::new(rt.alloc()), calls.log),
@@ -104,7 +104,7 @@ fn found_after(rt: &(impl Abort + AllocGlobal + Clock), calls: Calls) -> Option<
     found_over(rt, files)
 }
 
-/// Wherever the disk stops, each commit that was told is found, and nothing that wasn't asked.
+/// Wherever the disk stops, each commit that was answered is found, and nothing that wasn't asked.
 #[test]
 fn a_commit_that_was_told_is_found(rt: HostRuntime) {
     for stops in [Stops::Log, Stops::Database] {

@@ -20,7 +20,7 @@ pub enum Step {
     Commits(u32, u32),
     /// This transaction aborts.
     Aborts(u32),
-    /// The last operations of this transaction, so many, are taken back.
+    /// The last operations of this transaction are taken back: this many.
     RollsBack(u32, u32),
 }
 

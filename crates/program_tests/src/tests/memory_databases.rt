@@ -12,7 +12,7 @@ use sqlite_trees::memory::MemStore;
 use std::alloc::Global;
 use std::test::Fail;
 
-/// At most one database, at any path. They tell what they hold, and no disk can lie to them.
+/// At most one database, at any path. They say what they hold, and no disk can lie to them.
 #[derive(Drop)]
 pub struct MemoryDatabases {
     alloc: Global,
@@ -33,7 +33,7 @@ impl MemoryDatabases {
         })
     }
 
-    /// Writes an event behind the others of the store in its database, also one that no command makes.
+    /// Writes an event after the others of the store in its database, also one that no command makes.
     pub fn write(&mut self, event: EventKind) -> Result<(), Fail> {
         let trees = self.open("", TornWrites::AnyBytes)?;
         match Journal::open(self.alloc, trees) {
@@ -87,6 +87,10 @@ impl Databases for MemoryDatabases {
     fn discard(&mut self, _path: &str, _trees: MemStore) {}
 
     fn close(&mut self, _path: &str, trees: MemStore) {
+        self.held = Some(trees);
+    }
+
+    fn leave(&mut self, _path: &str, trees: MemStore) {
         self.held = Some(trees);
     }
 }

@@ -1,10 +1,10 @@
-//! Archives of no folder, which want no histories.
+//! Archives of no folder, which keep no histories.
 
 use archive_files::Archives;
 use serving::NoArchive;
 use std::alloc::AllocError;
 
-/// Gives no other archive than one that wants nothing.
+/// Gives no other archive than one that keeps nothing.
 #[derive(Drop)]
 pub struct NoArchives;
 

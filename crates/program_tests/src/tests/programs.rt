@@ -60,7 +60,7 @@ pub struct Played {
     err: Vec<u8>,
 }
 
-/// What is said behind a line that begins so and ends with how many milliseconds it took.
+/// What is said after a line that begins so and ends with how many milliseconds it took.
 fn behind_time<'a>(said: &'a [u8], found: &[u8]) -> Option<&'a [u8]> {
     let time = said.strip_prefix(found)?;
     let digits = time.iter().position(|byte| !byte.is_ascii_digit())?;
@@ -93,9 +93,9 @@ impl Played {
         self.is(case.status, case.out.as_bytes(), case.err)
     }
 
-    /// Whether it is what may come where memory was refused: it is said, behind whole lines; or a
+    /// Whether it is what may come where memory was refused: it is said, after whole lines; or a
     /// command of a script, or a job, was refused for it.
-    fn wants_memory(&self) -> bool {
+    fn is_refused_memory(&self) -> bool {
         let whole = self.out.last().is_none_or(|byte| *byte == b'\n');
         let said = self.status == Status::Failed && self.err.as_slice() == NO_MEMORY.as_bytes();
         said && whole || self.refuses_a_part()
@@ -126,7 +126,7 @@ impl Source for CaseFiles<'_> {
     }
 }
 
-/// An output over memory, which may take only so many bytes.
+/// An output over memory, which may take only this many bytes.
 type Held = Sink<Narrow>;
 
 /// What a part of a test made: where it failed, the test ends.
@@ -137,7 +137,7 @@ fn made_of<R: Abort, T>(rt: &R, tried: Result<T, Fail>) -> T {
     }
 }
 
-/// An output with memory for all that it takes, and room for so many bytes.
+/// An output with memory for all that it takes, and room for this many bytes.
 fn held_output(rt: &(impl Abort + AllocGlobal), room: usize, at_end: AtEnd) -> Held
     ensures { sink_fault result ≡ None }
 {
@@ -239,7 +239,7 @@ fn play<R: Abort + AllocGlobal + Clock + Threads + Wait + Sync>(rt: &R, case: &C
 /// try has it.
 fn plays<R: Abort + AllocGlobal + Clock + Threads + Wait + Sync>(rt: &R, case: &Case<'_>) {
     let first = play(rt, case);
-    assert!(rt; first.is_of(case) || first.wants_memory() && play(rt, case).is_of(case));
+    assert!(rt; first.is_of(case) || first.is_refused_memory() && play(rt, case).is_of(case));
 }
 
 fn all_play<R: Abort + AllocGlobal + Clock + Threads + Wait + Sync>(rt: &R, cases: &[Case<'_>]) {

@@ -35,7 +35,7 @@ fn cannot_read_other_paths(rt: HostRuntime) {
 }
 
 #[test]
-fn tells_want_of_memory_apart(rt: HostRuntime) {
+fn tells_refused_memory_apart(rt: HostRuntime) {
     let memory = SourceFault::from(io::Error::from(ErrorKind::OutOfMemory));
     let other = SourceFault::from(io::Error::from(ErrorKind::NotFound));
     assert!(rt; (memory == SourceFault::NoMemory) & (other == SourceFault::CannotRead));

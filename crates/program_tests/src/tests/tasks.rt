@@ -2,6 +2,7 @@
 //! faults.
 
 mod large;
+mod made_texts;
 mod make;
 mod tables;
 mod verdicts;
@@ -58,7 +59,7 @@ fn with_part(rt: &(impl Abort + AllocGlobal), whole: &str, old: &str, new: &[u8]
     changed(rt.alloc(), whole, old, new).expect(rt, "no memory")
 }
 
-/// A text, a part of it, what stands in place of that, and what a check says of the fault.
+/// A text, a part of it, what is put in its place, and what a check says of the fault.
 type Fault = (&'static str, &'static str, &'static [u8], &'static str);
 
 static FAULTS: [Fault; 18] = [
@@ -177,7 +178,7 @@ fn answers_faults(rt: HostRuntime) {
 }
 
 /// The words that ask for the text on a topic.
-static HELP: [(&[&str], Topic); 11] = [
+static HELP: [(&[&str], Topic); 13] = [
     (&["help"], Topic::Program),
     (&["help", "check"], Topic::Check),
     (&["help", "make"], Topic::Make),
@@ -189,6 +190,8 @@ static HELP: [(&[&str], Topic); 11] = [
     (&["help", "create"], Topic::Create),
     (&["help", "serve"], Topic::Serve),
     (&["help", "history"], Topic::History),
+    (&["help", "help"], Topic::Help),
+    (&["help", "faults"], Topic::Faults),
 ];
 
 /// That each of these words are answered with the text on their topic.

@@ -9,7 +9,7 @@ use std::fmt::Write;
 use std::process::Abort;
 use type_table::Name;
 
-/// Which reader reads a text; that of jobs is told the number of workers.
+/// Which reader reads a text; that of jobs is given the number of workers.
 #[derive(Clone, Copy)]
 pub enum Reader {
     Script,
@@ -413,7 +413,7 @@ fn texts_have_their_faults(rt: HostRuntime) {
     all_beginnings_have_faults(&rt, &TEXTS);
 }
 
-/// A text of so many objects.
+/// A text of this many objects.
 fn objects_text(rt: &(impl Abort + AllocGlobal), limit: &str, count: u32) -> String {
     let mut text = String::from_str(rt.alloc(), limit).expect(rt, "no memory");
     for file in 0..count {

@@ -5,8 +5,8 @@ use super::texts_read::{Reader, TEXTS, fault_of};
 use script_text::{FaultKind, TextFault};
 use std::process::Abort;
 
-/// Whether this is no fault, or want of memory at one of the first lines.
-fn is_want_of_memory(fault: Option<TextFault>, lines: usize) -> bool {
+/// Whether this is no fault, or refused memory at one of the first lines.
+fn is_refused_memory(fault: Option<TextFault>, lines: usize) -> bool {
     match fault {
         Some(fault) => {
             fault.kind == FaultKind::NoMemory && 1 <= fault.line && fault.line <= lines
@@ -20,14 +20,14 @@ fn line_count(text: &[u8]) -> usize {
     text.iter().filter(|byte| **byte == b'\n').count()
 }
 
-fn have_values_or_want_memory(rt: &(impl Abort + AllocGlobal), rows: &[(Reader, &[u8])]) {
+fn have_values_or_no_memory(rt: &(impl Abort + AllocGlobal), rows: &[(Reader, &[u8])]) {
     for (reader, text) in rows {
         let fault = fault_of(rt.alloc(), *reader, text);
-        assert!(rt; is_want_of_memory(fault, line_count(text)));
+        assert!(rt; is_refused_memory(fault, line_count(text)));
     }
 }
 
 #[test]
-fn readers_say_that_memory_is_wanted(rt: HostRuntime) {
-    have_values_or_want_memory(&rt, &TEXTS);
+fn readers_say_that_memory_is_refused(rt: HostRuntime) {
+    have_values_or_no_memory(&rt, &TEXTS);
 }

@@ -129,7 +129,7 @@ fn an_event_is_one_piece(rt: HostRuntime) {
     are_pieces(&rt, &history_of(&rt, HISTORY), HISTORY);
 }
 
-/// That a writer with room for so many bytes holds these of the text, and stops it by this fault.
+/// That a writer with room for this many bytes holds these of the text, and stops it by this fault.
 fn stops(
     rt: &(impl Abort + AllocGlobal),
     file: &HistoryFile,

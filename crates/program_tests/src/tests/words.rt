@@ -75,11 +75,13 @@ fn word_of(topic: Topic) -> &'static str {
         Topic::Create => "create",
         Topic::Serve => "serve",
         Topic::History => "history",
+        Topic::Help => "help",
+        Topic::Faults => "faults",
     }
 }
 
 /// Words, and the task that they ask for.
-static TASKS: [(&[&str], Parts); 35] = [
+static TASKS: [(&[&str], Parts); 37] = [
     (
         &["check", "undo", "ctr2.type"],
         ("check", "undo", "ctr2.type", &[]),
@@ -122,7 +124,7 @@ static TASKS: [(&[&str], Parts); 35] = [
     (&["serve", "a.db"], ("serve", "a.db", "", &[])),
     (&["history", "a.db"], ("history", "a.db", "", &[])),
     (&["audit", "--database", "a.db"], ("audit", "a.db", "", &[])),
-    // Words with hyphens behind two.
+    // Words with hyphens after `--`.
     (
         &["run", "a.script", "--", "-x", "--"],
         ("run", "a.script", "", &["-x", "--"]),
@@ -164,6 +166,8 @@ static TASKS: [(&[&str], Parts); 35] = [
     (&["help", "create"], ("help", "create", "", &[])),
     (&["help", "serve"], ("help", "serve", "", &[])),
     (&["help", "history"], ("help", "history", "", &[])),
+    (&["help", "help"], ("help", "help", "", &[])),
+    (&["help", "faults"], ("help", "faults", "", &[])),
     (&["--version"], ("version", "colock 0.1.0\n", "", &[])),
     (&["-V"], ("version", "colock 0.1.0\n", "", &[])),
 ];

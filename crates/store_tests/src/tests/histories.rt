@@ -2,10 +2,10 @@
 
 use serial_order::{
     Entry, Refusal, allows_alike, answer_may_follow, beginners_after, blocker_is_held,
-    checked_headline, command_appends, commit_keeps_views, first_op_is_least, fresh_stands,
+    checked_headline, command_appends, commit_keeps_views, first_op_is_least, fresh_represents,
     headline, held_after, idle_is_closed, logs_are_counted, machine_may_apply, opens_after,
-    operations_in_run, own_after, replay_runs, replays_join, run_goes_on, run_is_history,
-    seen_after, sorts_into_commit_order, stands_as_read, stands_on, struck_view_is_legal,
+    operations_in_run, own_after, replay_runs, replays_join, represents_on, run_goes_on,
+    run_is_history, sorts_into_commit_order, struck_view_is_legal, summary_after, survives_as_read,
     transactions_in_run, views_are_legal,
 };
 use std::process::Abort;
@@ -68,7 +68,7 @@ fn refusals_are_compared(rt: HostRuntime) {
 fn laws_are_called() {
     run_is_history();
     run_goes_on();
-    seen_after();
+    summary_after();
     transactions_in_run();
     opens_after();
     beginners_after();
@@ -78,7 +78,7 @@ fn laws_are_called() {
     own_after();
     logs_are_counted();
     idle_is_closed();
-    stands_as_read();
+    survives_as_read();
     first_op_is_least();
     answer_may_follow();
     replay_runs();
@@ -88,8 +88,8 @@ fn laws_are_called() {
     struck_view_is_legal();
     views_are_legal();
     commit_keeps_views();
-    fresh_stands();
-    stands_on();
+    fresh_represents();
+    represents_on();
     allows_alike();
     machine_may_apply();
     headline();

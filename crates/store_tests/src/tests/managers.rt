@@ -114,7 +114,7 @@ fn apply_two(rt: &(impl Abort + AllocGlobal), object: &mut UndoManager) -> Resul
     apply_next(rt, object, &mut log, 1, 0)
 }
 
-/// The log's length in place: a done entry behind an open one stays until that ends.
+/// The log's length in place: a done entry after an open one stays until that ends.
 fn log_is_told(rt: &(impl Abort + AllocGlobal), object: &mut UndoManager) {
     apply_two(rt, object).expect(rt, "no memory");
     object.commit(1);

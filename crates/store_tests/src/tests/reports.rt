@@ -27,7 +27,7 @@ pub enum Turns {
     Drawn(u64),
 }
 
-/// What came of jobs: the history and the objects of the store at its close, what each worker was told,
+/// What came of jobs: the history and the objects of the store at its close, what each worker noted,
 /// and why not all was done.
 #[derive(Drop)]
 pub struct Done {
@@ -62,7 +62,7 @@ pub fn do_jobs<R: AllocGlobal + Threads + Wait + Sync>(
     }
 }
 
-/// The jobs of a text, in so many lists. Where one allocation is refused, the next try has it.
+/// The jobs of a text, in this many lists. Where one allocation is refused, the next try has it.
 pub fn jobs_of(rt: &(impl Abort + AllocGlobal), text: &str, lists: u8) -> Vec<Vec<Job>> {
     let file = match read_jobs(rt.alloc(), text.as_bytes(), lists) {
         Ok(file) => file,
@@ -97,7 +97,7 @@ fn committed(outcome: &Outcome) -> Option<u32> {
     }
 }
 
-/// That a worker committed the transactions of which its outcomes tell, in order, and no others.
+/// That a worker committed the transactions of its outcomes, in order, and no others.
 fn are_commits(rt: &impl Abort, report: &Report) {
     let mut told = report.outcomes.iter().filter_map(committed);
     for receipt in &report.receipts {
@@ -156,7 +156,7 @@ pub fn is_serial(rt: &(impl Abort + AllocGlobal), done: &Done) -> Audit {
     audit
 }
 
-/// That the history has these events and no job met a fault, as the reports tell, and serially.
+/// That the history has these events and no job met a fault, as the reports say, and serially.
 pub fn is_told(rt: &(impl Abort + AllocGlobal), done: &Done, wanted: &[Happened]) {
     assert!(rt; done.fault == None);
     are_events(rt, &done.history, wanted);

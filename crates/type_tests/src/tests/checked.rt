@@ -116,17 +116,22 @@ fn begun_at(rt: &(impl Abort + AllocGlobal), checked: &CheckedType, state: u16) 
     Some(begun.table().initial())
 }
 
+/// That a type begins anew at these states, or doesn't.
+fn begin_at(rt: &(impl Abort + AllocGlobal), text: &str, states: &[u16], is_there: bool) {
+    let checked = accepted_in_place(rt, text);
+    for state in states {
+        let begun = begun_at(rt, &checked, *state);
+        assert!(rt; begun == if is_there { Some(*state) } else { None });
+    }
+}
+
 /// A type begins anew at the states of its set, and at no other.
 #[test]
 fn types_begin_at_states_of_their_set(rt: HostRuntime) {
-    let idle = accepted_in_place(&rt, IDLE);
-    assert!(rt; begun_at(&rt, &idle, 0) == Some(0));
-    for state in [1, 2, 3, u16::MAX] {
-        assert!(rt; begun_at(&rt, &idle, state) == None);
-    }
-    let counter = accepted_in_place(&rt, COUNTER);
-    assert!(rt; begun_at(&rt, &counter, 2) == Some(2));
-    assert!(rt; begun_at(&rt, &counter, 3) == None);
+    begin_at(&rt, IDLE, &[0], true);
+    begin_at(&rt, IDLE, &[1, 2, 3, u16::MAX], false);
+    begin_at(&rt, COUNTER, &[2], true);
+    begin_at(&rt, COUNTER, &[3], false);
 }
 
 /// The conflicts of the counter and one more, of one kind and of the other.
@@ -135,17 +140,31 @@ static MORE_PAIRS: [&str; 2] = [
     "conflict undo 0 1\nconflict undo 1 0\nconflict intentions 0 0\nconflict intentions 0 1\nconflict intentions 1 1\n",
 ];
 
+/// Whether two types are told to be the same, or not to be, whichever is asked.
+fn are_compared(one: &CheckedType, other: &CheckedType, is_same: bool) -> bool {
+    (one.is_same(other) == is_same) & (other.is_same(one) == is_same)
+}
+
+/// That a type for update in place is the same as that of a text, or isn't.
+fn is_compared<R: Abort + AllocGlobal>(rt: &R, checked: &CheckedType, text: &[u8], is_same: bool) {
+    let other = accepted(rt, text, Kind::Undo);
+    assert!(rt; are_compared(checked, &other, is_same));
+}
+
 /// Types are the same where each of their parts is.
 #[test]
 fn types_are_compared(rt: HostRuntime) {
     let counter = accepted_in_place(&rt, COUNTER);
-    assert!(rt; counter.is_same(&accepted_in_place(&rt, COUNTER)));
-    assert!(rt; !counter.is_same(&accepted_in_place(&rt, IDLE)));
+    is_compared(&rt, &counter, COUNTER.as_bytes(), true);
+    is_compared(&rt, &counter, IDLE.as_bytes(), false);
     for pairs in &MORE_PAIRS {
-        let more = with_conflict(&rt, pairs.as_bytes());
-        let other = accepted(&rt, &more, Kind::Undo);
-        assert!(rt; !counter.is_same(&other) & !other.is_same(&counter));
+        is_compared(&rt, &counter, &with_conflict(&rt, pairs.as_bytes()), false);
     }
+}
+
+/// Whether two types have one file.
+fn are_of_one_file(one: &CheckedType, other: &CheckedType) -> bool {
+    one.file().is_same(other.file()) & one.table().is_same(other.table())
 }
 
 /// Types of two kinds have one file.
@@ -153,20 +172,22 @@ fn types_are_compared(rt: HostRuntime) {
 fn files_are_compared(rt: HostRuntime) {
     let counter = accepted_in_place(&rt, COUNTER);
     let deferred = accepted(&rt, COUNTER.as_bytes(), Kind::Intentions);
-    assert!(rt; !counter.is_same(&deferred));
-    assert!(rt; counter.file().is_same(deferred.file()));
-    assert!(rt; counter.table().is_same(deferred.table()));
+    assert!(rt; are_compared(&counter, &deferred, false) & are_of_one_file(&counter, &deferred));
 }
 
-/// A type that begins at another state isn't the same, but is it at that state.
+/// Whether a type that begins at another state isn't the same, but is it at that state.
+fn is_elsewhere(counter: &CheckedType, other: &CheckedType) -> bool {
+    are_compared(counter, other, false)
+        & other.is_at(counter, 1)
+        & !other.is_at(counter, 0)
+        & counter.is_at(other, 0)
+}
+
 #[test]
 fn types_are_compared_where_they_begin(rt: HostRuntime) {
     let counter = accepted_in_place(&rt, COUNTER);
     let other = counter.at(rt.alloc(), 1).expect(&rt, "no memory");
-    let other = other.expect(&rt, "no state");
-    assert!(rt; !counter.is_same(&other) & !other.is_same(&counter));
-    assert!(rt; other.is_at(&counter, 1) & !other.is_at(&counter, 0));
-    assert!(rt; counter.is_at(&other, 0));
+    assert!(rt; is_elsewhere(&counter, &other.expect(&rt, "no state")));
 }
 
 /// Refusals, and how they are printed.

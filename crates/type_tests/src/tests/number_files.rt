@@ -103,7 +103,7 @@ fn names_each_fault_of_a_number(rt: HostRuntime) {
     have_faults(&rt, &FAULTS);
 }
 
-/// A text of a number of 100 with so many amounts to take.
+/// A text of a number of 100 with this many amounts to take.
 fn amounts_text(rt: &(impl Abort + AllocGlobal), amounts: u32) -> String {
     let mut text = String::new(rt.alloc());
     text.push_str("number p\nmax 100\ninitial 100\n")
@@ -243,7 +243,7 @@ end
 
 /// Where memory is refused the reader says so, at one of the lines.
 #[test]
-fn number_files_want_memory(rt: HostRuntime) {
+fn number_files_are_refused_memory(rt: HostRuntime) {
     if let Err(fault) = read_number(rt.alloc(), SMALL) {
         assert!(rt; fault.kind == FaultKind::NoMemory && 1 <= fault.line && fault.line <= 11);
     }

@@ -14,7 +14,7 @@ use type_table::TypeTable;
 type Case = (&'static [(u16, u16)], Option<CertFault>);
 
 /// The type of which state 3 looks like state 4, and not the other way round.
-static ONE_WAY: Parts = (
+pub static ONE_WAY: Parts = (
     5,
     0,
     &[("p", "ok"), ("q", "ok"), ("r", "ok")],

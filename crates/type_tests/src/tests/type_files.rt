@@ -210,7 +210,7 @@ fn names_each_fault_and_its_line(rt: HostRuntime) {
 /// The bytes of the longest comment.
 static LONG: [u8; 200] = [b'#'; 200];
 
-/// The counter's text behind a comment of 200 bytes and these.
+/// The counter's text after a comment of 200 bytes and these.
 fn commented(rt: &(impl Abort + AllocGlobal), more: &[u8]) -> Vec<u8> {
     let counter = counter_text(rt);
     let parts: [&[u8]; 4] = [&LONG, more, b"\n", &counter];
@@ -236,7 +236,7 @@ fn beginnings_have_their_faults(rt: HostRuntime) {
     assert!(rt; line == 15);
 }
 
-/// The same of a text: the line behind its last one.
+/// The same of a text: the line after its last one.
 fn last_of_beginnings(rt: &(impl Abort + AllocGlobal), text: &[u8]) -> usize {
     let mut line = 1usize;
     let mut kind = FaultKind::Missing;
@@ -259,7 +259,7 @@ fn other_bytes_have_their_faults(rt: HostRuntime) {
     assert!(rt; line == 15);
 }
 
-/// The same of a text: the line behind its last one.
+/// The same of a text: the line after its last one.
 fn last_of_others(rt: &(impl Abort + AllocGlobal), text: &mut [u8]) -> usize {
     let mut line = 1usize;
     for place in 0..text.len() {
@@ -274,7 +274,7 @@ fn last_of_others(rt: &(impl Abort + AllocGlobal), text: &mut [u8]) -> usize {
     line
 }
 
-/// A text of 1,024 states and so many operations, with a step of each operation in each state.
+/// A text of 1,024 states and this many operations, with a step of each operation in each state.
 fn full_text(rt: &(impl Abort + AllocGlobal), ops: u32) -> String {
     let mut text = String::new(rt.alloc());
     put_full(&mut text, ops).expect(rt, "no memory");

@@ -121,7 +121,7 @@ pub fn counter() -> Type {
     Type::counter(1000, &[1, 500], Kind::Undo).unwrap()
 }
 
-/// A store of so many counters, each at 500.
+/// A store of this many counters, each at 500.
 pub fn filled(make: Make, objects: u32) -> Fixture {
     let of = counter();
     let store = make(&vec![&of; objects as usize]);
@@ -140,7 +140,7 @@ pub fn until(is_so: impl Fn() -> bool) {
     }
 }
 
-/// Waits until so many sleeps were begun.
+/// Waits until this many sleeps were begun.
 pub fn until_asleep(store: &SharedStore, sleeps: u64) {
     until(|| store.stats().waits >= sleeps);
 }

@@ -16,6 +16,6 @@ returns-in-Err c =
     elim c.struck_of-n.ensures [
       | inl same ↦ subst (λ (m : ℕ). IsDone s w (Rollback c.args.transaction m) n new) same here
       | inr far ↦
-          far_done c.stands_as_read.ensures s w c.args.transaction c.args.operations n new far.1
+          far_done s w c.args.transaction c.args.operations n new far.1
           (subst (λ (m : ℕ). IsDone s w (Rollback c.args.transaction m) n new) far.0 here)
     ]

@@ -112,7 +112,7 @@ returns-in-Serve-clause-does g c =
     let old = taken_by g.W.Out.taken c.args.console.out in
     let new = taken_by g.W.Out.taken c.do_serve.result.1.out in
     let Does : Task → Type 0 = λ t. DoesTask given t c.do_serve.result.0 old new in
-    let At : Bor (List ℕ) → Type 0 = λ p. ComesOfServing (BeginsServing given.clean (given.databases p.now))
+    let At : Bor (List ℕ) → Type 0 = λ p. ComesOfServing (BeginsServing given.clean (given.databases p.now) (given.made p.now))
     (ServesDatabase given.clean (given.databases p.now) (given.made p.now) given.input given.rest) c.do_serve.result.0 old new in
     subst Does (sym c.in-Serve.is) (inl (tt, subst At c.serving.ensures.path c.do_serve.ensures.comes))
 

@@ -6,7 +6,8 @@ use Rattle.durable_store.specs.Begun.{AreAt, AreRead}
 use Rattle.durable_store.specs.Created.{first_header}
 use Rattle.durable_store.specs.Epochs.{firsts}
 use Rattle.durable_store.proofs.Begun.{are-types}
-use Rattle.durable_store.proofs.New.{at-own, checked-of, first-of}
+use Rattle.object_types.proofs.CheckedTypes.{types_checked}
+use Rattle.durable_store.proofs.New.{at-own, first-of}
 use Rattle.durable_store.proofs.creating.new_contents.Goals as goal
 
 pub returns : goal.returns
@@ -20,7 +21,7 @@ returns c =
     let of : AreTypesOf files lines types =
     subst (λ ls. AreTypesOf files ls types) c.deref-3.ensures.value (subst (λ fs. AreTypesOf fs c.deref-3.result.now types) c.deref-2.ensures.value c.in_ok-types.ensures.accepted) in
     let are : states ≡ firsts types = c.in_ok-states.ensures ∙ ap (λ ts. firsts (map value_of ts)) c.deref-4.ensures.value in
-    let at : AreAt types states types = subst (λ ss. AreAt types ss types) (sym are) (at-own types (checked-of files lines types of)) in
+    let at : AreAt types states types = subst (λ ss. AreAt types ss types) (sym are) (at-own types (types_checked files lines types of)) in
     let as-many : length states ≡ length lines = ap length are ∙ length-map types first-of ∙ of.as_many in
     let said : Contents = record { events = c.new.result.items; headers = first_header c.args.id ∷ []; types = texts; objects = lines; states = states } in
     record {

@@ -1,4 +1,4 @@
--- The types so far have told their states.
+-- Of the types so far the states are known.
 use Rattle.std.proofs.Common.{◌≡◌, map, take}
 use Rattle.std.specs.Arc.{arc_value}
 use Rattle.durable_store.specs.Epochs.{firsts}

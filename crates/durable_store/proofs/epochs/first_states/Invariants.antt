@@ -1,4 +1,4 @@
--- The objects so far have told their states.
+-- Of the objects so far the states are known.
 use Rattle.std.proofs.Common.{◌≡◌, take}
 use Rattle.durable_store.specs.Epochs.{firsts}
 use Rattle.durable_store.proofs.epochs.first_states.Given as goal

@@ -1,9 +1,5 @@
-use Rattle.std.proofs.Common.{◌≡◌, ◌<◌, ◌≤◌, ◌++◌, [], false, not, ◌||◌, ltb, length, take, drop, rules, sym, ap, ◌∙◌, arith}
-use mir.Val.{bool_byte}
-use Rattle.std.proofs.lemmas.List.{append-nil}
-use Rattle.object_trait.specs.Strike.{keep_first}
-use Rattle.object_trait.specs.Meaning.{is_open_of}
-use Rattle.escrow_manager.proofs.Passing.{each_there, keeping-more}
+use Rattle.std.proofs.Common.{◌≡◌, ◌<◌, false, length, rules, arith}
+use Rattle.type_table.proofs.Elements.{each_there}
 use Rattle.escrow_manager.proofs.entries.keep_first.Goals as goal
 
 pub is_of-mine-requires : goal.is_of-mine-requires

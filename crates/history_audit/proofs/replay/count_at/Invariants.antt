@@ -1,4 +1,4 @@
--- So many of the first ones are at the object.
+-- How many of the first ones are at the object.
 use Rattle.std.proofs.Common.{◌≡◌, length, take}
 use Rattle.history_audit.specs.Replay.{ops_at}
 use Rattle.history_audit.proofs.replay.count_at.Given as goal

@@ -2,7 +2,7 @@ use Rattle.std.proofs.Common.{[], ◌∷◌, take, Some, None, refl, sym, arith}
 use Rattle.std.proofs.lemmas.Bool.{false≢true}
 use Rattle.std.proofs.lemmas.Option.{none-some}
 use Rattle.object_trait.specs.declared.event.EventKind.TheVariants.{Begin, Op, Commit}
-use Rattle.serial_order.specs.History.{seen}
+use Rattle.serial_order.specs.History.{summary}
 use Rattle.history_audit.specs.Rows.{AreRows}
 use Rattle.history_audit.specs.Moves.{MovedRowsAgree}
 use Rattle.history_audit.specs.Examples.{two_counters, operation, two_ups, two_ups_rows, one_up_rows}
@@ -10,17 +10,17 @@ use Rattle.history_audit.proofs.Judged.{begin_judged, commit_taken, rollback_jud
 use Rattle.history_audit.proofs.worked.events_are_judged.Goals as goal
 
 -- event by event
-agree : MovedRowsAgree → AreRows [] (seen []) → AreRows two_ups_rows (seen two_ups)
+agree : MovedRowsAgree → AreRows [] (summary []) → AreRows two_ups_rows (summary two_ups)
 agree law start =
-    let begun : AreRows (Some [] ∷ []) (seen (take 1 two_ups)) = law two_counters [] (record { worker = 0; kind = Begin 0 }) [] (Some [] ∷ []) start refl refl in
-    let one : AreRows (Some (operation 1 0 ∷ []) ∷ []) (seen (take 2 two_ups)) =
+    let begun : AreRows (Some [] ∷ []) (summary (take 1 two_ups)) = law two_counters [] (record { worker = 0; kind = Begin 0 }) [] (Some [] ∷ []) start refl refl in
+    let one : AreRows (Some (operation 1 0 ∷ []) ∷ []) (summary (take 2 two_ups)) =
     law two_counters (take 1 two_ups) (record { worker = 0; kind = Op 0 1 0 }) (Some [] ∷ []) (Some (operation 1 0 ∷ []) ∷ []) begun (refl, omega arith)
     record { its = []; was = refl; becomes = refl }
     in
-    let both : AreRows (Some (operation 1 0 ∷ []) ∷ Some [] ∷ []) (seen (take 3 two_ups)) =
+    let both : AreRows (Some (operation 1 0 ∷ []) ∷ Some [] ∷ []) (summary (take 3 two_ups)) =
     law two_counters (take 2 two_ups) (record { worker = 0; kind = Begin 1 }) (Some (operation 1 0 ∷ []) ∷ []) (Some (operation 1 0 ∷ []) ∷ Some [] ∷ []) one refl refl
     in
-    let two : AreRows (Some (operation 1 0 ∷ operation 0 0 ∷ []) ∷ Some [] ∷ []) (seen (take 4 two_ups)) =
+    let two : AreRows (Some (operation 1 0 ∷ operation 0 0 ∷ []) ∷ Some [] ∷ []) (summary (take 4 two_ups)) =
     law two_counters (take 3 two_ups) (record { worker = 0; kind = Op 0 0 0 }) (Some (operation 1 0 ∷ []) ∷ Some [] ∷ []) (Some (operation 1 0 ∷ operation 0 0 ∷ []) ∷ Some [] ∷ []) both
     (refl, omega arith)
     record { its = operation 1 0 ∷ []; was = refl; becomes = refl }

@@ -1,10 +1,11 @@
 use Rattle.std.proofs.Common.{◌≡◌, ◌<◌, ◌≤◌, ◌-◌, ◌+◌, ◌++◌, ◌∷◌, false, not, filter, length, take, drop, rules, sym, ap, ◌∙◌, arith}
 use mir.Val.{bool_byte}
 use Rattle.std.proofs.lemmas.List.{take_all, length-drop}
+use Rattle.type_table.proofs.Elements.{next_there, each_there}
 use Rattle.object_trait.specs.Meaning.{is_open_of}
 use Rattle.object_trait.specs.declared.log_entry.LogEntry.{LogEntry}
 use Rattle.intentions_manager.specs.Walk.{carried}
-use Rattle.intentions_manager.proofs.Cutting.{next_there, each_there, cut_more}
+use Rattle.intentions_manager.proofs.Cutting.{cut_more}
 use Rattle.intentions_manager.proofs.entries.carry_from.Goals as goal
 
 pub is_of-requires : goal.is_of-requires

@@ -1,7 +1,8 @@
 use Rattle.std.proofs.Common.{◌≡◌, ◌<◌, length, rules, ap, ◌∙◌, not, false, arith}
 use mir.Val.{bool_byte}
+use Rattle.type_table.proofs.Elements.{each_there}
 use Rattle.object_trait.specs.Meaning.{is_open_of}
-use Rattle.intentions_manager.proofs.Cutting.{each_there, cut_more}
+use Rattle.intentions_manager.proofs.Cutting.{cut_more}
 use Rattle.intentions_manager.proofs.entries.cut_from.Goals as goal
 
 pub is_of-requires : goal.is_of-requires

@@ -1,4 +1,4 @@
--- The calls so far stand in front of those that are still to come.
+-- The calls so far come before those that are still to come.
 use Rattle.std.proofs.Common.{◌≡◌, ◌++◌, drop}
 use Rattle.jobs_text.specs.Jobs.{calls_of}
 use Rattle.jobs_text.proofs.build.calls_of.Given as goal

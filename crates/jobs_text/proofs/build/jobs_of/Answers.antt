@@ -1,5 +1,6 @@
 use Rattle.std.proofs.Common.{◌+◌, arith}
-use Rattle.jobs_text.proofs.Taken.{drop_past, slice_behind}
+use Rattle.std.proofs.lemmas.List.{drop_all}
+use Rattle.jobs_text.proofs.Taken.{slice_behind}
 use Rattle.jobs_text.proofs.Adding.{more_so_far, all_so_far}
 use Rattle.jobs_text.proofs.build.jobs_of.Goals as goal
 
@@ -9,4 +10,4 @@ loop-place-preserved c =
 
 pub returns : goal.returns
 returns c =
-    all_so_far c.args.workers c.args.lines.now c.loop-place.place c.loop-place.lists.items (drop_past c.args.lines.now c.loop-place.place (omega (arith, c.loop-place-test.false))) c.loop-place.invariant
+    all_so_far c.args.workers c.args.lines.now c.loop-place.place c.loop-place.lists.items (drop_all c.loop-place.place c.args.lines.now (omega (arith, c.loop-place-test.false))) c.loop-place.invariant

@@ -10,7 +10,7 @@ returns-in-Err-clause-exact g c =
     let rules = g.G.Grammar.rules c.args.grammar.now in
     let text = c.args.text.now in
     let at = c.loop-rest in
-    let items = g.G.Grammar.kept at.stood.kept in
+    let items = g.G.Grammar.kept at.so_far.kept in
     let stopped = c.in-Err.ensures.read in
     elim stopped.refused [
       | inl e ↦ inl (refused_next rules text at.rest.now at.line items stopped.line stopped.after stopped.first at.invariant.read c.in-Err.kind e)
@@ -23,7 +23,7 @@ loop-rest-preserved g c =
     let at = c.loop-rest in
     let read = c.in-Ok-read_line.ensures.read in
     record {
-      read = HasRead-more rules c.args.text.now at.rest.now at.line (g.G.Grammar.kept at.stood.kept) read.line _ read.first at.invariant.read c.in-Ok-read_line.behind.now (g.G.Grammar.kept c.read_line.new.stood.kept) refl read.shorter read.passed read.items;
+      read = HasRead-more rules c.args.text.now at.rest.now at.line (g.G.Grammar.kept at.so_far.kept) read.line _ read.first at.invariant.read c.in-Ok-read_line.behind.now (g.G.Grammar.kept c.read_line.new.so_far.kept) refl read.shorter read.passed read.items;
       known = c.in-Ok-read_line.ensures.known;
     }
 
@@ -32,14 +32,14 @@ returns-then-not-has_ended-clause-exact g c =
     let rules = g.G.Grammar.rules c.args.grammar.now in
     let at = c.loop-rest in
     let last = lines_of-empty at.rest.now (eqb-true _ _ (sym c.loop-rest-test.ensures)) in
-    inl (unfinished_next rules c.args.text.now at.rest.now at.line (g.G.Grammar.kept at.stood.kept) last at.invariant.read c.if-not-has_ended.ensures)
+    inl (unfinished_next rules c.args.text.now at.rest.now at.line (g.G.Grammar.kept at.so_far.kept) last at.invariant.read c.if-not-has_ended.ensures)
 
 pub returns-clause-exact : goal.returns-clause-exact
 returns-clause-exact g c =
     let rules = g.G.Grammar.rules c.args.grammar.now in
     let at = c.loop-rest in
     let last = lines_of-empty at.rest.now (eqb-true _ _ (sym c.loop-rest-test.ensures)) in
-    value_next rules c.args.text.now at.rest.now at.line (g.G.Grammar.kept at.stood.kept) last at.invariant.read c.if-not-has_ended.ensures
+    value_next rules c.args.text.now at.rest.now at.line (g.G.Grammar.kept at.so_far.kept) last at.invariant.read c.if-not-has_ended.ensures
 
 pub returns-clause-accepted : goal.returns-clause-accepted
-returns-clause-accepted g c = IsAccepted-from_outcome (g.G.Grammar.rules c.args.grammar.now) c.args.text.now (g.G.Grammar.kept c.loop-rest.stood.kept) (returns-clause-exact g c)
+returns-clause-accepted g c = IsAccepted-from_outcome (g.G.Grammar.rules c.args.grammar.now) c.args.text.now (g.G.Grammar.kept c.loop-rest.so_far.kept) (returns-clause-exact g c)

@@ -1,4 +1,4 @@
--- The keyword and the numbers so far stand behind what was in front of the line, and there is room for the others.
+-- The keyword and the numbers so far come after what was before the line, and there is room for the others.
 use Rattle.std.proofs.Common.{◌≡◌, ◌+◌, ◌*◌, ◌≤◌, ◌++◌, length, take}
 use Rattle.outputs.proofs.Numbers.{numbers_text}
 use Rattle.outputs.proofs.spelling.spell_line.Given as goal

@@ -39,7 +39,7 @@ static CHECKS: [Case<'static>; 2] = [
 ];
 
 /// From 3: who takes two and who gives one don't keep one another, and a second take of two waits for the
-/// first, behind which there might be one only.
+/// first, after which there might be one only.
 const GIVEN_WHILE_TAKEN: Case<'static> = Case {
     words: &["run", "the.script", "five.type"],
     files: &[
@@ -84,7 +84,7 @@ end
     status: Status::Yes,
 };
 
-/// At 1 there aren't two to take: so it stays until the one who was told so commits, and a give waits.
+/// At 1 there aren't two to take: so it stays until the one who was answered so commits, and a give waits.
 const A_SHORT_IS_HELD: Case<'static> = Case {
     words: &["run", "the.script", "five.type"],
     files: &[

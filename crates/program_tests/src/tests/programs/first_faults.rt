@@ -1,4 +1,4 @@
-//! Which fault is told where there are several: the files are read in the order of the words, each
+//! Which fault comes first where there are several: the files are read in the order of the words, each
 //! before the next is opened, and then the objects' types are looked at in the order of the objects.
 
 use super::Case;

@@ -273,7 +273,7 @@ fn are_refused<R: Abort + AllocGlobal + Clock + Threads + Wait + Sync>(rt: &R, w
         status: Status::BadInput,
     };
     let first = play(rt, &case);
-    assert!(rt; is_refusal(&first) || first.wants_memory() && is_refusal(&play(rt, &case)));
+    assert!(rt; is_refusal(&first) || first.is_refused_memory() && is_refusal(&play(rt, &case)));
 }
 
 #[test]

@@ -19,7 +19,7 @@ use std::thread::Threads;
 /// Runs of canonical scripts, each of objects of one type.
 static RUNS: [Case<'static>; 4] = [ONE_WAY_ORDER, BOTH_COMMIT, TWO_DEQUEUES, BOTH_KINDS];
 
-/// What a slow fold writes of a run whose commands met the refused allocations that its text tells.
+/// What a slow fold writes of a run whose commands met the refused allocations that its text says.
 fn fold_of(rt: &(impl Abort + AllocGlobal), case: &Case<'static>, written: &[u8]) -> RunText {
     let [(_, script), (_, text)] = case.files else {
         panic!(rt; "no script of one type");
@@ -47,7 +47,7 @@ fn run_folds<R: Abort + AllocGlobal + Clock + Threads + Wait + Sync>(rt: &R, cas
 
 /// That another task does what its case says, or writes nothing and says that memory was refused, and
 /// the next try has it.
-fn says_or_wants<R: Abort + AllocGlobal + Clock + Threads + Wait + Sync>(
+fn says_or_is_refused<R: Abort + AllocGlobal + Clock + Threads + Wait + Sync>(
     rt: &R,
     case: &Case<'static>,
 ) {
@@ -61,16 +61,16 @@ fn says_or_wants<R: Abort + AllocGlobal + Clock + Threads + Wait + Sync>(
 }
 
 #[test]
-fn checks_and_audits_want_memory(rt: HostRuntime) {
+fn checks_and_audits_are_refused_memory(rt: HostRuntime) {
     for case in &checks::CASES {
-        says_or_wants(&rt, case);
+        says_or_is_refused(&rt, case);
     }
-    says_or_wants(&rt, &NEXT_ILLEGAL);
-    says_or_wants(&rt, &OWN_OUTPUT);
+    says_or_is_refused(&rt, &NEXT_ILLEGAL);
+    says_or_is_refused(&rt, &OWN_OUTPUT);
 }
 
 #[test]
-fn runs_want_memory(rt: HostRuntime) {
+fn runs_are_refused_memory(rt: HostRuntime) {
     for case in &RUNS {
         run_folds(&rt, case);
     }
@@ -125,7 +125,7 @@ fn work_folds<R: Abort + AllocGlobal + Clock + Threads + Wait + Sync>(
 }
 
 #[test]
-fn works_want_memory(rt: HostRuntime) {
+fn works_are_refused_memory(rt: HostRuntime) {
     work_folds(&rt, &ONE_WORKER);
     work_folds(&rt, &ONE_WORKER_DRAWN);
 }

@@ -539,9 +539,12 @@ Usage: colock tables FILE
 FILE is the path of a type file. What is written has its operations, states and
 steps and its set of states. The relation is made from the steps, and each
 conflict table has the pairs that can't change places at a state of the set.
+So a file of your own needs no equi and no conflict line.
+
+Example: colock tables examples/ctr2.type
 
 Status: 0 done, 2 a fault of the command line or of the file's text, 3 a file
-that can't be read, want of memory, or an output that failed.
+that can't be read, refused memory, or an output that failed.
 ",
         err: "",
         status: Status::Yes,

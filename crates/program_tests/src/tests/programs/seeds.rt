@@ -1,5 +1,5 @@
 //! That the seed arrives, as a whole: the same jobs of two workers by two seeds that differ in their upper
-//! half alone. What is expected was told by a simulation of the turns that are drawn, by the formula of
+//! half alone. What is expected was computed by a simulation of the turns that are drawn, by the formula of
 //! `docs/formats.md`.
 
 use super::{Case, all_play};

@@ -23,7 +23,7 @@ static CASES: [Case<'static>; 6] = [
     WRITTEN,
 ];
 
-/// That a case stops where the output has room for so many bytes.
+/// That a case stops where the output has room for this many bytes.
 fn stops_at<R: Abort + AllocGlobal + Clock + Threads + Wait + Sync>(
     rt: &R,
     case: &Case<'_>,
@@ -43,7 +43,7 @@ fn stops<R: Abort + AllocGlobal + Clock + Threads + Wait + Sync>(rt: &R, case: &
     }
 }
 
-/// That a case has its status where standard error has room for so many bytes.
+/// That a case has its status where standard error has room for this many bytes.
 fn ends_alike<R: Abort + AllocGlobal + Clock + Threads + Wait + Sync>(
     rt: &R,
     case: &Case<'_>,

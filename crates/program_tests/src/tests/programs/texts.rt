@@ -14,7 +14,7 @@ fn writes_history(case: &Case<'_>) -> bool {
     case.out.starts_with("object ")
 }
 
-/// The words of a case behind its first file: the type files.
+/// The words of a case after its first file: the type files.
 fn types_of<'a>(case: &Case<'a>) -> &'a [&'a str] {
     let path = case.files.first().map_or("", |file| file.0);
     match case.words.iter().position(|word| *word == path) {
@@ -23,7 +23,7 @@ fn types_of<'a>(case: &Case<'a>) -> &'a [&'a str] {
     }
 }
 
-/// The lines of the audit that a case writes: those of jobs are behind them.
+/// The lines of the audit that a case writes: those of jobs are after them.
 fn audit_of<'a>(case: &Case<'a>) -> Option<&'a str> {
     let (_, lines) = case.out.split_once("# audit ")?;
     match lines.split_once("# job ") {
@@ -67,7 +67,7 @@ fn audit_files<'a>(rt: &(impl Abort + AllocGlobal), case: &Case<'a>) -> Vec<File
     files
 }
 
-/// The text up to its line `end`, behind which there may be comments.
+/// The text up to its line `end`, after which there may be comments.
 fn until_end(text: &str) -> &[u8] {
     let text = text.as_bytes();
     match text

@@ -13,7 +13,7 @@ pub fn set_of_ten(rt: &(impl Abort + AllocGlobal)) -> String {
     text
 }
 
-/// Its lines behind these.
+/// Its lines after these.
 fn add_sets(text: &mut String) -> Result<(), AllocError> {
     for s in 0..1024 {
         for e in 0..10 {

@@ -1,6 +1,7 @@
 //! The worked examples of `make`: texts of families, and words of which none is made.
 
 use super::large::set_of_ten;
+use super::made_texts::{QUEUE, QUEUE_OF_THREE, SEAT, STOCK, STOCK_BY_TWO, TWO_SEATS};
 use super::{run, writes};
 use crate::tests::programs::Played;
 use command_files::Status;
@@ -11,9 +12,12 @@ use std::thread::Threads;
 use test_support::type_texts::{ACCOUNT, SEMIQUEUE};
 
 /// Words, and the text that they make. Each is good for both kinds of recovery.
-static TEXTS: [(&str, &str); 2] = [
+static TEXTS: [(&str, &str); 5] = [
     ("make account 2 1", ACCOUNT),
     ("make semiqueue 2 a b", SEMIQUEUE),
+    ("make stock 2 1", STOCK),
+    ("make queue 2 a b", QUEUE),
+    ("make seats 1", SEAT),
 ];
 
 /// Words, how the text that they make begins, and how many operations it has.
@@ -57,6 +61,33 @@ static HEADS: [(&str, &str, usize); 15] = [
         "type semiqueue\nstates 33\n",
         64,
     ),
+];
+
+/// The same of stocks, queues and seats.
+static MORE_HEADS: [(&str, &str, usize); 11] = [
+    ("make stock 3 1 2", STOCK_BY_TWO, 8),
+    ("make stock 1023 1023", "type stock\nstates 1024\n", 4),
+    (
+        "make stock 16 1 2 3 4 5 6 7 8 9 10 11 12 13 14 15 16",
+        "type stock\nstates 17\n",
+        64,
+    ),
+    ("make queue 3 a b", QUEUE_OF_THREE, 4),
+    (
+        "make queue 1 a234567890123456789012345678",
+        "type queue\nstates 2\n",
+        2,
+    ),
+    ("make queue 1023 e0", "type queue\nstates 1024\n", 2),
+    ("make queue 9 e0 e1", "type queue\nstates 1023\n", 4),
+    ("make queue 5 e0 e1 e2", "type queue\nstates 364\n", 6),
+    (
+        "make queue 1 e0 e1 e2 e3 e4 e5 e6 e7 e8 e9 e10 e11 e12 e13 e14 e15 e16 e17 e18 e19 e20 e21 e22 e23 e24 e25 e26 e27 e28 e29 e30 e31",
+        "type queue\nstates 33\n",
+        64,
+    ),
+    ("make seats 2", TWO_SEATS, 13),
+    ("make seats 6", "type seats\nstates 729\n", 37),
 ];
 
 /// The account up to two by one and two, up to its conflicts.
@@ -168,7 +199,7 @@ op dec:1023 ok
 step ";
 
 /// Words of a type with too many operations or states.
-static TOO_LARGE: [&str; 12] = [
+static TOO_LARGE: [&str; 21] = [
     "make account 60 1",
     "make account 1023 1",
     "make account 16 1 2 3 4 5 6 7 8 9 10 11 12",
@@ -181,10 +212,19 @@ static TOO_LARGE: [&str; 12] = [
     "make semiqueue 1 e0 e1 e2 e3 e4 e5 e6 e7 e8 e9 e10 e11 e12 e13 e14 e15 e16 e17 e18 e19 e20 e21 e22 e23 e24 e25 e26 e27 e28 e29 e30 e31 e32",
     "make semiqueue 17 a b c",
     "make semiqueue 1023 a b c",
+    "make stock 17 1 2 3 4 5 6 7 8 9 10 11 12 13 14 15 16 17",
+    "make queue 10 a b",
+    "make queue 6 a b c",
+    "make queue 1023 a b",
+    "make queue 2 e0 e1 e2 e3 e4 e5 e6 e7 e8 e9 e10 e11 e12 e13 e14 e15 e16 e17 e18 e19 e20 e21 e22 e23 e24 e25 e26 e27 e28 e29 e30 e31",
+    "make queue 1 e0 e1 e2 e3 e4 e5 e6 e7 e8 e9 e10 e11 e12 e13 e14 e15 e16 e17 e18 e19 e20 e21 e22 e23 e24 e25 e26 e27 e28 e29 e30 e31 e32",
+    "make seats 7",
+    "make seats 11",
+    "make seats 1023",
 ];
 
 /// Words of which some are no parameters.
-static BAD: [&str; 49] = [
+static BAD: [&str; 73] = [
     "make bag 2 1",
     "make Account 2 1",
     "make  2 1",
@@ -234,6 +274,30 @@ static BAD: [&str; 49] = [
     "make semiqueue 1 a b a",
     "make semiqueue 1024 a",
     "make semiqueue 0 e0 e1 e2 e3 e4 e5 e6 e7 e8 e9 e10 e11 e12 e13 e14 e15 e16 e17 e18 e19 e20 e21 e22 e23 e24 e25 e26 e27 e28 e29 e30 e31 e32",
+    "make stock 2",
+    "make stock 0 1",
+    "make stock 1024 1",
+    "make stock x 1",
+    "make stock 2 0 1",
+    "make stock 2 1 3",
+    "make stock 2 2 1",
+    "make stock 2 1 1",
+    "make stock 17 1 2 3 4 5 6 7 8 9 10 11 12 13 14 15 16 18",
+    "make queue 2",
+    "make queue 0 a",
+    "make queue 1024 a",
+    "make queue two a",
+    "make queue 2 A",
+    "make queue 2 a b a",
+    "make queue 1 a2345678901234567890123456789",
+    "make seats 0",
+    "make seats 1024",
+    "make seats 65537",
+    "make seats 02",
+    "make seats six",
+    "make seats 2 a1",
+    "make seats 7 ",
+    "make Seats 2",
 ];
 
 /// What comes of these words.
@@ -276,6 +340,12 @@ fn makes_the_families(rt: HostRuntime) {
 }
 
 #[test]
+fn makes_a_stock_that_may_be_in_escrow(rt: HostRuntime) {
+    let words = ["check", "escrow", "ctr2.type"];
+    writes(&rt, &words, STOCK.as_bytes(), b"yes strong\n", Status::Yes);
+}
+
+#[test]
 fn makes_the_set_of_ten(rt: HostRuntime) {
     makes(&rt, "make set 0 a b c d e f g h i j", &set_of_ten(&rt));
 }
@@ -286,7 +356,7 @@ fn ops_of(text: &[u8]) -> usize {
     lines.filter(|line| line.starts_with(b"op ")).count()
 }
 
-/// That each of these words make a text that begins so, of so many operations.
+/// That each of these words makes a text that begins so, with this many operations.
 fn makes_heads<R: Abort + AllocGlobal + Clock + Threads + Wait + Sync>(
     rt: &R,
     rows: &[(&str, &str, usize)],
@@ -300,6 +370,11 @@ fn makes_heads<R: Abort + AllocGlobal + Clock + Threads + Wait + Sync>(
 #[test]
 fn makes_up_to_the_limits(rt: HostRuntime) {
     makes_heads(&rt, &HEADS);
+}
+
+#[test]
+fn makes_stocks_queues_and_seats_up_to_the_limits(rt: HostRuntime) {
+    makes_heads(&rt, &MORE_HEADS);
 }
 
 /// That nothing is made of each of these words, and this is said.

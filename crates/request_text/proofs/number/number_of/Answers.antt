@@ -1,11 +1,12 @@
-use Rattle.std.proofs.Common.{◌≡◌, ◌≤◌, ◌<◌, length, true, sym, ◌∙◌, take, get_or, Some, ap, arith}
+use Rattle.std.proofs.Common.{◌≡◌, ◌≤◌, ◌<◌, length, true, sym, ◌∙◌, take, get_or, ap, arith}
 use Rattle.std.specs.List.{list_all}
 use Rattle.std.proofs.lemmas.Grind.{common_steps}
 use Rattle.std.proofs.lemmas.Bool.{eqb-false}
 use Rattle.std.proofs.lemmas.List.{take_all}
 use Rattle.line_text.specs.Text.{is_digit, number_value}
+use Rattle.line_text.proofs.Numbers.{digit_range}
 use Rattle.request_text.specs.Numbers.{short_number}
-use Rattle.request_text.proofs.Digits.{digit_range, digit_fits, number_of-digits}
+use Rattle.request_text.proofs.Digits.{digit_fits, number_of-digits}
 use Rattle.request_text.proofs.number.number_of.Goals as goal
 
 pub overflow_mul-number : goal.overflow_mul-number

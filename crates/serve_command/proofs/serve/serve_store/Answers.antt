@@ -1,6 +1,7 @@
 use Rattle.std.proofs.Common.{inr}
 use Rattle.serve_command.proofs.Archiving.{keeps-at}
-use Rattle.serve_command.proofs.ServedLemmas.{of-err, of-ok}
+use Rattle.serve_command.proofs.ServedLemmas.{of-fault}
+use Rattle.serving.proofs.Results.{of-ok}
 use Rattle.serve_command.proofs.serve.serve_store.Goals as goal
 
 pub returns-in-Ok-served-clause-told : goal.returns-in-Ok-served-clause-told
@@ -8,7 +9,17 @@ returns-in-Ok-served-clause-told g c = record { now = c.serve-store.result.0; ar
 
 pub returns-clause-cut : goal.returns-clause-cut
 returns-clause-cut g c =
-    inr (c.fault_of_serving.ensures, record { now = c.serve-store.result.0; are = c.into_trees-trees.ensures; clean = c.serve-store.ensures.clean; stops = of-err c.serve-store.result.1 c.in-Err.fault c.in-Err.is c.serve-store.ensures.stops })
+    let safely = of-fault _ c.serve-store.result.1 c.in-Err.fault c.in-Err.is c.serve-store.ensures.acknowledged in
+    inr (
+      c.fault_of_serving.ensures,
+      record {
+        now = c.serve-store.result.0;
+        are = c.into_trees-trees.ensures;
+        clean = c.serve-store.ensures.clean;
+        stops = safely.stops;
+        found = λ clean. c.told_commits_are_found.ensures _ safely.stops.lines safely.stops.answers c.serve-store.result.0 (safely.safe c.requires.shows clean);
+      },
+    )
 
 pub returns-in-Ok-served-clause-archives : goal.returns-in-Ok-served-clause-archives
 returns-in-Ok-served-clause-archives g c =

@@ -22,7 +22,7 @@ loop-at-preserved g c =
     let (done, so_far, put) = c.loop-at.invariant in
     let found = sym c.line_end.ensures.place ∙ c.in-Some.is in (
       done ++ take c.in-Some.at c.loop-at.rest.now ∷ [],
-      subst (λ (rest : List ℕ). slice_split (λ b. b == 10) c.args.text.now ≡ (done ++ take c.in-Some.at c.loop-at.rest.now ∷ []) ++ slice_split (λ b. b == 10) rest) (sym c.after-rest.ensures)
+      subst (λ (rest : List ℕ). slice_split (λ b. b == 10) c.args.text.now ≡ (done ++ take c.in-Some.at c.loop-at.rest.now ∷ []) ++ slice_split (λ b. b == 10) rest) (sym c.text_after-rest.ensures)
           (lines-next c.args.text.now c.loop-at.rest.now done c.in-Some.at found so_far),
       subst (λ (t : List ℕ). Puts (g.W.Out.taken c.args.out.now) (g.W.Out.taken c.put_behind.new.out) (g.W.Out.fault c.put_behind.new.out) t (Ok tt)) (sym (text-next c.args.tag.now (take c.in-Some.at c.loop-at.rest.now) done))
           (Puts-append c.texts_in_turn.ensures.joined put c.in_ok-put_behind.ensures),

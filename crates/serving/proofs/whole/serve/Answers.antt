@@ -5,7 +5,8 @@ use Rattle.serving.specs.Told.{AppendsPart, greeting}
 use Rattle.serving.proofs.Acknowledging.{stops-safely-greeting, stops-safely-served, whole-safely}
 use Rattle.serving.proofs.EndLemmas.{left-served, same-session, serves-whole, stops-greeting, stops-served, stops-whole, writes-served}
 use Rattle.serving.proofs.Lasting.{left-nowhere}
-use Rattle.serving.proofs.Telling.{match-err, match-ok, of-err, of-ok}
+use Rattle.serving.proofs.Results.{of-err, of-ok}
+use Rattle.serving.proofs.Telling.{match-err, match-ok}
 use Rattle.serving.proofs.whole.serve.Goals as goal
 
 pub returns-in-Err-clause-stops : goal.returns-in-Err-clause-stops

@@ -1,4 +1,5 @@
-use Rattle.store.proofs.Executed.{on-err, seen-at, unseen-at, executed}
+use Rattle.type_table.proofs.Results.{on_err}
+use Rattle.store.proofs.Executed.{seen-at, unseen-at, executed}
 use Rattle.store.proofs.executing.execute.Goals as goal
 
 pub apply-requires : goal.apply-requires
@@ -8,7 +9,7 @@ apply-requires g c =
 
 pub returns-in_err-apply-clause-objects : goal.returns-in_err-apply-clause-objects
 returns-in_err-apply-clause-objects g c =
-    on-err c.from_residual-in_err-apply.result
+    on_err c.from_residual-in_err-apply.result
     (unseen-at g.R.Recovery.meaning c.args.objects.now.items c.args.x c.index_mut.result.now c.apply.new.self c.index_mut.ensures.value c.in_err-apply.ensures.unchanged)
 
 pub returns-clause-done : goal.returns-clause-done

@@ -8,5 +8,5 @@ pub returns : goal.returns
 returns g c =
     let its = c.call_if.ensures in
     let Become : Result (Unit {0}) Stray → Type 0 = λ r. Follows c.args.store.now c.args.event r c.call_if.new.self in
-    subst Become (sym c.answered.ensures)
+    subst Become (sym c.made_or_stray.ensures)
     (called-follows c.args.store.now c.call_if.new.self c.args.event c.args.t c.args.x c.args.c c.args.answer c.requires.alone c.requires.told c.call_if.result its.named its.err its.step)

@@ -4,7 +4,7 @@ use Rattle.object_trait.specs.declared.event.EventKind.{EventKind}
 use Rattle.object_trait.specs.declared.event.EventKind.TheVariants.{Busy, Op}
 use Rattle.store.proofs.worked.a_call_would_be_answered.Goals as goal
 
--- what counted up is in the way of what would count down
+-- what counted up blocks what would count down
 pub returns-clause-not_past_a_blocker : goal.returns-clause-not_past_a_blocker
 unfolding next
 returns-clause-not_past_a_blocker c = λ would.

@@ -8,7 +8,7 @@ use Rattle.table_checker.specs.Checked.{Checked}
 use Rattle.object_trait.specs.Object.{Object, object_of}
 use Rattle.serial_order.specs.Epochs.{types_at}
 use Rattle.serial_order.specs.Operations.{ops}
-use Rattle.serial_order.specs.Serial.{standing_at}
+use Rattle.serial_order.specs.Serial.{surviving_at}
 use Rattle.store_laws.specs.Stored.{Stored}
 use Rattle.store_laws.specs.Examples.{stored, undo_counter, deferred_counter}
 use Rattle.store.specs.KeptState.{IsKeptState}
@@ -46,5 +46,5 @@ returns-clause-at_another_state c = λ renews.
     let kept : IsKeptState (stored up_in_place) 0 0 = renews.states 0 0 (kept-first renews.kept renews.as_many (ap (λ (n : Stored). n.types) renews.is)) in
     let is : object_of undo_counter ≡ kept.o = same_Some (object_of undo_counter) kept.o kept.there in
     let ends : ◌≡◌ {A = Option ℕ} (Some 1) (Some 0) =
-    subst (λ (o : Object). o.kind ≡ Undo → run o.table (Some o.table.initial) (ops (standing_at 0 up_in_place)) ≡ Some 0) (sym is) kept.in_place refl in
+    subst (λ (o : Object). o.kind ≡ Undo → run o.table (Some o.table.initial) (ops (surviving_at 0 up_in_place)) ≡ Some 0) (sym is) kept.in_place refl in
     cc

@@ -1,4 +1,4 @@
-use Rattle.store_commands.proofs.Reading.{types_checked}
+use Rattle.object_types.proofs.CheckedTypes.{types_checked}
 use Rattle.store_commands.proofs.RunsRead.{audited_as}
 use Rattle.store_commands.proofs.WorksRead.{works_read}
 use Rattle.store_commands.proofs.laws.works_are_read.Goals as goal

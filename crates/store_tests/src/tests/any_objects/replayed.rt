@@ -114,7 +114,7 @@ fn count_of(log: &[LogEntry], t: u32) -> usize
     }
 }
 
-/// Whether an entry in front of these is the last open one of its transaction.
+/// Whether an entry before these is the last open one of its transaction.
 fn is_last(entry: LogEntry, rest: &[LogEntry]) -> bool
     ensures { result ≡ not (entry.done || list_any (λ t. t == entry.by) (open_transactions rest.now)) }
 {
@@ -164,7 +164,7 @@ fn mark(log: &mut Vec<LogEntry>, t: u32)
     }
 }
 
-/// Takes out t's open entries behind its first n.
+/// Takes out t's open entries after its first n.
 fn keep_first(log: &mut Vec<LogEntry>, t: u32, n: usize)
     ensures items { log.new.items ≡ keep_first (is_open_of t) n log.old.items }
     ensures fewer { length log.new.items ≤ length log.old.items }

@@ -99,7 +99,7 @@ pub static DEFERRED: [Scene; 5] = [
         legal: &[(0, 0, false), (1, 1, false), (2, 0, true)],
         ends: &[(End::Commit(0), 2, 1), (End::Commit(1), 1, 0)],
     },
-    // the second of three is left, and one is struck behind it
+    // the second of three is left, and one is struck after it
     Scene {
         text: COUNTER_OF_FOUR,
         applied: &[(0, 0, 1), (1, 1, 1), (0, 0, 1)],

@@ -13,7 +13,7 @@ use test_support::type_texts::COUNTER;
 use type_table::Kind;
 use workers::Outcome;
 
-/// Jobs of one worker, in two tries at a store of so many events, and what comes of them.
+/// Jobs of one worker, in two tries at a store of this many events, and what comes of them.
 struct Alone {
     max: u32,
     text: &'static str,

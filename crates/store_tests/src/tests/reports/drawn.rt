@@ -73,7 +73,7 @@ fn objects_of(rt: &(impl Abort + AllocGlobal), types: &Types) -> Vec<Object> {
     objects
 }
 
-/// What comes of the jobs by turns from a seed, each job tried three times at the most.
+/// What comes of the jobs by turns from a seed, each job tried at most three times.
 fn done_by<R: Abort + AllocGlobal + Threads + Wait + Sync>(
     rt: &R,
     types: &Types,
@@ -168,7 +168,7 @@ impl Tally {
     }
 }
 
-/// That each of so many jobs committed or was given up.
+/// That each of the jobs, this many, committed or was given up.
 fn has_ended(rt: &impl Abort, outcomes: &[Outcome], jobs: usize) {
     assert!(rt; outcomes.len() == jobs);
     for outcome in outcomes {
@@ -184,7 +184,7 @@ fn have_ended(rt: &impl Abort, reports: &[Report]) {
     }
 }
 
-/// That the jobs were done by turns from a seed, as the reports tell, and serially.
+/// That the jobs were done by turns from a seed, as the reports say, and serially.
 fn is_done(rt: &(impl Abort + AllocGlobal), done: &Done, seed: u64) {
     assert!(rt; done.fault == None);
     have_ended(rt, &done.reports);

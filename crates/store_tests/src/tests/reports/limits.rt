@@ -41,7 +41,7 @@ static BEFORE: [Row; 5] = [
     (9, Ask::Call(1, 0, "inc:1"), Told::Reply(0)),
 ];
 
-/// Its history, closed behind that.
+/// Its history, closed after that.
 static UNCHANGED: [Happened; 6] = [
     (9, EventKind::Begin { t: 0 }),
     (9, EventKind::Op { t: 0, x: 0, k: 0 }),
@@ -51,7 +51,7 @@ static UNCHANGED: [Happened; 6] = [
     (9, EventKind::Abort { t: 1 }),
 ];
 
-/// Its history where the job was done, closed behind that.
+/// Its history where the job was done, closed after that.
 static WITH_JOB: [Happened; 9] = [
     (9, EventKind::Begin { t: 0 }),
     (9, EventKind::Op { t: 0, x: 0, k: 0 }),
@@ -131,7 +131,7 @@ do 0 dec:1
 end
 ";
 
-/// What comes of jobs at a store at which so many transactions of worker 7 are open.
+/// What comes of jobs at a store at which this many transactions of worker 7 are open.
 fn done_beside<R: Abort + AllocGlobal + Threads + Wait + Sync>(
     rt: &R,
     open: u32,
@@ -151,7 +151,7 @@ const TOO_MANY: Outcome = Outcome::Refused(Refusal::TooManyOpen);
 /// The outcomes of the three jobs, where all are refused.
 static ALL_REFUSED: [&[Outcome]; 2] = [&[TOO_MANY, TOO_MANY], &[TOO_MANY]];
 
-/// That worker 7 alone made events, and so many.
+/// That worker 7 alone made events, this many.
 fn are_of_seven(rt: &impl Abort, history: &[Event], events: usize) {
     assert!(rt; history.len() == events);
     for event in history {

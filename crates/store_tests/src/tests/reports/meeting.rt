@@ -33,12 +33,12 @@ impl Side {
     }
 }
 
-/// A gate at which two workers meet in front of their third turns.
+/// A gate at which two workers meet before their third turns.
 #[derive(Drop)]
 struct Meeting {
     first: Side,
     second: Side,
-    /// Whether a worker didn't find the other, or was told another number of its turns.
+    /// Whether a worker didn't find the other, or got another number of its turns.
     failed: AtomicBool,
 }
 
@@ -54,7 +54,7 @@ impl Meeting {
         self.failed.store(true, Ordering::SeqCst);
     }
 
-    /// One side in front of a turn.
+    /// One side before a turn.
     fn meet(&self, own: &Side, other: &Side, step: u32) {
         if own.turns.fetch_add(1, Ordering::SeqCst) != step {
             self.failed.store(true, Ordering::SeqCst);

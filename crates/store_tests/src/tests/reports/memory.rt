@@ -1,4 +1,4 @@
-//! Each allocation refused in turn, by `rt try --test --fail-alloc N`: the reports go on telling what
+//! Each allocation refused in turn, by `rt try --test --fail-alloc N`: the reports still say what
 //! happened, and a job that met it is refused, or nothing was done.
 
 use super::alone::done_alone;
@@ -36,7 +36,7 @@ fn is_folded(alloc: Global, done: &Done) -> Result<bool, Fail> {
     Ok(false)
 }
 
-/// That the receipts of what happened behind so many events are told, and that it was serial.
+/// That the receipts of what happened after this many events are reported, and that it was serial.
 fn is_reported(rt: &(impl Abort + AllocGlobal), done: &Done, from: usize) {
     are_reported(rt, &done.history, from, &done.reports);
     let _ = is_serial(rt, done);
@@ -49,7 +49,7 @@ fn is_nothing(rt: &impl Abort, done: &Done, events: usize) {
     assert!(rt; done.history.len() == events);
 }
 
-/// That one worker did its jobs, each but one at the most, or nothing.
+/// That one worker did its jobs, all but at most one, or nothing.
 fn one_works<R: Abort + AllocGlobal + Threads + Wait + Sync>(
     rt: &R,
     turns: Turns,
@@ -66,7 +66,7 @@ fn one_works<R: Abort + AllocGlobal + Threads + Wait + Sync>(
 }
 
 #[test]
-fn one_worker_wants_memory(rt: HostRuntime) -> Result<(), Fail> {
+fn one_worker_is_refused_memory(rt: HostRuntime) -> Result<(), Fail> {
     one_works(&rt, Turns::SideBySide)?;
     one_works(&rt, Turns::Drawn(7))
 }
@@ -136,7 +136,7 @@ fn are_all_usual(rt: &impl Abort, done: &Done) {
     }
 }
 
-/// That two workers did their jobs, each but one at the most; or the first of them did, or nobody.
+/// That two workers did their jobs, all but at most one; or the first of them did, or nobody.
 fn two_work<R: Abort + AllocGlobal + Threads + Wait + Sync>(rt: &R, turns: Turns) {
     let done = done_apart(rt, turns);
     if done.reports.is_empty() {
@@ -148,7 +148,7 @@ fn two_work<R: Abort + AllocGlobal + Threads + Wait + Sync>(rt: &R, turns: Turns
 }
 
 #[test]
-fn two_workers_want_memory(rt: HostRuntime) {
+fn two_workers_are_refused_memory(rt: HostRuntime) {
     two_work(&rt, Turns::SideBySide);
     two_work(&rt, Turns::Drawn(7));
 }

@@ -59,7 +59,7 @@ static EVENTS: [Event; 10] = [
     },
 ];
 
-/// What can't have happened behind so many of these events: a number that isn't the next one, a transaction
+/// What can't have happened after the first of these events, this many: a number that isn't the next one, a transaction
 /// that isn't open, an object, an operation or a call that isn't there, an answer that is another, a
 /// rollback of too many.
 static STRAYS: [(usize, EventKind); 18] = [
@@ -106,7 +106,7 @@ fn at_last<R: Recovery>(rt: &impl Abort, store: &mut Store<R>, event: Event) -> 
 }
 
 #[test]
-fn followed_events_want_memory(rt: HostRuntime) {
+fn followed_events_are_refused_memory(rt: HostRuntime) {
     let mut store = counter(&rt);
     for event in &EVENTS {
         let told = at_last(&rt, &mut store, *event);
@@ -127,7 +127,7 @@ fn makes<R: Recovery>(rt: &impl Abort, store: &mut Store<R>, events: &[Event], p
     assert!(rt; made == Ok(()), "{place}");
 }
 
-/// That this event isn't made behind so many others, and leaves the store as it was.
+/// That this event isn't made after the others, this many, and leaves the store as it was.
 fn strays<R: Recovery>(rt: &impl Abort, store: &mut Store<R>, place: usize, kind: EventKind) {
     let was = glance(store);
     let stray = follow(store, Event { worker: 9, kind });

@@ -34,13 +34,13 @@ static LAST: [Happened; 3] = [
     (2, EventKind::Abort { t: 1 }),
 ];
 
-/// That so many events happened, of which so many are in memory.
+/// That this many events happened, of which this many are in memory.
 fn are_counted<R: Recovery>(rt: &impl Abort, store: &Store<R>, all: u32, in_memory: usize) {
     assert!(rt; store.event_count() == all);
     assert!(rt; store.history().len() == in_memory);
 }
 
-/// Each row forgets so many events, and has so many left of the six.
+/// Each row forgets this many events, and has this many left of the six.
 static FORGETS: [(usize, usize); 4] = [(0, 6), (2, 4), (3, 1), (0, 1)];
 
 /// That a store counts what it forgets, in the middle and at the end.

@@ -13,7 +13,7 @@ use type_table::Kind;
 /// The most transactions that are open at once.
 const MOST: u32 = 1024;
 
-/// Begins so many.
+/// Begins this many.
 pub fn begin_many<R: Recovery>(rt: &impl Abort, store: &mut Store<R>, count: u32) {
     for t in 0..count {
         assert!(rt; outcome(store, 7, Ask::Begin) == Told::Begun(t));

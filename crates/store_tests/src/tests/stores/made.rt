@@ -47,7 +47,7 @@ fn counters(rt: &(impl Abort + AllocGlobal)) -> Vec<Arc<CheckedType>> {
     types
 }
 
-/// So many new objects.
+/// This many new objects.
 fn made(rt: &(impl Abort + AllocGlobal), count: usize) -> Vec<Object> {
     let types = counters(rt);
     let mut objects = Vec::new(rt.alloc());
@@ -67,7 +67,7 @@ fn touch(rt: &(impl Abort + AllocGlobal), object: &mut Object) {
     apply_next(rt, object, &mut log, 0, 0).expect(rt, "no memory");
 }
 
-/// So many objects, of which one may have been touched.
+/// This many objects, of which one may have been touched.
 fn offered(rt: &(impl Abort + AllocGlobal), count: usize, touched: Option<usize>) -> Vec<Object> {
     let mut objects = made(rt, count);
     if let Some(x) = touched {
@@ -77,7 +77,7 @@ fn offered(rt: &(impl Abort + AllocGlobal), count: usize, touched: Option<usize>
     objects
 }
 
-/// That these are so many objects in their places, of which one may have been touched.
+/// That these are this many objects in their places, of which one may have been touched.
 fn are_in_place(rt: &impl Abort, objects: &[Object], count: usize, touched: Option<usize>) {
     assert!(rt; objects.len() == count);
     for (x, object) in objects.iter().enumerate() {

@@ -111,7 +111,7 @@ static BOTH_NEXT: [Row; 3] = [
 ];
 
 #[test]
-fn new_epochs_want_memory(rt: HostRuntime) {
+fn new_epochs_are_refused_memory(rt: HostRuntime) {
     let sorts = [(Kind::Undo, COUNTER), (Kind::Intentions, COUNTER)];
     let mut store = store_of(&rt, objects_of(&rt, &sorts), 8);
     answers(&rt, &mut store, &BOTH);
@@ -134,7 +134,7 @@ const EPOCHS: u32 = 1000;
 /// How many commands each of them has.
 const COMMANDS: u32 = 40;
 
-/// The states of the first two objects are told apart by their calls, those of the others aren't all.
+/// The states of the first two objects are distinguished by their calls, those of the others aren't all.
 static OBJECTS: [Sort; 4] = [
     (Kind::Undo, COUNTER_OF_FOUR),
     (Kind::Intentions, COUNTER_OF_FOUR),
@@ -142,7 +142,7 @@ static OBJECTS: [Sort; 4] = [
     (Kind::Intentions, TWIN),
 ];
 
-/// Some command, where so many transactions began.
+/// Some command, where this many transactions have begun.
 fn any_ask(words: &mut Lcg64Xsh32, begun: u32) -> Ask {
     let t = words.next_word() % begun.max(1);
     let x = words.next_word() % 4;
@@ -180,7 +180,7 @@ fn next_epoch(
     }
 }
 
-/// So many epochs, one after another: their events, and the states that were kept at last.
+/// This many epochs, one after another: their events, and the states that were kept at last.
 fn live_on(
     rt: &(impl Abort + AllocGlobal),
     mut store: Store<Object>,
@@ -232,7 +232,7 @@ fn audits_of(
     audit_epochs(rt.alloc(), &slices, &tables).expect(rt, "no audits")
 }
 
-/// That the first two objects are at the serial states at the end of the last of so many epochs.
+/// That the first two objects are at the serial states at the end of the last epoch.
 fn are_serial(rt: &impl Abort, objects: &[Object], audits: &[Audit]) {
     assert!(rt; audits.len() == EPOCHS as usize);
     let last = audits.last().expect(rt, "no epoch");

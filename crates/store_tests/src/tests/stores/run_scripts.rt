@@ -36,7 +36,7 @@ fn is_ready<R: Recovery>(store: &Store<R>, script: &Script) -> bool
 /// What is left of a run: the store, what the output holds, and what stopped it.
 pub type Left = (Store<Object>, Vec<u8>, Result<(), OutFault>);
 
-/// Runs a script on a new store of these objects, with an output of so many bytes.
+/// Runs a script on a new store of these objects, with an output of this many bytes.
 pub fn run_with_room(
     rt: &(impl Abort + AllocGlobal),
     sorts: &[Sort],
@@ -91,7 +91,7 @@ const ABORT_0: Happened = (0, EventKind::Abort { t: 0 });
 
 const ABORT_1: Happened = (0, EventKind::Abort { t: 1 });
 
-/// What `close` appends where so many commands were asked.
+/// What `close` appends where this many commands were asked.
 static CLOSING: [&[Happened]; 7] = [
     &[],
     &[ABORT_0],
@@ -110,7 +110,7 @@ fn memory_of(rt: &(impl Abort + AllocGlobal)) -> Vec<u8> {
     Vec::with_capacity(rt.alloc(), MOST_BYTES).expect(rt, "no room")
 }
 
-/// How many commands were asked where the output stopped behind so many bytes: the one whose line
+/// How many commands were asked where the output stopped after this many bytes: the one whose line
 /// failed, and those before it.
 fn asked_at(room: usize) -> usize {
     let text = KEEPS_OTHERS_TEXT.as_bytes();
@@ -118,19 +118,19 @@ fn asked_at(room: usize) -> usize {
     ended.min(EVENTS.len())
 }
 
-/// The events of the first so many commands.
+/// The events of the first commands, this many.
 fn asked_events(asked: usize) -> &'static [Happened] {
     EVENTS.get(..asked).unwrap_or(&[])
 }
 
-/// That a history has the events of so many commands, and behind them what `close` appends.
+/// That a history has the events of this many commands, and after them what `close` appends.
 fn is_ended(rt: &impl Abort, history: &[Event], asked: usize) {
     are_events(rt, history.get(..asked).unwrap_or(&[]), asked_events(asked));
     let closing = CLOSING.get(asked).copied().unwrap_or(&[]);
     are_events(rt, history.get(asked..).unwrap_or(&[]), closing);
 }
 
-/// That a store whose script asked so many commands has their events, and `close` aborts what is open.
+/// That a store whose script asked this many commands has their events, and `close` aborts what is open.
 fn is_left(rt: &impl Abort, store: Store<Object>, asked: usize) {
     are_events(rt, store.history(), asked_events(asked));
     let (history, objects) = store.close();
@@ -138,7 +138,7 @@ fn is_left(rt: &impl Abort, store: Store<Object>, asked: usize) {
     are_closed(rt, &objects);
 }
 
-/// That a run stops behind so many bytes, by this fault.
+/// That a run stops after this many bytes, by this fault.
 fn stops_at(
     rt: &(impl Abort + AllocGlobal),
     room: usize,
@@ -168,14 +168,14 @@ fn a_stopped_output_has_a_beginning(rt: HostRuntime) {
     stops_at(&rt, whole, AtEnd::Fails, Ok(()));
 }
 
-/// Adds a line so many times.
+/// Adds a line this many times.
 fn push_lines(rt: &impl Abort, text: &mut Vec<u8>, line: &[u8], count: u32) {
     for _ in 0..count {
         text.extend_from_slice(line).expect(rt, "no room");
     }
 }
 
-/// A script of so many begins.
+/// A script of this many begins.
 fn begins(rt: &(impl Abort + AllocGlobal), count: u32) -> Vec<u8> {
     let mut text = memory_of(rt);
     push_lines(rt, &mut text, b"max 2048\nobject undo 0\n", 1);
@@ -189,7 +189,7 @@ fn line_count(text: &[u8]) -> usize {
     text.iter().filter(|b| **b == b'\n').count()
 }
 
-/// That the history is full and all that was begun was aborted, as the text tells.
+/// That the history is full and all that was begun was aborted, as the text says.
 fn is_full(rt: &impl Abort, store: Store<Object>, held: &[u8]) {
     assert!(rt; store.history().len() == 2048);
     assert!(rt; line_count(held) == 2052);

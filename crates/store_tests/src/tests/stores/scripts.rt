@@ -2,7 +2,7 @@
 
 use super::objects_of;
 use object_trait::{Event, EventKind, Recovery};
-use reference_store::asked::{Ask, Told, answered};
+use reference_store::asked::{Ask, Told, as_told};
 use reference_store::checked_types::Sort;
 use serial_order::Refusal;
 use std::process::Abort;
@@ -32,7 +32,7 @@ fn begin<R: Recovery>(store: &mut Store<R>, w: u8) -> Told {
 /// What comes of a call that is answered so.
 pub fn called(answer: Result<Answer, Refusal>) -> Told {
     match answer {
-        Ok(answer) => answered(answer),
+        Ok(answer) => as_told(answer),
         Err(refusal) => Told::Refused(refusal),
     }
 }

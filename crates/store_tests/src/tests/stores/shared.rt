@@ -82,7 +82,7 @@ impl Renew for Counted {
 /// How many objects there are, the most that a store has.
 const COUNT: u32 = 256;
 
-/// So many new counters, each of which has a type of its own.
+/// This many new counters, each of which has a type of its own.
 fn counters(rt: &(impl Abort + AllocGlobal)) -> Vec<Counted> {
     let mut counters = Vec::new(rt.alloc());
     for _ in 0..COUNT {
@@ -104,7 +104,7 @@ fn store_of_counters(rt: &(impl Abort + AllocGlobal)) -> Store<Counted> {
     }
 }
 
-/// The first transaction makes this call at every second counter, and is told so each time.
+/// The first transaction makes this call at every second counter, and gets this answer each time.
 fn at_every_second(rt: &impl Abort, store: &mut Store<Counted>, call: &'static str, told: Told) {
     assert!(rt; outcome(store, 0, Ask::Begin) == Told::Begun(0));
     for pair in 0..COUNT / 2 {

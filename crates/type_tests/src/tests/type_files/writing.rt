@@ -37,7 +37,7 @@ conflict undo 2 1
 end
 ";
 
-/// The counter's text with two spaces between two words, and a comment behind each line.
+/// The counter's text with two spaces between two words, and a comment after each line.
 static LOOSE: &[u8] = b"type  counter
 # The line  above.
 states  3

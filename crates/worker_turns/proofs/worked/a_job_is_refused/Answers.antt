@@ -7,6 +7,6 @@ use Rattle.worker_turns.proofs.worked.a_job_is_refused.Goals as goal
 pub returns-clause-refused : goal.returns-clause-refused
 returns-clause-refused c = first-refused 1 NoObject (omega arith) (inl refl)
 
--- or for want of memory
+-- or as memory was refused
 pub returns-clause-memory : goal.returns-clause-memory
 returns-clause-memory c = first-refused 1 NoMemory (omega arith) (inr (inr refl))

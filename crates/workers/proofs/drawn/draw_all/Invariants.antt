@@ -4,7 +4,7 @@ use Rattle.workers.proofs.drawn.draw_all.Given as goal
 
 abbrev pub invariant-loop : goal.invariant-loop
 invariant-loop g l = record {
-  let_in : l.floor.let_in ≡ l.counter;
-  as_many : length l.floor.workers ≡ length l.fn.floor.workers;
-  until : l.end ≡ length l.fn.floor.workers;
+  let_in : l.shared.let_in ≡ l.counter;
+  as_many : length l.shared.workers ≡ length l.fn.shared.workers;
+  until : l.end ≡ length l.fn.shared.workers;
 }

@@ -3,7 +3,7 @@ use Rattle.std.proofs.Common.{◌≡◌, ℕ, ◌%◌, ◌<◌, ◌==◌, false,
 use Rattle.std.proofs.lemmas.Bool.{eqb-false}
 use Rattle.std.proofs.lemmas.List.{nil_from_length}
 use Rattle.std.proofs.lemmas.Bool.{eqb-true}
-use Rattle.workers.specs.Doing.{AreGoing, Steps}
+use Rattle.workers.specs.Doing.{AreGoing, TakesTurnIfAny}
 use Rattle.workers.proofs.Doings.{steps-leave, steps-no_more, turn-fewer, going-none, going-after, going-without}
 use Rattle.workers.proofs.drawn.draw_turns.Goals as goal
 
@@ -13,7 +13,7 @@ place-inside xs place word n len is same some size = let more = eqb-false len 0 
 
 pub loop-words-smaller-then-step : goal.loop-words-smaller-then-step
 loop-words-smaller-then-step g c =
-    let no_more = steps-no_more c.loop-words.floor c.index.result.now c.step.result c.step.new.self c.step.ensures in
+    let no_more = steps-no_more c.loop-words.shared c.index.result.now c.step.result c.step.new.self c.step.ensures in
     let one = c.remove.ensures.len in
     omega (arith, no_more, one)
 
@@ -23,12 +23,12 @@ loop-words-preserved-then-step g c =
     let w = c.index.result.now in
     let drawn = c.loop-words.going in
     let low = place-inside drawn.items c.pick-place.result _ _ (vec_len drawn) c.pick-place.ensures.word c.len.ensures (sym c.is_empty.ensures ∙ c.loop-words-test.true) drawn.ok.0 in
-    let leaves = steps-leave c.loop-words.floor w c.step.result c.step.new.self c.step.ensures in
+    let leaves = steps-leave c.loop-words.shared w c.step.result c.step.new.self c.step.ensures in
     record {
       going =
           rw c.remove.ensures.items
-          (going-without c.loop-words.floor w c.step.new.self drawn.items c.pick-place.result
-          (subst (λ b. Steps c.loop-words.floor w b c.step.new.self) c.if-step.true c.step.ensures) low c.index.ensures kept.going);
+          (going-without c.loop-words.shared w c.step.new.self drawn.items c.pick-place.result
+          (subst (λ b. TakesTurnIfAny c.loop-words.shared w b c.step.new.self) c.if-step.true c.step.ensures) low c.index.ensures kept.going);
       few = let one = c.remove.ensures.len in omega (arith, one, kept.few);
       let_in = leaves.let_in ∙ kept.let_in;
     }
@@ -37,7 +37,7 @@ pub loop-words-smaller : goal.loop-words-smaller
 loop-words-smaller g c =
     let stepped = c.step.ensures in
     let turn = stepped.going c.if-step.false in
-    let fewer = turn-fewer c.loop-words.floor c.index.result.now c.step.new.self turn (stepped.fewer turn) in
+    let fewer = turn-fewer c.loop-words.shared c.index.result.now c.step.new.self turn (stepped.fewer turn) in
     omega (arith, fewer)
 
 pub loop-words-preserved : goal.loop-words-preserved
@@ -46,11 +46,11 @@ loop-words-preserved g c =
     let w = c.index.result.now in
     let drawn = c.loop-words.going in
     let low = place-inside drawn.items c.pick-place.result _ _ (vec_len drawn) c.pick-place.ensures.word c.len.ensures (sym c.is_empty.ensures ∙ c.loop-words-test.true) drawn.ok.0 in
-    let leaves = steps-leave c.loop-words.floor w c.step.result c.step.new.self c.step.ensures in
+    let leaves = steps-leave c.loop-words.shared w c.step.result c.step.new.self c.step.ensures in
     record {
       going =
-          going-after c.loop-words.floor w c.step.new.self drawn.items
-          (subst (λ b. Steps c.loop-words.floor w b c.step.new.self) c.if-step.false c.step.ensures) (c.pick-place.result, low, sym c.index.ensures) kept.going;
+          going-after c.loop-words.shared w c.step.new.self drawn.items
+          (subst (λ b. TakesTurnIfAny c.loop-words.shared w b c.step.new.self) c.if-step.false c.step.ensures) (c.pick-place.result, low, sym c.index.ensures) kept.going;
       few = kept.few;
       let_in = leaves.let_in ∙ kept.let_in;
     }
@@ -60,4 +60,4 @@ returns-clause-ended g c =
     let kept = c.loop-words.invariant in
     let drawn = c.loop-words.going in
     let none : length drawn.items ≡ 0 = let empty = eqb-true _ 0 (sym c.is_empty.ensures ∙ c.loop-words-test.false) in omega (arith, empty, drawn.ok.0) in
-    going-none c.loop-words.floor (subst (AreGoing c.loop-words.floor) (nil_from_length drawn.items none) kept.going)
+    going-none c.loop-words.shared (subst (AreGoing c.loop-words.shared) (nil_from_length drawn.items none) kept.going)

@@ -5,10 +5,10 @@ use Rattle.workers.proofs.drawn.draw_turns.Given as goal
 
 abbrev pub invariant-loop-words : goal.invariant-loop-words
 invariant-loop-words g l = record {
-  going : AreGoing l.floor l.going.items;
+  going : AreGoing l.shared l.going.items;
   few : vec_len l.going ≤ 16;
-  let_in : l.floor.let_in ≡ l.fn.floor.let_in;
+  let_in : l.shared.let_in ≡ l.fn.shared.let_in;
 }
 
 abbrev pub decreases-loop-words : goal.decreases-loop-words
-decreases-loop-words g l = left_in l.floor.workers + vec_len l.going
+decreases-loop-words g l = left_in l.shared.workers + vec_len l.going

@@ -7,10 +7,10 @@ use Rattle.workers.proofs.run.reported.Goals.{then-started-eq0, else-started-eq0
 
 pub returns-clause-works : goal.returns-clause-works
 returns-clause-works g c =
-    let o = g.S.Opened.opening in
+    let o = g.S.HasStart.start in
     let new = c.into_reports-store.result.0 in
     let reports = c.into_reports-store.result.1.items in
-    let n = c.args.floor.let_in in
+    let n = c.args.shared.let_in in
     let worked : HasWorked o n new reports = c.into_reports-store.ensures in
     let started = c.let_in-started.ensures in (
       c.requires.lists,
@@ -32,7 +32,7 @@ returns-clause-works g c =
 
 pub returns-clause-nothing : goal.returns-clause-nothing
 returns-clause-nothing g c = λ none.
-    let o = g.S.Opened.opening in
+    let o = g.S.HasStart.start in
     let new = c.into_reports-store.result.0 in
     let reports = c.into_reports-store.result.1.items in
     elim c.if-started-eq0.branch [

@@ -4,14 +4,14 @@ use Rattle.table_checker.specs.Checked.{Checked}
 use Rattle.object_trait.specs.declared.log_entry.LogEntry.{LogEntry}
 use Rattle.escrow_manager.specs.Numeric.{greatest, IsInEscrow}
 use Rattle.escrow_manager.specs.Totals.{totals_of}
-use Rattle.escrow_manager.specs.Kept.{IsKept}
+use Rattle.escrow_manager.specs.Kept.{IsKeptInEscrow}
 use Rattle.escrow_manager.specs.declared.totals.Totals.{Totals}
 use Rattle.escrow_manager.proofs.Keeping.{fresh-kept}
 use Rattle.escrow_manager.proofs.manager.EscrowManager.fresh.Goals as goal
 
 -- kept, under other names
 renamed : (checked : Checked) (a b : ℕ) (log V : List LogEntry) (marks W : List OpenMark) (x y : Totals) → a ≡ b → log ≡ V → marks ≡ W → x ≡ y →
-    IsKept (record { checked = checked; base = b; log = V }) W y → IsKept (record { checked = checked; base = a; log = log }) marks x
+    IsKeptInEscrow (record { checked = checked; base = b; log = V }) W y → IsKeptInEscrow (record { checked = checked; base = a; log = log }) marks x
 renamed checked a b log V marks W x y p q r s h = rw (p, q, r, s) h
 
 pub invariant_of-result : goal.invariant_of-result

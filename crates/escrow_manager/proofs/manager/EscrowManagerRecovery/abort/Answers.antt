@@ -7,7 +7,7 @@ use Rattle.object_trait.specs.Steps.{Keeps}
 use Rattle.escrow_manager.specs.Numeric.{bounds_in, greatest}
 use Rattle.escrow_manager.specs.Marks.{without_mark}
 use Rattle.escrow_manager.specs.Totals.{totals_of}
-use Rattle.escrow_manager.specs.Kept.{IsKept}
+use Rattle.escrow_manager.specs.Kept.{IsKeptInEscrow}
 use Rattle.escrow_manager.proofs.Keeping.{meant, all-open, top-small, sums-of}
 use Rattle.escrow_manager.proofs.Changing.{totals_at, with_log, left-keeps, dropped-kept, kept-told}
 use Rattle.escrow_manager.proofs.manager.EscrowManagerRecovery.abort.Goals as goal
@@ -17,7 +17,7 @@ left : (c : goal.After-greatest) → c.take_out.new.log.items ≡ keep_first (is
 left c = c.take_out.ensures ∙ sym (c.keeps_none.ensures (is_open_of c.args.t) c.self.inside.log.items)
 
 kept : (c : goal.After-greatest) →
-    IsKept (with_log (meant c.self.inside) c.take_out.new.log.items) (without_mark c.args.t c.self.inside.marks.items) (totals_at (meant c.self.inside) (without_mark c.args.t c.self.inside.marks.items))
+    IsKeptInEscrow (with_log (meant c.self.inside) c.take_out.new.log.items) (without_mark c.args.t c.self.inside.marks.items) (totals_at (meant c.self.inside) (without_mark c.args.t c.self.inside.marks.items))
 kept c = dropped-kept c.sound_after_strike.ensures c.keeps_first.ensures c.keeps_others.ensures c.self.invariant c.args.t 0 c.take_out.new.log.items refl (left c)
 
 pub take_out-requires : goal.take_out-requires

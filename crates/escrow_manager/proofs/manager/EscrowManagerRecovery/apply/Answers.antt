@@ -11,7 +11,7 @@ use Rattle.object_trait.specs.declared.log_entry.LogEntry.{LogEntry}
 use Rattle.escrow_manager.specs.Numeric.{bounds_in, greatest}
 use Rattle.escrow_manager.specs.Marks.{AreOrdered, mark_in, with_mark, IsSmall}
 use Rattle.escrow_manager.specs.Totals.{totals_of}
-use Rattle.escrow_manager.specs.Kept.{IsKept}
+use Rattle.escrow_manager.specs.Kept.{IsKeptInEscrow}
 use Rattle.escrow_manager.specs.declared.totals.Totals.{Totals}
 use Rattle.escrow_manager.proofs.Keeping.{meant, mark_at, op-found, top-small, small-of, sums-of}
 use Rattle.escrow_manager.proofs.Blocking.{mark_with}
@@ -112,7 +112,7 @@ made c = c.put_mark.ensures ∙ ap (with_mark (record { by = c.args.t; mark = c.
 now_is : (c : goal.After-after-arg-2-1) → c.put_mark.new.marks.items ≡ now c
 now_is c = made c ∙ ap (λ (x : Mark). with_mark (record { by = c.args.t; mark = x }) c.self.inside.marks.items) (same_mark c)
 
-kept : (c : goal.After-after-arg-2-1) → IsKept (applied (meant c.self.inside) c.args.t c.args.k) (now c) (totals_at (meant c.self.inside) (now c))
+kept : (c : goal.After-after-arg-2-1) → IsKeptInEscrow (applied (meant c.self.inside) c.args.t c.args.k) (now c) (totals_at (meant c.self.inside) (now c))
 kept c = applied-kept c.sound_after_apply.ensures c.self.invariant c.args.t c.args.k (op c) (found c) (may c)
 
 pub after-self-inside-requires-clause-before : goal.after-self-inside-requires-clause-before
@@ -150,7 +150,7 @@ invariant_of-self-2 c =
     let inside = c.self.inside in
     let entry : LogEntry = record { by = c.args.t; op = c.args.k; done = false } in
     let log : c.push_reserved.new.self.items ≡ inside.log.items ++ entry ∷ [] = c.push_reserved.ensures.items ∙ ap (λ V. V ++ entry ∷ []) c.in_ok-reserve.ensures.items in
-    subst (λ L. IsKept (record { checked = inside.checked.value; base = inside.base; log = L }) c.put_mark.new.marks.items c.after-self-inside.result) (sym log)
+    subst (λ L. IsKeptInEscrow (record { checked = inside.checked.value; base = inside.base; log = L }) c.put_mark.new.marks.items c.after-self-inside.result) (sym log)
     (kept-told (now c.before.before) (kept c.before.before) (now_is c.before.before) (c.after-self-inside.ensures ∙ ap (λ top. totals_of top c.put_mark.new.marks.items) (top_is c.before.before)))
 
 pub returns-clause-applied : goal.returns-clause-applied

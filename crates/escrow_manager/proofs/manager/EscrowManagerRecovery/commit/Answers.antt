@@ -6,7 +6,7 @@ use Rattle.object_trait.specs.Steps.{IsCommit}
 use Rattle.escrow_manager.specs.Numeric.{bounds_in, greatest}
 use Rattle.escrow_manager.specs.Marks.{without_mark}
 use Rattle.escrow_manager.specs.Totals.{totals_of}
-use Rattle.escrow_manager.specs.Kept.{IsKept}
+use Rattle.escrow_manager.specs.Kept.{IsKeptInEscrow}
 use Rattle.escrow_manager.proofs.Keeping.{meant, all-open, top-small, sums-of}
 use Rattle.escrow_manager.proofs.Changing.{totals_at, committed, commits-told, committed-kept, kept-told}
 use Rattle.escrow_manager.proofs.manager.EscrowManagerRecovery.commit.Goals as goal
@@ -16,7 +16,7 @@ seen : (c : goal.After-greatest) → view_of (meant c.self.inside) c.args.t ≡ 
 seen c = ap (λ (m : Meaning). view_of m c.args.t) c.self.view_is ∙ c.seen-self-inside.ensures
 
 kept : (c : goal.After-greatest) →
-    IsKept (committed (meant c.self.inside) c.seen-self-inside.result c.take_out.new.log.items) (without_mark c.args.t c.self.inside.marks.items)
+    IsKeptInEscrow (committed (meant c.self.inside) c.seen-self-inside.result c.take_out.new.log.items) (without_mark c.args.t c.self.inside.marks.items)
     (totals_at (meant c.self.inside) (without_mark c.args.t c.self.inside.marks.items))
 kept c =
     committed-kept c.sound_after_commit.ensures c.marks_are_exact.ensures c.marks_fit.ensures c.firm_is_legal.ensures c.self.invariant c.args.t c.seen-self-inside.result c.take_out.new.log.items (seen c) c.take_out.ensures

@@ -1,19 +1,18 @@
-use Rattle.std.proofs.Common.{◌≡◌, ◌-◌, ◌<◌, ◌≤◌, List, All, Some, false, length, refl, sym, ap, subst, ◌∙◌, arith}
+use Rattle.std.proofs.Common.{◌≡◌, ◌-◌, ◌<◌, ◌≤◌, List, All, Some, false, length, sym, ap, subst, ◌∙◌, arith}
 use Rattle.type_table.specs.Run.{IsLegal}
 use Rattle.escrow_laws.specs.Marks.{mark_of, fallen_of, risen_of}
-use Rattle.escrow_laws.specs.declared.mark.Mark.{Mark}
 use Rattle.escrow_laws.specs.declared.mark.OpenMark.{OpenMark}
 use Rattle.table_checker.specs.Checked.{Checked}
 use Rattle.object_trait.specs.Strike.{keep_first}
 use Rattle.object_trait.specs.Meaning.{Meaning, is_open_of, open_of, own_of}
 use Rattle.object_trait.specs.Steps.{Keeps}
 use Rattle.object_trait.specs.declared.log_entry.LogEntry.{LogEntry}
+use Rattle.object_trait.proofs.Leaving.{each-left}
 use Rattle.escrow_manager.specs.Numeric.{bounds_in, greatest}
 use Rattle.escrow_manager.specs.Marks.{with_mark}
 use Rattle.escrow_manager.specs.Totals.{totals_of}
-use Rattle.escrow_manager.specs.Kept.{IsKept}
+use Rattle.escrow_manager.specs.Kept.{IsKeptInEscrow}
 use Rattle.escrow_manager.proofs.Keeping.{meant, all-open, inside-of, top-small, sums-of}
-use Rattle.escrow_manager.proofs.Leaving.{each-left}
 use Rattle.escrow_manager.proofs.Changing.{totals_at, with_log, left-keeps, struck-legal, rewound-kept, listed-some, kept-told}
 use Rattle.escrow_manager.proofs.manager.EscrowManagerRecovery.strike.Goals as goal
 
@@ -39,20 +38,19 @@ returns-then-left-eq0 c =
 pub keep_first-requires : goal.keep_first-requires
 keep_first-requires c = all-open c.self.invariant
 
--- so many of t's entries
+-- these of t's entries are left
 left : (c : goal.After-deref) → c.keep_first.new.log.items ≡ keep_first (is_open_of c.args.t) (length (open_of c.args.t c.self.inside.log.items) - c.args.m) c.self.inside.log.items
 left c = c.keep_first.ensures ∙ ap (λ n. keep_first (is_open_of c.args.t) (n - c.args.m) c.self.inside.log.items) c.count_of.ensures
 
 pub mark_of-mark-requires-clause-opens : goal.mark_of-mark-requires-clause-opens
 mark_of-mark-requires-clause-opens c =
-    subst (λ V. All (λ (e : LogEntry). e.done ≡ false) V) (sym (left c)) (each-left (λ (e : LogEntry). e.done ≡ false) c.args.t (length (open_of c.args.t c.self.inside.log.items) - c.args.m) c.self.inside.log.items (all-open c.self.invariant))
+    each-left (λ (e : LogEntry). e.done ≡ false) c.args.t (length (open_of c.args.t c.self.inside.log.items) - c.args.m) c.self.inside.log.items c.keep_first.new.log.items (left c) (all-open c.self.invariant)
 
 pub mark_of-mark-requires-clause-operations : goal.mark_of-mark-requires-clause-operations
 mark_of-mark-requires-clause-operations c =
     let checked : Checked = c.self.inside.checked.value in
     subst (λ (x : Checked). All (λ (e : LogEntry). e.op < length x.file.table.ops) c.keep_first.new.log.items) (sym c.deref.ensures)
-    (subst (λ V. All (λ (e : LogEntry). e.op < length checked.file.table.ops) V) (sym (left c))
-    (each-left (λ (e : LogEntry). e.op < length checked.file.table.ops) c.args.t (length (open_of c.args.t c.self.inside.log.items) - c.args.m) c.self.inside.log.items c.self.invariant.ops_fit))
+    (each-left (λ (e : LogEntry). e.op < length checked.file.table.ops) c.args.t (length (open_of c.args.t c.self.inside.log.items) - c.args.m) c.self.inside.log.items c.keep_first.new.log.items (left c) c.self.invariant.ops_fit)
 
 pub mark_of-mark-requires-clause-base : goal.mark_of-mark-requires-clause-base
 mark_of-mark-requires-clause-base c = subst (λ (x : Checked). c.self.inside.base ≤ greatest x) (sym c.deref.ensures) (inside-of c.self.invariant)
@@ -72,7 +70,7 @@ put_mark-requires-clause-room c =
 abbrev now : goal.After-greatest → List OpenMark
 now c = with_mark (record { by = c.args.t; mark = c.mark_of-mark.result }) c.self.inside.marks.items
 
-kept : (c : goal.After-greatest) → IsKept (with_log (meant c.self.inside) c.keep_first.new.log.items) (now c) (totals_at (meant c.self.inside) (now c))
+kept : (c : goal.After-greatest) → IsKeptInEscrow (with_log (meant c.self.inside) c.keep_first.new.log.items) (now c) (totals_at (meant c.self.inside) (now c))
 kept c =
     let inside = c.self.inside in
     let n = length (open_of c.args.t inside.log.items) - c.args.m in

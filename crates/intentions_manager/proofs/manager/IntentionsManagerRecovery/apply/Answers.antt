@@ -7,7 +7,7 @@ use Rattle.object_trait.specs.Steps.{MayApply, applied}
 use Rattle.object_trait.specs.declared.log_entry.LogEntry.{LogEntry}
 use Rattle.intentions_manager.specs.Views.{seen_by, with_view}
 use Rattle.intentions_manager.specs.Walk.{stepped}
-use Rattle.intentions_manager.specs.Kept.{HasBits, IsKept}
+use Rattle.intentions_manager.specs.Kept.{HasBits, IsKeptDeferred}
 use Rattle.intentions_manager.specs.declared.views.View.{View}
 use Rattle.intentions_manager.proofs.Bits.{bits-push}
 use Rattle.intentions_manager.proofs.Keeping.{meant, seen-count, next_view, applied-kept}
@@ -42,7 +42,7 @@ invariant_of-self-2 c =
     let count : c.seen_at-seen.result.count + 1 ≡ (seen_by t inside.base views).count + 1 = ap (λ (v : View). v.count + 1) seen in
     let put : ◌≡◌ {A = View} (record { by = t; state = c.stepped-state.result; count = c.seen_at-seen.result.count + 1 }) (next_view (meant inside) views t k) = cc in
     let made : c.put_view.new.views.items ≡ with_view (next_view (meant inside) views t k) views = c.put_view.ensures ∙ ap (λ w. with_view w c.reserve-2.new.self.items) put ∙ ap (with_view (next_view (meant inside) views t k)) c.in_ok-reserve-2.ensures.items in (
-      subst (λ L. IsKept (record { checked = inside.checked.value; base = inside.base; log = L }) c.put_view.new.views.items) (sym log)
+      subst (λ L. IsKeptDeferred (record { checked = inside.checked.value; base = inside.base; log = L }) c.put_view.new.views.items) (sym log)
           (applied-kept c.runs_along.ensures c.equi_extends.ensures c.steps_within.ensures c.sound_after_apply.ensures c.put_view.new.views.items t k c.self.invariant.0 may made),
       subst (HasBits c.with_bit-self-inside.result) (sym log)
           (bits-push inside.word c.with_bit-self-inside.result inside.log.items entry c.with_bit-self-inside.ensures.added c.with_bit-self-inside.ensures.kept c.self.invariant.1),

@@ -1,15 +1,15 @@
-use Rattle.std.proofs.Common.{◌≡◌, ◌-◌, ◌<◌, ◌≤◌, length, drop, All, sym, ap, subst, ◌∙◌, arith}
+use Rattle.std.proofs.Common.{◌≡◌, ◌-◌, ◌<◌, ◌≤◌, false, length, drop, All, sym, ap, subst, ◌∙◌, arith}
 use Rattle.type_table.specs.Table.{Table}
 use Rattle.table_checker.specs.Checked.{Checked}
 use Rattle.object_trait.specs.Meaning.{Meaning, open_of}
 use Rattle.object_trait.specs.Steps.{Keeps}
 use Rattle.object_trait.specs.declared.log_entry.LogEntry.{LogEntry}
+use Rattle.object_trait.proofs.Leaving.{own-count, each-left}
 use Rattle.intentions_manager.specs.Views.{seen_by, with_view}
 use Rattle.intentions_manager.specs.Walk.{walked}
 use Rattle.intentions_manager.specs.declared.views.View.{View}
 use Rattle.intentions_manager.proofs.Seeing.{count-any}
 use Rattle.intentions_manager.proofs.Keeping.{meant, all-open, seen-count}
-use Rattle.intentions_manager.proofs.Leaving.{own-count, ops-left, opens-left}
 use Rattle.intentions_manager.proofs.Rewinding.{StrikeLaws, RewindLaws, with_log, struck-keeps, dropped-kept, rewound-kept}
 use Rattle.intentions_manager.proofs.manager.IntentionsManagerRecovery.strike.Goals as goal
 
@@ -50,7 +50,7 @@ pub place_of_last-from-requires-clause-open : goal.place_of_last-from-requires-c
 place_of_last-from-requires-clause-open c =
     let inside = c.self.inside in
     let t = c.args.t in
-    opens-left t (length (open_of t inside.log.items) - c.args.m) inside.log.items c.take_out.new.log.items c.take_out.ensures (all-open c.self.invariant.0)
+    each-left (λ (e : LogEntry). e.done ≡ false) t (length (open_of t inside.log.items) - c.args.m) inside.log.items c.take_out.new.log.items c.take_out.ensures (all-open c.self.invariant.0)
 
 pub walked-state-requires-clause-operations : goal.walked-state-requires-clause-operations
 walked-state-requires-clause-operations c =
@@ -59,7 +59,7 @@ walked-state-requires-clause-operations c =
     let T : Table = inside.checked.value.file.table in
     let table : c.table.result.now ≡ T = c.table.ensures ∙ ap (λ (x : Checked). x.file.table) c.deref.ensures in
     subst (λ (x : Table). All (λ (e : LogEntry). e.op < length x.ops) c.take_out.new.log.items) (sym table)
-    (ops-left t (length (open_of t inside.log.items) - c.args.m) (length T.ops) inside.log.items c.take_out.new.log.items c.take_out.ensures c.self.invariant.0.ops_fit)
+    (each-left (λ (e : LogEntry). e.op < length T.ops) t (length (open_of t inside.log.items) - c.args.m) inside.log.items c.take_out.new.log.items c.take_out.ensures c.self.invariant.0.ops_fit)
 
 pub put_view-requires-clause-room : goal.put_view-requires-clause-room
 put_view-requires-clause-room c =

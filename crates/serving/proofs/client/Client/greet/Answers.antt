@@ -1,6 +1,7 @@
 use Rattle.serving.specs.Told.{greeting}
-use Rattle.serving.proofs.Telling.{at-error, part-of-whole}
+use Rattle.type_table.proofs.Results.{on_err}
+use Rattle.serving.proofs.Telling.{part-of-whole}
 use Rattle.serving.proofs.client.Client.greet.Goals as goal
 
 pub returns-clause-part : goal.returns-clause-part
-returns-clause-part g c = at-error c.flush.result (part-of-whole _ _ _ (greeting c.args.life) c.in_ok-put_greeting.ensures.whole c.flush.ensures.bytes)
+returns-clause-part g c = on_err c.flush.result (part-of-whole _ _ _ (greeting c.args.life) c.in_ok-put_greeting.ensures.whole c.flush.ensures.bytes)

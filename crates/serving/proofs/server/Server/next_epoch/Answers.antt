@@ -4,7 +4,7 @@ use Rattle.serving.specs.declared.server.Server.{Server}
 use Rattle.serving.specs.Does.{is_full}
 use Rattle.serving.proofs.Acknowledging.{tells-as, tells-epoch}
 use Rattle.serving.proofs.Lasting.{left-nowhere, writes-nowhere}
-use Rattle.serving.proofs.Telling.{of-ok}
+use Rattle.serving.proofs.Results.{of-ok}
 use Rattle.serving.proofs.server.Server.next_epoch.Goals as goal
 
 pub returns-in-Ok-clause-serves : goal.returns-in-Ok-clause-serves

@@ -3,7 +3,7 @@ use Rattle.outputs.specs.Gathered.{taken_by}
 use Rattle.serving.proofs.Acknowledging.{stops-safely, tells-none}
 use Rattle.serving.proofs.Groups.{stops-before}
 use Rattle.serving.proofs.Lasting.{left-nowhere, left-then, writes-nowhere, writes-on}
-use Rattle.serving.proofs.Telling.{of-err, of-ok}
+use Rattle.serving.proofs.Results.{of-err, of-ok}
 use Rattle.serving.proofs.server.Server.run.Goals as goal
 
 pub loop-turn-init : goal.loop-turn-init

@@ -1,4 +1,4 @@
--- What was asked so far is told, and the epochs so far are kept.
+-- What was asked so far is answered, and the epochs so far are kept.
 use Rattle.std.proofs.Common.{◌≡◌, ◌<◌, length, None}
 use Rattle.outputs.specs.Gathered.{taken_by, under}
 use Rattle.serving.specs.Acknowledged.{TellsSafely}

@@ -5,8 +5,8 @@ use Rattle.serving.specs.declared.answer_line.Answered.{Answered}
 use Rattle.serving.specs.declared.server.Server.{Server}
 use Rattle.serving.specs.Told.{AppendsPart, answers_text}
 use Rattle.serving.proofs.Following.{leaves-then}
-use Rattle.serving.proofs.Serving.{goes-then}
-use Rattle.serving.proofs.Telling.{at-error}
+use Rattle.serving.proofs.Serving.{stays-then}
+use Rattle.type_table.proofs.Results.{on_err}
 use Rattle.serving.proofs.Acknowledging.{stops-safely, stops-safely-telling, tells-group}
 use Rattle.serving.proofs.Lasting.{left-more, left-nowhere}
 use Rattle.serving.proofs.server.Server.serve_group.Goals as goal
@@ -18,32 +18,32 @@ returns-in-Err-clause-stops g c began given taken so_far =
 
 pub returns-in_err-take_bytes-clause-stops : goal.returns-in_err-take_bytes-clause-stops
 returns-in_err-take_bytes-clause-stops g c =
-    at-error c.from_residual.result (λ began given taken so_far. stops-safely c.take_bytes.new.self.session.store None None c.in_err-take_bytes.ensures.clean
+    on_err c.from_residual.result (λ began given taken so_far. stops-safely c.take_bytes.new.self.session.store None None c.in_err-take_bytes.ensures.clean
     (left-more g.S.Store c.args.self.now.session.store c.take_bytes.new.self.session.store None c.in_err-take_bytes.ensures.crash) so_far)
 
 pub returns-in_err-settle_commits-clause-stops : goal.returns-in_err-settle_commits-clause-stops
 returns-in_err-settle_commits-clause-stops g c =
-    let goes = c.in_ok-take_bytes.ensures.goes_on in
-    at-error c.from_residual-in_err-settle_commits.result (λ began given taken so_far.
-    stops-safely c.settle_commits.new.self.session.store None None (λ clean. goes.clean (c.in_err-settle_commits.ensures.clean clean))
+    let stays = c.in_ok-take_bytes.ensures.stays_in_epoch in
+    on_err c.from_residual-in_err-settle_commits.result (λ began given taken so_far.
+    stops-safely c.settle_commits.new.self.session.store None None (λ clean. stays.clean (c.in_err-settle_commits.ensures.clean clean))
     (left-more g.S.Store c.args.self.now.session.store c.settle_commits.new.self.session.store None
-    (leaves-then g.S.Store c.args.self.now.session.store c.take_bytes.new.self.session.store c.settle_commits.new.self.session.store goes.clean goes.follows goes.crash c.in_err-settle_commits.ensures.crash)) so_far)
+    (leaves-then g.S.Store c.args.self.now.session.store c.take_bytes.new.self.session.store c.settle_commits.new.self.session.store stays.clean stays.follows stays.crash c.in_err-settle_commits.ensures.crash)) so_far)
 
 pub returns-in_err-settle_commits-clause-crash : goal.returns-in_err-settle_commits-clause-crash
 returns-in_err-settle_commits-clause-crash g c =
-    let goes = c.in_ok-take_bytes.ensures.goes_on in
-    leaves-then g.S.Store c.args.self.now.session.store c.take_bytes.new.self.session.store c.settle_commits.new.self.session.store goes.clean goes.follows goes.crash c.in_err-settle_commits.ensures.crash
+    let stays = c.in_ok-take_bytes.ensures.stays_in_epoch in
+    leaves-then g.S.Store c.args.self.now.session.store c.take_bytes.new.self.session.store c.settle_commits.new.self.session.store stays.clean stays.follows stays.crash c.in_err-settle_commits.ensures.crash
 
 pub returns-in_err-tell-clause-stops : goal.returns-in_err-tell-clause-stops
 returns-in_err-tell-clause-stops g c =
     let said : c.deref.result.now ≡ c.take_bytes.new.self.answers.items = c.deref.ensures.value ∙ ap (λ (s : Server g.row.S.Denot). s.answers.items) c.in_ok-settle_commits.ensures.others in
-    at-error c.from_residual-in_err-tell.result (λ began given taken so_far.
+    on_err c.from_residual-in_err-tell.result (λ began given taken so_far.
     stops-safely-telling c.take_bytes.new.self c.settle_commits.new.self.session (taken_by g.W.Out.taken c.tell.new.self.out) _ so_far (c.in_ok-take_bytes.ensures.serves began)
     (subst (λ (xs : List Answered). AppendsPart (taken_by g.W.Out.taken c.args.client.now.out) (taken_by g.W.Out.taken c.tell.new.self.out) (answers_text xs)) said c.in_err-tell.ensures.part)
-    c.in_ok-take_bytes.ensures.goes_on c.in_ok-settle_commits.ensures.goes_on c.in_ok-settle_commits.ensures.shows c.in_ok-settle_commits.ensures.same)
+    c.in_ok-take_bytes.ensures.stays_in_epoch c.in_ok-settle_commits.ensures.stays_in_epoch c.in_ok-settle_commits.ensures.shows c.in_ok-settle_commits.ensures.same)
 
 pub returns-in_err-tell-clause-crash : goal.returns-in_err-tell-clause-crash
-returns-in_err-tell-clause-crash g c = (goes-then c.in_ok-take_bytes.ensures.goes_on c.in_ok-settle_commits.ensures.goes_on).crash
+returns-in_err-tell-clause-crash g c = (stays-then c.in_ok-take_bytes.ensures.stays_in_epoch c.in_ok-settle_commits.ensures.stays_in_epoch).crash
 
 pub returns-then-count-gt0-clause-serves : goal.returns-then-count-gt0-clause-serves
 returns-then-count-gt0-clause-serves g c began given taken so_far =
@@ -52,7 +52,7 @@ returns-then-count-gt0-clause-serves g c began given taken so_far =
     tells-group c.take_bytes.new.self (record { session = c.settle_commits.new.self.session; line = c.settle_commits.new.self.line; answers = c.clear.new.self; end = c.settle_commits.new.self.end; full_since = c.settle_commits.new.self.full_since })
     (g.R.Read.remaining c.read.new.self) (taken_by g.W.Out.taken c.tell.new.self.out) _ c.requires.asked so_far (c.in_ok-take_bytes.ensures.serves began) c.in-Ok.ensures.bytes.0
     (subst (λ (xs : List Answered). Appends (taken_by g.W.Out.taken c.args.client.now.out) (taken_by g.W.Out.taken c.tell.new.self.out) (answers_text xs)) said c.in_ok-tell.ensures.told)
-    c.in_ok-take_bytes.ensures.goes_on c.in_ok-settle_commits.ensures.goes_on c.in_ok-settle_commits.ensures.lets_go c.in_ok-settle_commits.ensures.shows c.in_ok-settle_commits.ensures.same
+    c.in_ok-take_bytes.ensures.stays_in_epoch c.in_ok-settle_commits.ensures.stays_in_epoch c.in_ok-settle_commits.ensures.lets_go c.in_ok-settle_commits.ensures.shows c.in_ok-settle_commits.ensures.same
     (ap (λ (s : Server g.row.S.Denot). s.line) same) (ap (λ (s : Server g.row.S.Denot). s.end) same) c.clear.ensures.items
 
 pub returns-else-count-gt0-clause-serves : goal.returns-else-count-gt0-clause-serves
@@ -62,5 +62,5 @@ returns-else-count-gt0-clause-serves g c began given taken so_far =
     tells-group c.take_bytes.new.self (record { session = c.settle_commits.new.self.session; line = c.settle_commits.new.self.line; answers = c.clear.new.self; end = c.settle_commits.new.self.end; full_since = c.settle_commits.new.self.full_since })
     (g.R.Read.remaining c.read.new.self) (taken_by g.W.Out.taken c.tell.new.self.out) _ c.requires.asked so_far (c.in_ok-take_bytes.ensures.serves began) c.in-Ok.ensures.bytes.0
     (subst (λ (xs : List Answered). Appends (taken_by g.W.Out.taken c.args.client.now.out) (taken_by g.W.Out.taken c.tell.new.self.out) (answers_text xs)) said c.in_ok-tell.ensures.told)
-    c.in_ok-take_bytes.ensures.goes_on c.in_ok-settle_commits.ensures.goes_on c.in_ok-settle_commits.ensures.lets_go c.in_ok-settle_commits.ensures.shows c.in_ok-settle_commits.ensures.same
+    c.in_ok-take_bytes.ensures.stays_in_epoch c.in_ok-settle_commits.ensures.stays_in_epoch c.in_ok-settle_commits.ensures.lets_go c.in_ok-settle_commits.ensures.shows c.in_ok-settle_commits.ensures.same
     (ap (λ (s : Server g.row.S.Denot). s.line) same) (ap (λ (s : Server g.row.S.Denot). s.end) same) c.clear.ensures.items

@@ -3,7 +3,7 @@ use Rattle.std.proofs.lemmas.List.{append-nil}
 use Rattle.std.specs.Prelude.{is_some}
 use Rattle.serving.specs.Serving.{HasServed}
 use Rattle.serving.proofs.Following.{leaves-then}
-use Rattle.serving.proofs.Serving.{byte-goes, bytes-more, goes-nowhere, goes-then}
+use Rattle.serving.proofs.Serving.{byte-stays, bytes-more, stays-put, stays-then}
 use Rattle.serving.proofs.server.Server.take_bytes.Goals as goal
 
 none-of : {A : Type 0} (x : Option A) → is_some x ≡ false → x ≡ None
@@ -12,18 +12,18 @@ none-of (Some x) e = absurd cc
 
 pub loop-b-init : goal.loop-b-init
 loop-b-init g c = record {
-  goes = goes-nowhere c.args.self.now.session c.requires.sound;
+  stays = stays-put c.args.self.now.session c.requires.sound;
   none = c.requires.asked;
   served = λ began told seen served. subst (λ bs. HasServed g.S.Store began told bs c.args.self.now) (sym (append-nil seen)) served;
 }
 
 pub returns-in_err-take_byte-clause-clean : goal.returns-in_err-take_byte-clause-clean
-returns-in_err-take_byte-clause-clean g c clean = c.loop-b.invariant.goes.clean (c.in_err-take_byte.ensures.clean clean)
+returns-in_err-take_byte-clause-clean g c clean = c.loop-b.invariant.stays.clean (c.in_err-take_byte.ensures.clean clean)
 
 pub returns-in_err-take_byte-clause-crash : goal.returns-in_err-take_byte-clause-crash
 returns-in_err-take_byte-clause-crash g c =
-    let goes = c.loop-b.invariant.goes in
-    leaves-then g.S.Store c.args.self.now.session.store c.loop-b.self.session.store c.take_byte.new.self.session.store goes.clean goes.follows goes.crash c.in_err-take_byte.ensures.crash
+    let stays = c.loop-b.invariant.stays in
+    leaves-then g.S.Store c.args.self.now.session.store c.loop-b.self.session.store c.take_byte.new.self.session.store stays.clean stays.follows stays.crash c.in_err-take_byte.ensures.crash
 
 pub returns-then-is_some-clause-serves : goal.returns-then-is_some-clause-serves
 returns-then-is_some-clause-serves g c began told seen served = record {
@@ -33,18 +33,18 @@ returns-then-is_some-clause-serves g c began told seen served = record {
   all = λ none. absurd (let e : is_some c.take_byte.new.self.end ≡ true = sym (c.if-is_some.ensures) in let n : is_some c.take_byte.new.self.end ≡ false = ap is_some none in cc);
 }
 
-pub returns-then-is_some-clause-goes_on : goal.returns-then-is_some-clause-goes_on
-returns-then-is_some-clause-goes_on g c = goes-then c.loop-b.invariant.goes (byte-goes c.loop-b.self c.take_byte.new.self _ c.loop-b.invariant.goes.sound c.in_ok-take_byte.ensures.takes)
+pub returns-then-is_some-clause-stays_in_epoch : goal.returns-then-is_some-clause-stays_in_epoch
+returns-then-is_some-clause-stays_in_epoch g c = stays-then c.loop-b.invariant.stays (byte-stays c.loop-b.self c.take_byte.new.self _ c.loop-b.invariant.stays.sound c.in_ok-take_byte.ensures.takes)
 
 pub returns-then-is_some-clause-clean : goal.returns-then-is_some-clause-clean
-returns-then-is_some-clause-clean g c = (goes-then c.loop-b.invariant.goes (byte-goes c.loop-b.self c.take_byte.new.self _ c.loop-b.invariant.goes.sound c.in_ok-take_byte.ensures.takes)).clean
+returns-then-is_some-clause-clean g c = (stays-then c.loop-b.invariant.stays (byte-stays c.loop-b.self c.take_byte.new.self _ c.loop-b.invariant.stays.sound c.in_ok-take_byte.ensures.takes)).clean
 
 pub returns-then-is_some-clause-crash : goal.returns-then-is_some-clause-crash
-returns-then-is_some-clause-crash g c = (goes-then c.loop-b.invariant.goes (byte-goes c.loop-b.self c.take_byte.new.self _ c.loop-b.invariant.goes.sound c.in_ok-take_byte.ensures.takes)).crash
+returns-then-is_some-clause-crash g c = (stays-then c.loop-b.invariant.stays (byte-stays c.loop-b.self c.take_byte.new.self _ c.loop-b.invariant.stays.sound c.in_ok-take_byte.ensures.takes)).crash
 
 pub loop-b-preserved : goal.loop-b-preserved
 loop-b-preserved g c = record {
-  goes = goes-then c.loop-b.invariant.goes (byte-goes c.loop-b.self c.take_byte.new.self _ c.loop-b.invariant.goes.sound c.in_ok-take_byte.ensures.takes);
+  stays = stays-then c.loop-b.invariant.stays (byte-stays c.loop-b.self c.take_byte.new.self _ c.loop-b.invariant.stays.sound c.in_ok-take_byte.ensures.takes);
   none = none-of c.take_byte.new.self.end (sym (c.if-is_some.ensures));
   served = λ began told seen served. bytes-more seen c.loop-b.self c.take_byte.new.self c.args.bytes.now c.loop-b.b-index c.loop-b-test.true c.loop-b.invariant.none c.in_ok-take_byte.ensures.takes (c.loop-b.invariant.served began told seen served);
 }

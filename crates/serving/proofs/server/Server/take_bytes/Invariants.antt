@@ -2,12 +2,12 @@
 use Rattle.std.proofs.Common.{◌≡◌, ℕ, List, ◌++◌, take, None}
 use Rattle.serving.specs.declared.answer_line.Answered.{Answered}
 use Rattle.serving.specs.declared.session.Session.{Session}
-use Rattle.serving.specs.Serving.{GoesOn, HasServed}
+use Rattle.serving.specs.Serving.{StaysInEpoch, HasServed}
 use Rattle.serving.proofs.server.Server.take_bytes.Given as goal
 
 abbrev pub invariant-loop-b : goal.invariant-loop-b
 invariant-loop-b g l = record {
-  goes : GoesOn g.S.Store l.fn.self.session l.self.session;
+  stays : StaysInEpoch g.S.Store l.fn.self.session l.self.session;
   none : l.self.end ≡ None;
   served : (began : Session g.row.S.Denot) (told : List Answered) (seen : List ℕ) → HasServed g.S.Store began told seen l.fn.self → HasServed g.S.Store began told (seen ++ take l.b-index l.bytes) l.self;
 }

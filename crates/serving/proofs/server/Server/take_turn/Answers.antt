@@ -4,8 +4,8 @@ use Rattle.outputs.specs.Gathered.{taken_by}
 use Rattle.serving.specs.Epochs.{WritesEpochs}
 use Rattle.std.proofs.lemmas.Result.{on_ok_weaker}
 use Rattle.serving.proofs.Acknowledging.{stops-safely}
-use Rattle.serving.proofs.Lasting.{left-goes, left-more, writes-goes, writes-one}
-use Rattle.serving.proofs.Telling.{at-error}
+use Rattle.serving.proofs.Lasting.{left-stays, left-more, writes-stays, writes-one}
+use Rattle.type_table.proofs.Results.{on_err}
 use Rattle.serving.proofs.server.Server.take_turn.Goals as goal
 
 pub returns-in-Ok-true-clause-serves : goal.returns-in-Ok-true-clause-serves
@@ -15,24 +15,24 @@ returns-in-Ok-true-clause-serves g c =
 
 pub returns-in-Ok-true-clause-stops : goal.returns-in-Ok-true-clause-stops
 returns-in-Ok-true-clause-stops g c =
-    at-error c.next_epoch.result.1 (λ began given taken so_far. stops-safely c.next_epoch.result.0.session.store (g.A.Archive.kept c.args.archive.now) (g.A.Archive.kept c.next_epoch.new.archive)
+    on_err c.next_epoch.result.1 (λ began given taken so_far. stops-safely c.next_epoch.result.0.session.store (g.A.Archive.kept c.args.archive.now) (g.A.Archive.kept c.next_epoch.new.archive)
     c.next_epoch.ensures.clean c.next_epoch.ensures.crash (c.in-Ok-true.ensures.serves began given taken so_far))
 
 pub returns-in-Ok-true-clause-writes : goal.returns-in-Ok-true-clause-writes
 returns-in-Ok-true-clause-writes g c =
-    on_ok_weaker c.next_epoch.result.1 (writes-goes c.args.self.session c.serve_group.new.self.session c.next_epoch.result.0.session.store (g.A.Archive.kept c.args.archive.now) (g.A.Archive.kept c.next_epoch.new.archive)
-    c.in-Ok-true.ensures.goes_on c.next_epoch.ensures.clean) c.next_epoch.ensures.writes
+    on_ok_weaker c.next_epoch.result.1 (writes-stays c.args.self.session c.serve_group.new.self.session c.next_epoch.result.0.session.store (g.A.Archive.kept c.args.archive.now) (g.A.Archive.kept c.next_epoch.new.archive)
+    c.in-Ok-true.ensures.stays_in_epoch c.next_epoch.ensures.clean) c.next_epoch.ensures.writes
 
 pub returns-in-Ok-true-clause-crash : goal.returns-in-Ok-true-clause-crash
 returns-in-Ok-true-clause-crash g c =
-    left-goes c.args.self.session c.serve_group.new.self.session c.next_epoch.result.0.session.store (g.A.Archive.kept c.args.archive.now) (g.A.Archive.kept c.next_epoch.new.archive) c.in-Ok-true.ensures.goes_on
+    left-stays c.args.self.session c.serve_group.new.self.session c.next_epoch.result.0.session.store (g.A.Archive.kept c.args.archive.now) (g.A.Archive.kept c.next_epoch.new.archive) c.in-Ok-true.ensures.stays_in_epoch
     c.next_epoch.ensures.crash
 
 pub returns-in_default-clause-writes : goal.returns-in_default-clause-writes
 returns-in_default-clause-writes g c =
     let kept = g.A.Archive.kept c.args.archive.now in
     let writes : OnOk c.serve_group.result (WritesEpochs g.S.Store c.args.self.session.store c.serve_group.new.self.session.store kept kept) =
-    on_ok_weaker c.serve_group.result (λ goes. writes-one g.S.Store c.args.self.session.store c.serve_group.new.self.session.store kept goes.follows) c.serve_group.ensures.goes_on in
+    on_ok_weaker c.serve_group.result (λ stays. writes-one g.S.Store c.args.self.session.store c.serve_group.new.self.session.store kept stays.follows) c.serve_group.ensures.stays_in_epoch in
     search (rules, writes)
 
 pub returns-in_default-clause-crash : goal.returns-in_default-clause-crash

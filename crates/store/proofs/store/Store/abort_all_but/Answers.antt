@@ -21,7 +21,7 @@ loop-t-preserved g c =
     let k : Keeping = keeping (map g.R.Recovery.meaning inside.objects.items) inside.transactions.rows in
     let run : IsRun (objects s) s.history = run-shown k (inside.past.items ++ inside.history.items) inside.max_events inside.forgotten s c.self.view_is c.self.invariant.1.store.kept in
     next-turn c.args.those.now (objects s) s c.loop-t.self c.abort_other.new.self c.loop-t.t
-    (closed-each c.run_goes_on.ensures c.seen_after.ensures c.transactions_in_run.ensures c.opens_after.ensures c.beginners_after.ensures c.args.those.now (objects s) s.history run c.loop-t.t)
+    (closed-each c.run_goes_on.ensures c.summary_after.ensures c.transactions_in_run.ensures c.opens_after.ensures c.beginners_after.ensures c.args.those.now (objects s) s.history run c.loop-t.t)
     c.loop-t.invariant c.abort_other.ensures.aborts c.abort_other.ensures.stays
 
 pub returns-clause-aborts : goal.returns-clause-aborts
@@ -41,5 +41,5 @@ returns-clause-left g c =
     let kept : IsKept k s.history = kept-shown k (inside.past.items ++ inside.history.items) inside.max_events inside.forgotten s c.self.view_is c.self.invariant.1.store.kept in
     let run : IsRun (objects s) s.history = run-shown k (inside.past.items ++ inside.history.items) inside.max_events inside.forgotten s c.self.view_is c.self.invariant.1.store.kept in
     let many : c.loop-t.t ≡ length inside.transactions.rows = omega (arith, c.loop-t.auto.t-end, c.loop-t-test.false, c.begun-t-end.ensures) in
-    (closed-all c.run_goes_on.ensures c.seen_after.ensures c.transactions_in_run.ensures c.opens_after.ensures c.beginners_after.ensures c.args.those.now s k
+    (closed-all c.run_goes_on.ensures c.summary_after.ensures c.transactions_in_run.ensures c.opens_after.ensures c.beginners_after.ensures c.args.those.now s k
     c.loop-t.self.history c.loop-t.t kept run many (ap (λ (z : Stored). z.history) c.loop-t.invariant)).left

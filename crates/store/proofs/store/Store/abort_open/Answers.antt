@@ -1,6 +1,6 @@
 use Rattle.std.proofs.Common.{◌++◌, ◌≡◌, false, map, sym, ◌∙◌}
 use Rattle.std.proofs.lemmas.Bool.{both_ways}
-use Rattle.serial_order.specs.History.{seen, is_open}
+use Rattle.serial_order.specs.History.{summary, is_open}
 use Rattle.store_laws.specs.Kept.{Keeping, keeping}
 use Rattle.store.proofs.Opens.{open-alike}
 use Rattle.store.proofs.Closings.{kept-shown, aborts-once}
@@ -22,7 +22,7 @@ returns-else-is_open-clause-aborts g c =
     let inside = c.self.inside in
     let ms = map g.R.Recovery.meaning inside.objects.items in
     let k : Keeping = keeping ms inside.transactions.rows in
-    let closed : is_open (seen c.args.self.now.history) c.args.t ≡ false =
+    let closed : is_open (summary c.args.self.now.history) c.args.t ≡ false =
     open-alike c.rows_say_who_is_open.ensures ms inside.transactions.rows c.args.self.now.history c.args.t
     (kept-shown k (inside.past.items ++ inside.history.items) inside.max_events inside.forgotten c.args.self.now c.self.view_is c.self.invariant.1.store.kept) ∙ sym c.is_open.ensures ∙ c.if-is_open.false in
-    absurd (both_ways (is_open (seen c.args.self.now.history) c.args.t) closed opened)
+    absurd (both_ways (is_open (summary c.args.self.now.history) c.args.t) closed opened)

@@ -1,12 +1,12 @@
 use Rattle.std.proofs.Common.{◌≡◌, ℕ, ◌+◌, ◌≤◌, true, false, [], ◌∷◌, ◌++◌, length, map, vec_len, vec_capacity, Some, sym, ap, ◌∙◌, inl, arith}
 use Rattle.object_trait.specs.declared.event.EventKind.TheVariants.{Begin}
-use Rattle.serial_order.specs.History.{seen}
+use Rattle.serial_order.specs.History.{summary}
 use Rattle.serial_order.specs.Replay.{open_count}
 use Rattle.serial_order.specs.declared.command.Command.TheVariants as command
 use Rattle.serial_order.specs.declared.refusal.Refusal.TheVariants.{TooManyOpen, HistoryFull}
 use Rattle.open_transactions.specs.Transactions.{begun_by}
 use Rattle.store_laws.specs.Kept.{Keeping, keeping, objects_of}
-use Rattle.store.proofs.Stored.{refused-shown, wanting-shown}
+use Rattle.store.proofs.Stored.{refused-shown, memory_refused-shown}
 use Rattle.store.proofs.Rooms.{succeeded, rows-fit, room-is}
 use Rattle.store.proofs.Pasts.{past-more, past-length, past-test}
 use Rattle.store.proofs.Begins.{begin-many, begin-full, begin-unrefused, begin-whole, begin-shown}
@@ -17,7 +17,7 @@ returns-then-opened-ge-MOST_OPEN-clause-step g c =
     let inside = c.self.inside in
     let H = inside.past.items ++ inside.history.items in
     let k : Keeping = keeping (map g.R.Recovery.meaning inside.objects.items) inside.transactions.rows in
-    let counts : c.open_count-opened.result ≡ open_count (seen H) = c.open_count-opened.ensures.exact ∙ sym (c.rows_are_counted.ensures k H c.self.invariant.1.store.kept) in
+    let counts : c.open_count-opened.result ≡ open_count (summary H) = c.open_count-opened.ensures.exact ∙ sym (c.rows_are_counted.ensures k H c.self.invariant.1.store.kept) in
     inl (refused-shown ℕ k H c.args.w inside.max_events inside.forgotten command.Begin TooManyOpen c.args.self.now c.self.view_is
     (begin-many (objects_of k.meanings) inside.max_events H c.open_count-opened.result counts c.if-opened-ge-MOST_OPEN.true))
 
@@ -27,7 +27,7 @@ returns-then-not-has_room-clause-step g c =
     let H = inside.past.items ++ inside.history.items in
     let opened = c.open_count-opened.result in
     let k : Keeping = keeping (map g.R.Recovery.meaning inside.objects.items) inside.transactions.rows in
-    let counts : opened ≡ open_count (seen H) = c.open_count-opened.ensures.exact ∙ sym (c.rows_are_counted.ensures k H c.self.invariant.1.store.kept) in
+    let counts : opened ≡ open_count (summary H) = c.open_count-opened.ensures.exact ∙ sym (c.rows_are_counted.ensures k H c.self.invariant.1.store.kept) in
     inl (refused-shown ℕ k H c.args.w inside.max_events inside.forgotten command.Begin HistoryFull c.args.self.now c.self.view_is
     (begin-full (objects_of k.meanings) inside.max_events H opened counts c.if-opened-ge-MOST_OPEN.false (past-test inside.past.items c.deref.result.now inside.history.items inside.forgotten opened 2 inside.max_events c.has_room.result false c.self.invariant.0 c.has_room.ensures c.deref.ensures.value c.if-not-has_room.true)))
 
@@ -37,8 +37,8 @@ returns-then-is_err-clause-step g c =
     let H = inside.past.items ++ inside.history.items in
     let opened = c.open_count-opened.result in
     let k : Keeping = keeping (map g.R.Recovery.meaning inside.objects.items) inside.transactions.rows in
-    let counts : opened ≡ open_count (seen H) = c.open_count-opened.ensures.exact ∙ sym (c.rows_are_counted.ensures k H c.self.invariant.1.store.kept) in
-    wanting-shown ℕ k H (inside.past.items ++ c.reserve.new.self.items) c.args.w inside.max_events inside.forgotten command.Begin c.args.self.now c.self.view_is
+    let counts : opened ≡ open_count (summary H) = c.open_count-opened.ensures.exact ∙ sym (c.rows_are_counted.ensures k H c.self.invariant.1.store.kept) in
+    memory_refused-shown ℕ k H (inside.past.items ++ c.reserve.new.self.items) c.args.w inside.max_events inside.forgotten command.Begin c.args.self.now c.self.view_is
     (begin-unrefused (objects_of k.meanings) inside.max_events H opened counts c.if-opened-ge-MOST_OPEN.false (past-test inside.past.items c.deref.result.now inside.history.items inside.forgotten opened 2 inside.max_events c.has_room.result true c.self.invariant.0 c.has_room.ensures c.deref.ensures.value c.if-not-has_room.false)) (ap (λ K. inside.past.items ++ K) c.reserve.ensures.items)
 
 pub returns-then-is_err-2-clause-step : goal.returns-then-is_err-2-clause-step
@@ -47,8 +47,8 @@ returns-then-is_err-2-clause-step g c =
     let H = inside.past.items ++ inside.history.items in
     let opened = c.open_count-opened.result in
     let k : Keeping = keeping (map g.R.Recovery.meaning inside.objects.items) inside.transactions.rows in
-    let counts : opened ≡ open_count (seen H) = c.open_count-opened.ensures.exact ∙ sym (c.rows_are_counted.ensures k H c.self.invariant.1.store.kept) in
-    wanting-shown ℕ k H (inside.past.items ++ c.reserve.new.self.items) c.args.w inside.max_events inside.forgotten command.Begin c.args.self.now c.self.view_is
+    let counts : opened ≡ open_count (summary H) = c.open_count-opened.ensures.exact ∙ sym (c.rows_are_counted.ensures k H c.self.invariant.1.store.kept) in
+    memory_refused-shown ℕ k H (inside.past.items ++ c.reserve.new.self.items) c.args.w inside.max_events inside.forgotten command.Begin c.args.self.now c.self.view_is
     (begin-unrefused (objects_of k.meanings) inside.max_events H opened counts c.if-opened-ge-MOST_OPEN.false (past-test inside.past.items c.deref.result.now inside.history.items inside.forgotten opened 2 inside.max_events c.has_room.result true c.self.invariant.0 c.has_room.ensures c.deref.ensures.value c.if-not-has_room.false)) (ap (λ K. inside.past.items ++ K) c.reserve.ensures.items)
 
 pub begin-t-requires-clause-fits : goal.begin-t-requires-clause-fits
@@ -86,7 +86,7 @@ returns-clause-step g c =
     let opened = c.open_count-opened.result in
     let ms = map g.R.Recovery.meaning inside.objects.items in
     let k : Keeping = keeping ms inside.transactions.rows in
-    let counts : opened ≡ open_count (seen H) = c.open_count-opened.ensures.exact ∙ sym (c.rows_are_counted.ensures k H c.self.invariant.1.store.kept) in
+    let counts : opened ≡ open_count (summary H) = c.open_count-opened.ensures.exact ∙ sym (c.rows_are_counted.ensures k H c.self.invariant.1.store.kept) in
     inl (begin-shown c.begin_moves.ensures ms inside.transactions.rows c.begin-t.new.self.rows H (inside.past.items ++ c.push_reserved.new.self.items)
     c.args.w c.begin-t.result c.self.invariant.1.store.kept (c.begin-t.ensures.number ∙ ap length c.reserve_begin.ensures.rows)
     (c.begin-t.ensures.rows ∙ ap (λ r. r ++ Some (begun_by c.args.w) ∷ []) c.reserve_begin.ensures.rows)

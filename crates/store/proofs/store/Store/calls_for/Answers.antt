@@ -1,5 +1,5 @@
 use Rattle.std.proofs.Common.{◌++◌, ◌≡◌, true, false, None, map, slice_get, sym, ◌∙◌}
-use Rattle.serial_order.specs.History.{seen, is_open}
+use Rattle.serial_order.specs.History.{summary, is_open}
 use Rattle.store_laws.specs.Stored.{objects}
 use Rattle.store.proofs.Known.{no-object, its-object}
 use Rattle.store.proofs.Calls.{open-shown, calls-shown, closed-refusal, closed-unnumbered, objectless-refusal, objectless-unnumbered}
@@ -10,7 +10,7 @@ returns-then-not-is_open-clause-refused g c =
     let inside = c.self.inside in
     let s = c.args.self.now in
     let ms = map g.R.Recovery.meaning inside.objects.items in
-    let closed : is_open (seen s.history) c.args.t ≡ false =
+    let closed : is_open (summary s.history) c.args.t ≡ false =
     open-shown ms inside.transactions.rows (inside.past.items ++ inside.history.items) inside.max_events inside.forgotten s c.self.view_is c.rows_say_who_is_open.ensures c.args.t c.self.invariant.1.store.kept
     ∙ sym c.is_open.ensures ∙ c.if-not-is_open.true in
     closed-refusal s c.args.t c.args.x closed
@@ -20,7 +20,7 @@ returns-then-not-is_open-clause-unnumbered g c =
     let inside = c.self.inside in
     let s = c.args.self.now in
     let ms = map g.R.Recovery.meaning inside.objects.items in
-    let closed : is_open (seen s.history) c.args.t ≡ false =
+    let closed : is_open (summary s.history) c.args.t ≡ false =
     open-shown ms inside.transactions.rows (inside.past.items ++ inside.history.items) inside.max_events inside.forgotten s c.self.view_is c.rows_say_who_is_open.ensures c.args.t c.self.invariant.1.store.kept
     ∙ sym c.is_open.ensures ∙ c.if-not-is_open.true in
     sym (closed-unnumbered s c.args.t c.args.x closed)
@@ -30,7 +30,7 @@ returns-in_default-clause-refused g c =
     let inside = c.self.inside in
     let s = c.args.self.now in
     let ms = map g.R.Recovery.meaning inside.objects.items in
-    let going : is_open (seen s.history) c.args.t ≡ true =
+    let going : is_open (summary s.history) c.args.t ≡ true =
     open-shown ms inside.transactions.rows (inside.past.items ++ inside.history.items) inside.max_events inside.forgotten s c.self.view_is c.rows_say_who_is_open.ensures c.args.t c.self.invariant.1.store.kept
     ∙ sym c.is_open.ensures ∙ c.if-not-is_open.false in
     let known = calls-shown ms inside.transactions.rows (inside.past.items ++ inside.history.items) inside.max_events inside.forgotten s c.self.view_is inside.calls.items c.self.invariant.1.known in
@@ -42,7 +42,7 @@ returns-in_default-clause-unnumbered g c =
     let inside = c.self.inside in
     let s = c.args.self.now in
     let ms = map g.R.Recovery.meaning inside.objects.items in
-    let going : is_open (seen s.history) c.args.t ≡ true =
+    let going : is_open (summary s.history) c.args.t ≡ true =
     open-shown ms inside.transactions.rows (inside.past.items ++ inside.history.items) inside.max_events inside.forgotten s c.self.view_is c.rows_say_who_is_open.ensures c.args.t c.self.invariant.1.store.kept
     ∙ sym c.is_open.ensures ∙ c.if-not-is_open.false in
     let known = calls-shown ms inside.transactions.rows (inside.past.items ++ inside.history.items) inside.max_events inside.forgotten s c.self.view_is inside.calls.items c.self.invariant.1.known in

@@ -1,6 +1,6 @@
 use Rattle.std.proofs.Common.{◌≡◌, ◌++◌, map, vec_len, Some, slice_get, sym, subst, ◌∙◌, rules}
 use Rattle.std.proofs.lemmas.List.{length-map}
-use Rattle.serial_order.specs.History.{seen}
+use Rattle.serial_order.specs.History.{summary}
 use Rattle.serial_order.specs.Replay.{call_event}
 use Rattle.store_laws.specs.Stored.{Stored, objects}
 use Rattle.store_laws.specs.Words.{as_event}
@@ -32,5 +32,5 @@ returns g c =
     let called =
     called-of g.R.Recovery.meaning inside.objects.items inside.transactions.rows (inside.past.items ++ inside.history.items) inside.max_events inside.forgotten c.args.self.now c.args.t c.args.x c.args.call
     c.index.result.now c.self.view_is c.self.invariant.1.store.kept c.requires.still_open c.requires.call c.index.ensures in
-    subst (λ (z : Stored). call_event (slice_get (objects z) c.args.x) (seen z.history) c.args.x c.args.t (Some c.args.call.first) ≡ Some (as_event c.args.t c.args.x c.args.call.first c.choose.result)) c.self.view_is
+    subst (λ (z : Stored). call_event (slice_get (objects z) c.args.x) (summary z.history) c.args.x c.args.t (Some c.args.call.first) ≡ Some (as_event c.args.t c.args.x c.args.call.first c.choose.result)) c.self.view_is
     (answer-defined called c.choose.ensures c.answers_as_defined.ensures)

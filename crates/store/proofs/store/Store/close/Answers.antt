@@ -1,6 +1,6 @@
 use Rattle.std.proofs.Common.{◌++◌, ◌≡◌, ℕ, false, Some, slice_get, drop, map, sym, ap, subst, ◌∙◌}
 use Rattle.object_trait.specs.Meaning.{Meaning}
-use Rattle.serial_order.specs.History.{seen, is_open}
+use Rattle.serial_order.specs.History.{summary, is_open}
 use Rattle.store_laws.specs.Stored.{Stored}
 use Rattle.store_laws.specs.Kept.{keeping}
 use Rattle.store.specs.Ends.{IsHandedOut}
@@ -23,5 +23,5 @@ returns g c =
       types = ap (λ (z : Stored). z.types) is;
       objects = subst (λ J. (x : ℕ) (m : Meaning) → slice_get ms x ≡ Some m → IsHandedOut m x J) whole
           (handed-out c.idle_is_closed.ensures ms left.transactions.rows K c.self.invariant.1.store.kept
-          (subst (λ (z : Stored). (t : ℕ) → is_open (seen z.history) t ≡ false) (sym c.self.view_is) c.abort_all.ensures.none));
+          (subst (λ (z : Stored). (t : ℕ) → is_open (summary z.history) t ≡ false) (sym c.self.view_is) c.abort_all.ensures.none));
     }

@@ -2,7 +2,7 @@ use Rattle.std.proofs.Common.{◌≡◌, ℕ, ◌+◌, List, [], ◌∷◌, ◌+
 use Rattle.std.proofs.lemmas.List.{length-map}
 use Rattle.object_trait.specs.declared.event.Event.{Event}
 use Rattle.object_trait.specs.declared.event.EventKind.{EventKind}
-use Rattle.serial_order.specs.History.{seen, is_open}
+use Rattle.serial_order.specs.History.{summary, is_open}
 use Rattle.serial_order.specs.declared.refusal.Refusal.TheVariants.{NotOpen}
 use Rattle.open_transactions.specs.Transactions.{count_open}
 use Rattle.store_laws.specs.Events.{end_event}
@@ -25,7 +25,7 @@ returns-then-not-is_open g c =
     let H = inside.past.items ++ inside.history.items in
     let ms = map g.R.Recovery.meaning inside.objects.items in
     let k : Keeping = keeping ms inside.transactions.rows in
-    let closed : is_open (seen H) c.args.t ≡ false =
+    let closed : is_open (summary H) c.args.t ≡ false =
     open-alike c.rows_say_who_is_open.ensures ms inside.transactions.rows H c.args.t c.self.invariant.1.store.kept ∙ sym c.is_open.ensures ∙ c.if-not-is_open.true in
     refused-shown (Unit {0}) k H c.args.w inside.max_events inside.forgotten (end_command c.args.how c.args.t) NotOpen c.args.self.now c.self.view_is
     (end-refusal c.args.how (objects_of ms) inside.max_events H c.args.t false closed)

@@ -1,14 +1,14 @@
 use Rattle.std.proofs.Common.{◌≡◌, ◌+◌, ◌≤◌, true, false, [], ◌∷◌, ◌++◌, length, map, Some, slice_get, vec_len, vec_capacity, refl, sym, ap, ◌∙◌, arith}
 use Rattle.std.proofs.lemmas.List.{length-map}
 use Rattle.object_trait.specs.Meaning.{Meaning}
-use Rattle.serial_order.specs.History.{seen}
+use Rattle.serial_order.specs.History.{summary}
 use Rattle.serial_order.specs.Replay.{call_event, is_full}
 use Rattle.store_laws.specs.Stored.{objects}
 use Rattle.store_laws.specs.Words.{as_event}
 use Rattle.store.proofs.Rooms.{succeeded}
 use Rattle.store.proofs.Pasts.{past-more, past-length}
 use Rattle.store.proofs.Executed.{failed}
-use Rattle.store.proofs.Answered.{IsDone, IsGiven, called-inside, given-at, given, still-open, room-tested, answer-follows, answer-last, reply-may, quiet-done, answer-whole, answer-comes, full-comes, wanting-comes}
+use Rattle.store.proofs.Answered.{IsDone, IsGiven, called-inside, given-at, given, still-open, room-tested, answer-follows, answer-last, reply-may, quiet-done, answer-whole, answer-comes, full-comes, memory_refused-comes}
 use Rattle.store.proofs.store.Store.give.Given.{Over}
 use Rattle.store.proofs.store.Store.give.Goals as goal
 use Rattle.store.proofs.store.Store.give.Goals.{in-Reply+else-is_err-2, in_default}
@@ -56,7 +56,7 @@ returns-then-is_err-2 g c =
     let room : is_full inside.max_events H 1 ≡ false =
     room-tested c.rows_are_counted.ensures ms inside.transactions.rows inside.past.items inside.history.items c.deref.result.now inside.forgotten c.open_count-opened.result inside.max_events c.has_room.result true
     c.self.invariant.1.store.kept c.open_count-opened.ensures.exact c.self.invariant.0 c.deref.ensures.value c.has_room.ensures c.if-not-has_room.false in
-    wanting-comes ms inside.transactions.rows H inside.max_events inside.forgotten c.args.self.now c.args.w c.args.t c.args.x c.args.call.first c.self.view_is
+    memory_refused-comes ms inside.transactions.rows H inside.max_events inside.forgotten c.args.self.now c.args.w c.args.t c.args.x c.args.call.first c.self.view_is
     (map g.R.Recovery.meaning c.execute-executed.new.objects.items) c.execute-executed.new.transactions.rows (inside.past.items ++ c.reserve.new.self.items)
     (failed c.execute-executed.result (sym c.is_err-in-Reply.ensures.value ∙ c.if-is_err-2.true) c.execute-executed.ensures.objects)
     (ap (λ K. inside.past.items ++ K) c.reserve.ensures.items) room
@@ -91,7 +91,7 @@ appended g c =
 
 -- the answer's event is the one that the history defines
 defined : (g : Over) (c : goal.After-push_reserved g)
-    → call_event (slice_get (objects c.args.self.now) c.args.x) (seen c.args.self.now.history) c.args.x c.args.t (Some c.args.call.first)
+    → call_event (slice_get (objects c.args.self.now) c.args.x) (summary c.args.self.now.history) c.args.x c.args.t (Some c.args.call.first)
     ≡ Some (as_event c.args.t c.args.x c.args.call.first c.match-answer.answer)
 defined g c = c.requires.chosen ∙ ap (λ a. Some (as_event c.args.t c.args.x c.args.call.first a)) (sym (joined g c).1)
 

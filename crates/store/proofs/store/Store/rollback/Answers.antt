@@ -4,7 +4,7 @@ use Rattle.object_trait.specs.declared.event.EventKind.TheVariants.{Rollback}
 use Rattle.serial_order.specs.declared.command.Command.TheVariants as command
 use Rattle.serial_order.specs.declared.refusal.Refusal.TheVariants.{NotOpen, BadRollback, HistoryFull}
 use Rattle.store_laws.specs.Kept.{Keeping, keeping}
-use Rattle.store.proofs.Stored.{refused-shown, wanting-shown}
+use Rattle.store.proofs.Stored.{refused-shown, memory_refused-shown}
 use Rattle.store.proofs.Rooms.{succeeded, room-is}
 use Rattle.store.proofs.Pasts.{past-more, past-length, past-test}
 use Rattle.store.proofs.Opens.{places-few, struck-inside, struck-last}
@@ -61,7 +61,7 @@ returns-then-is_err g c =
     let ms = map g.R.Recovery.meaning inside.objects.items in
     let going = sym c.is_open.ensures ∙ c.if-not-is_open.false in
     let k : Keeping = keeping ms inside.transactions.rows in
-    wanting-shown (Unit {0}) k H (inside.past.items ++ c.reserve.new.self.items) c.args.w inside.max_events inside.forgotten (command.Rollback c.args.t c.args.n) c.args.self.now c.self.view_is
+    memory_refused-shown (Unit {0}) k H (inside.past.items ++ c.reserve.new.self.items) c.args.w inside.max_events inside.forgotten (command.Rollback c.args.t c.args.n) c.args.self.now c.self.view_is
     (rollback-unrefused c.rows_say_who_is_open.ensures c.places_are_counted.ensures ms inside.transactions.rows H c.args.t c.args.n inside.max_events c.places-places.result.now
     c.self.invariant.1.store.kept going c.places-places.ensures c.rows_are_counted.ensures opened c.open_count-opened.ensures.exact (omega arith) (omega arith) (past-test inside.past.items c.deref.result.now inside.history.items inside.forgotten opened 1 inside.max_events c.has_room.result true c.self.invariant.0 c.has_room.ensures c.deref.ensures.value c.if-not-has_room.false))
     (ap (λ K. inside.past.items ++ K) c.reserve.ensures.items)

@@ -1,0 +1,46 @@
+//! Worked examples of the families: each function does nothing, and its contract is the example.
+#![tactic(auto)]
+
+ghost use Rattle.std.specs.Prelude.{◌≡◌, [], ◌∷◌, Some, None, length, codes};
+ghost use Rattle.table_maker.specs.Made.{op_of, entries_of};
+ghost use Rattle.table_families.specs.Queue.{list_at, queue, state_of};
+ghost use Rattle.table_families.specs.Seats.{seats};
+ghost use Rattle.table_families.specs.Stock.{stock};
+
+pub fn stock_of_five()
+    ensures ops { length (stock 5 (2 ∷ 3 ∷ [])).ops ≡ 8 }
+    ensures given { (stock 5 (2 ∷ 3 ∷ [])).step 2 4 ≡ Some 5 }
+    ensures no_room { (stock 5 (2 ∷ 3 ∷ [])).step 3 4 ≡ None }
+    ensures full { (stock 5 (2 ∷ 3 ∷ [])).step 3 5 ≡ Some 3 }
+    ensures taken { (stock 5 (2 ∷ 3 ∷ [])).step 3 6 ≡ Some 0 }
+    ensures short { (stock 5 (2 ∷ 3 ∷ [])).step 2 7 ≡ Some 2 }
+{}
+
+pub fn queue_of_two_elements_and_two_items()
+    ensures states { (queue (codes "a" ∷ codes "b" ∷ []) 2).states ≡ 7 }
+    ensures operations { (queue (codes "a" ∷ codes "b" ∷ []) 2).ops
+        ≡ op_of (codes "enq:a") (codes "ok") ∷ op_of (codes "enq:b") (codes "ok") ∷ op_of (codes "deq") (codes "a") ∷ op_of (codes "deq") (codes "b") ∷ [] }
+    ensures head_a { list_at 2 2 4 ≡ 0 ∷ 1 ∷ [] }
+    ensures head_b { state_of 2 (1 ∷ 0 ∷ []) ≡ 5 }
+    ensures steps { entries_of (queue (codes "a" ∷ codes "b" ∷ []) 2) 28
+        ≡ Some 1 ∷ Some 2 ∷ None ∷ None
+        ∷ Some 3 ∷ Some 4 ∷ Some 0 ∷ None
+        ∷ Some 5 ∷ Some 6 ∷ None ∷ Some 0
+        ∷ None ∷ None ∷ Some 1 ∷ None
+        ∷ None ∷ None ∷ Some 2 ∷ None
+        ∷ None ∷ None ∷ None ∷ Some 1
+        ∷ None ∷ None ∷ None ∷ Some 2 ∷ [] }
+{}
+
+pub fn two_seats()
+    ensures states { (seats 2).states ≡ 9 }
+    ensures ops { length (seats 2).ops ≡ 13 }
+    ensures held { (seats 2).step 0 5 ≡ Some 3 }
+    ensures taken { (seats 2).step 3 6 ≡ Some 3 }
+    ensures released { (seats 2).step 4 7 ≡ Some 1 }
+    ensures booked { (seats 2).step 4 8 ≡ Some 7 }
+    ensures cancelled { (seats 2).step 7 9 ≡ Some 1 }
+    ensures not_held { (seats 2).step 7 7 ≡ None }
+    ensures one_free { (seats 2).step 6 11 ≡ Some 6 }
+    ensures not_two_free { (seats 2).step 6 12 ≡ None }
+{}

@@ -1,0 +1,121 @@
+//! What it takes to distinguish states, and exact relations.
+
+ghost use Rattle.exact_tables.specs.Distances.{AreDistances};
+
+use crate::tests::relations::ONE_WAY;
+use crate::tests::types::{Parts, good_table};
+use exact_tables::{Distances, distinguish};
+use std::process::Abort;
+use type_table::TypeTable;
+
+/// Two states, and the first shortest list that is legal from the first and not from the second, which
+/// is empty where the first looks like the second.
+type Case = (u16, u16, &'static [u8]);
+
+/// A semiqueue of at most two items of two elements: its states have no item, one b, two b, one a, one
+/// of each, and two a.
+static TWO_ITEMS: Parts = (
+    6,
+    0,
+    &[("enq:a", "ok"), ("enq:b", "ok"), ("deq", "a"), ("deq", "b")],
+    &[
+        Some(3),
+        Some(1),
+        None,
+        None,
+        Some(4),
+        Some(2),
+        None,
+        Some(0),
+        None,
+        None,
+        None,
+        Some(1),
+        Some(5),
+        Some(4),
+        Some(0),
+        None,
+        None,
+        None,
+        Some(1),
+        Some(3),
+        None,
+        None,
+        Some(3),
+        None,
+    ],
+);
+
+static ONE_WAY_CASES: [Case; 12] = [
+    (0, 0, &[]),
+    (0, 1, &[1]),
+    (0, 2, &[0]),
+    (1, 0, &[]),
+    (1, 2, &[0]),
+    (2, 0, &[1, 2]),
+    (2, 1, &[1]),
+    (2, 4, &[1]),
+    (3, 0, &[]),
+    (3, 4, &[]),
+    (4, 0, &[2]),
+    (4, 3, &[2]),
+];
+
+static TWO_ITEMS_CASES: [Case; 14] = [
+    (0, 1, &[0, 0]),
+    (0, 3, &[0, 0]),
+    (0, 4, &[0]),
+    (1, 0, &[3]),
+    (1, 3, &[3]),
+    (1, 2, &[0]),
+    (2, 1, &[3, 3]),
+    (2, 4, &[3, 3]),
+    (2, 5, &[3]),
+    (3, 1, &[2]),
+    (4, 5, &[3]),
+    (4, 4, &[]),
+    (5, 3, &[2, 2]),
+    (5, 4, &[2, 2]),
+];
+
+/// The list that distinguishes one state of a table from another, or none.
+fn told(
+    rt: &(impl Abort + AllocGlobal),
+    table: &TypeTable,
+    distances: &Distances,
+    s: u16,
+    t: u16,
+) -> Vec<u8>
+    requires { AreDistances table.now distances.now }
+{
+    assert!(rt; s < table.states() && t < table.states());
+    let list = distinguish(rt.alloc(), distances, table, s, t).expect(rt, "no memory");
+    list.unwrap_or(Vec::new(rt.alloc()))
+}
+
+/// That these lists distinguish the states of a table, and that the exact relation and the distances
+/// agree with them.
+fn are_told(rt: &(impl Abort + AllocGlobal), table: &TypeTable, cases: &[Case]) {
+    let distances = Distances::new(rt.alloc(), table).expect(rt, "no memory");
+    let relation = distances
+        .relation(rt.alloc(), table)
+        .expect(rt, "no memory");
+    for (s, t, list) in cases {
+        let told = told(rt, table, &distances, *s, *t);
+        assert!(rt; told.as_slice() == *list);
+        assert!(rt; *s < relation.states() && *t < relation.states());
+        assert!(rt; relation.has(*s, *t) == list.is_empty());
+    }
+}
+
+#[test]
+fn states_of_the_one_way_type_are_told_apart(rt: HostRuntime) {
+    let table = good_table(&rt, "oneway", &ONE_WAY);
+    are_told(&rt, &table, &ONE_WAY_CASES);
+}
+
+#[test]
+fn states_of_a_semiqueue_are_told_apart(rt: HostRuntime) {
+    let table = good_table(&rt, "semiqueue", &TWO_ITEMS);
+    are_told(&rt, &table, &TWO_ITEMS_CASES);
+}
