@@ -6,13 +6,14 @@ ghost use Rattle.command_files.specs.Status.{status_of};
 ghost use Rattle.command_files.specs.declared.fault.Fault.TheVariants.{NoMemory, Output};
 
 use crate::database_fault::DatabaseFault;
+use crate::order_fault::OrderFault;
 use crate::status::Status;
 use line_text::TextFault;
 use outputs::OutFault;
 use std::alloc::{AllocError, AllocFailed, Global};
 
 /// Why a command comes to no answer. Paths are those of the command line.
-#[derive(Debug, Drop)]
+#[derive(Drop)]
 pub enum Fault<'a> {
     /// The words name no task.
     Usage {
@@ -34,6 +35,11 @@ pub enum Fault<'a> {
     OtherObjects {
         path: &'a str,
         first: &'a str,
+    },
+    /// The committed transactions of the history at a path may not be asked for in the order that was given.
+    Order {
+        path: &'a str,
+        fault: OrderFault,
     },
     /// The text at a path has events, where there may be none.
     HasEvents {
@@ -82,6 +88,7 @@ impl<'a> Fault<'a> {
             | Fault::Text { .. }
             | Fault::NoType { .. }
             | Fault::OtherObjects { .. }
+            | Fault::Order { .. }
             | Fault::HasEvents { .. }
             | Fault::BadParameter
             | Fault::TooLarge
@@ -102,6 +109,7 @@ impl<'a> Fault<'a> {
             Fault::OtherObjects { path, first } => {
                 format!(in alloc; "colock: {path}: not the objects of {first}\n")
             }
+            Fault::Order { path, fault } => format!(in alloc; "colock: {path}: order: {fault}\n"),
             Fault::HasEvents { path } => format!(in alloc; "colock: {path}: has events\n"),
             Fault::BadParameter => String::from_str(alloc, "colock: BadParameter\n"),
             Fault::TooLarge => String::from_str(alloc, "colock: TooLarge\n"),

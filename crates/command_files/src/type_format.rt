@@ -9,7 +9,7 @@ use std::alloc::Global;
 use type_text::{TypeFile, read_type};
 
 /// The format of type files.
-#[derive(Clone, Copy, Debug, PartialEq, Eq)]
+#[derive(Clone, Copy)]
 pub struct TypeFormat;
 
 impl Format for TypeFormat {

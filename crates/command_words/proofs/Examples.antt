@@ -1,19 +1,29 @@
 -- What words ask for, worked by hand, and the texts.
 use Rattle.std.proofs.Common.{◌≡◌, ◌≢◌, ◌∙◌, ◌++◌, ap, arith, refl, sym, inr, true, false, ℕ, List, [], ◌∷◌}
-use Rattle.std.specs.Prelude.{codes, slice_index, Some, None}
+use Rattle.std.specs.Prelude.{codes, slice_index, Option, Some, None}
 use Rattle.type_table.specs.declared.kind.Kind.TheVariants.{Undo}
 use Rattle.command_words.specs.Help.{EndsLine, text_of_topic, version_text}
 use Rattle.command_words.specs.Lines.{Audit, IsClear, IsGiven, IsNumber, IsWholeWork, Line, SaysAudit, Setting, Work, apart, dashes, done, following, joined, line_words, operand, seed, tries, values_of, workers}
 use Rattle.command_words.specs.Serve.{Parts, Say, no_parts}
 use Rattle.command_words.specs.Serve as says
 use Rattle.command_words.proofs.ServeLemmas.{fast_says}
-use Rattle.command_words.specs.Words.{AskFor, Text, audit, audit_database, order, check, create, history, make, run, serve, work, help, version}
+use Rattle.command_words.specs.Words.{AskFor, Text, audit, audit_database, order, check, create, explain, history, make, run, serve, work, help, version}
 use Rattle.command_words.specs.declared.task.Topic.{Topic}
 use Rattle.command_words.specs.declared.task.Topic.TheVariants as topic
 
 -- the words of a check
 checks : AskFor (codes "check" ∷ codes "undo" ∷ codes "a.type" ∷ []) (order (check Undo (codes "a.type")))
 checks = (tt, refl)
+
+-- two operations are explained, the first `--` is none of them
+explains : AskFor (codes "explain" ∷ codes "undo" ∷ codes "a.type" ∷ codes "--" ∷ codes "-p/ok" ∷ codes "1" ∷ [])
+    (order (explain Undo (codes "a.type") (Some (codes "-p/ok", codes "1"))))
+explains = (tt, refl)
+
+-- one alone is not
+one_alone : (pair : Option (Text × Text)) → AskFor (codes "explain" ∷ codes "undo" ∷ codes "a.type" ∷ codes "0" ∷ []) (order (explain Undo (codes "a.type") pair)) → ⊥
+one_alone None (whole, are) = cc
+one_alone (Some words) (whole, are) = cc
 
 -- of two words `--` the first is no item
 makes : AskFor (codes "make" ∷ codes "set" ∷ codes "0" ∷ codes "--" ∷ codes "-b" ∷ codes "--" ∷ [])
@@ -217,6 +227,7 @@ version_line = refl
 pub whole_lines : (t : Topic) → EndsLine (text_of_topic t)
 whole_lines topic.Program = refl
 whole_lines topic.Check = refl
+whole_lines topic.Explain = refl
 whole_lines topic.Make = refl
 whole_lines topic.Tables = refl
 whole_lines topic.Run = refl

@@ -13,12 +13,14 @@ pub mod LinePlain
 pub mod StoreLemmas
 pub mod FileLemmas
 pub mod CreateLemmas
+pub mod ExplainLemmas
 pub mod SubcommandLemmas
 pub mod WorkLeaf
 pub mod WorkAnswers
 pub mod WorkPlain
 pub mod AuditLemmas
 pub mod ServeLemmas
+pub mod OrderedLemmas
 pub mod ParseLemmas
 pub mod ProgramLemmas
 pub mod Examples

@@ -1,6 +1,7 @@
 -- What the clauses of `clap` say of the program's command.
-use Rattle.std.proofs.Common.{◌≡◌, ◌≢◌, ◌∙◌, ◌⊎◌, ap, refl, subst, sym, true, inl, inr, ⊎_elim, ℕ, List, [], ◌∷◌, Bor, IfOk, Result, Ok, Err}
-use Rattle.std.specs.Prelude.{codes, unwrap_or, Some, None, Option, IsSome, IfSome, option_map, ◌<◌, ◌^◌}
+use Rattle.std.proofs.Common.{◌≡◌, ◌≢◌, ◌∙◌, ◌⊎◌, ap, ap₂, arith, refl, subst, sym, true, inl, inr, ⊎_elim, ℕ, List, [], ◌∷◌, Bor, IfOk, Result, Ok, Err}
+use Rattle.std.proofs.lemmas.List.{length-map}
+use Rattle.std.specs.Prelude.{codes, length, slice_index_or, unwrap_or, Some, None, Option, IsSome, IfSome, option_map, ◌<◌, ◌^◌}
 use Rattle.clap.specs.Matches.{ReadsOne, first_value, found_of, matched_of, one_text, raw_values}
 use Rattle.clap.specs.Walk.{Row, all_of, first_of, rows_of, texts}
 use Rattle.clap.proofs.WalkLemmas.{first_value-rows, one_text-rows, raw_values-rows}
@@ -11,6 +12,7 @@ use Rattle.clap.specs.declared.error.Error.{Error}
 use Rattle.clap.specs.declared.parser.matches.ArgMatches.{ArgMatches}
 use Rattle.clap.specs.declared.builder.value_parser.ValueParser.{ValueParser}
 use Rattle.command_words.specs.Program.{HasNumber, HasRows, HasStoreRows, HasWork, Parses, ReadsKinds, entry_of, program, row, store_rows}
+use Rattle.type_table.specs.declared.kind.Kind.{Kind}
 use Rattle.command_words.specs.Words.{Order, OnUsage, Text, help_words}
 use Rattle.command_words.specs.Lines.{Audit, Work}
 use Rattle.command_words.specs.Words as asked
@@ -82,6 +84,38 @@ texts_read wanted None given none seen is empty found are =
     ap (λ (s : Bor (List (Bor Text))). texts s.now) is ∙ ap texts empty ∙ ap (λ (f : Option (List Text)). unwrap_or f []) found ∙ are
 texts_read wanted (Some s) given none seen is empty found are =
     ap (λ (s : Bor (List (Bor Text))). texts s.now) is ∙ ap (λ (f : Option (List Text)). unwrap_or f []) found ∙ are
+
+-- the values of P and Q are the words of the pair
+pub pair_rows : (kind : Kind) (path : Text) (pair : Option (Text × Text)) → unwrap_or (all_of (codes "pair") (entry_of (asked.explain kind path pair)).1) [] ≡ asked.pair_words pair
+pair_rows kind path None = refl
+pair_rows kind path (Some words) = refl
+
+-- the words that were found for P and Q
+pub pair_found : (o : Option (Bor (List (Bor Text)))) (s : Bor (List (Bor Text))) (seen : Option (List Text)) (pair : Option (Text × Text)) → o ≡ Some s
+    → option_map (λ s. texts s.now) o ≡ seen → unwrap_or seen [] ≡ asked.pair_words pair → texts s.now ≡ asked.pair_words pair
+pair_found o s seen pair is found are =
+    ap (λ (f : Option (Bor (List (Bor Text)))). unwrap_or (option_map (λ (s : Bor (List (Bor Text))). texts s.now) f) []) (sym is) ∙ ap (λ (f : Option (List Text)). unwrap_or f []) found ∙ are
+
+-- two of them are the pair
+pub pair_read : (words : List (Bor Text)) (pair : Option (Text × Text)) (d : Bor Text) → length words ≡ 2 → texts words ≡ asked.pair_words pair
+    → Some (asked.pair_of (slice_index_or words 0 d, slice_index_or words 1 d)) ≡ pair
+pair_read [] pair d two are = absurd (omega (arith, two))
+pair_read (p ∷ []) pair d two are = absurd (omega (arith, two))
+pair_read (p ∷ q ∷ []) None d two are = absurd cc
+pair_read (p ∷ q ∷ []) (Some words) d two are =
+    let first : p.now ≡ words.0 = cc in
+    let second : q.now ≡ words.1 = cc in
+    ap₂ (λ (x y : Text). Some (x, y)) first second
+pair_read (p ∷ q ∷ r ∷ rest) pair d two are = absurd (omega (arith, two))
+
+-- and where they aren't two there is no pair
+pub no_pair : (o : Option (Bor (List (Bor Text)))) (seen : Option (List Text)) (pair : Option (Text × Text)) → IfSome o (λ s. length s.now ≢ 2)
+    → option_map (λ s. texts s.now) o ≡ seen → unwrap_or seen [] ≡ asked.pair_words pair → None ≡ pair
+no_pair o seen None other found are = refl
+no_pair None seen (Some words) other found are = absurd cc
+no_pair (Some s) seen (Some words) other found are =
+    let both : texts s.now ≡ words.0 ∷ words.1 ∷ [] = pair_found (Some s) s seen (Some words) refl found are in
+    absurd (other (sym (length-map s.now (λ (w : Bor Text). w.now)) ∙ ap length both))
 
 -- rows of a first file and types, by their list
 pub store_read : (values : ArgMatches) (path : Text) (types : List Text) → rows_of (found_of values) ≡ store_rows path types → HasStoreRows (rows_of (found_of values)) path types
@@ -156,6 +190,7 @@ usage_of (Usage text) M P either memory = ⊎_elim (λ m. absurd (cc (memory m))
 pub no_topic : (words : List Text) → words ≢ codes "help" ∷ [] → ((name : Text) → words ≢ codes "help" ∷ name ∷ []) → (topic : Topic) → words ≢ help_words topic
 no_topic words alone named topic.Program are = alone are
 no_topic words alone named topic.Check are = named _ are
+no_topic words alone named topic.Explain are = named _ are
 no_topic words alone named topic.Make are = named _ are
 no_topic words alone named topic.Tables are = named _ are
 no_topic words alone named topic.Run are = named _ are

@@ -22,7 +22,7 @@ use Rattle.command_words.specs.Lines.{AreAuditWords, AreWorkWords, Audit, Work, 
 use Rattle.command_words.specs.Words as asked
 use Rattle.command_words.proofs.AuditLemmas.{audit_answered, audit_leaf, audit_passes}
 use Rattle.command_words.proofs.OptionLemmas.{RefusesOptions, by_test, never, no_option, or_else_none, refuses}
-use Rattle.command_words.proofs.SubcommandLemmas.{Command, check, command_of, create, history, leaf, make, name_of, operands_of, plain_words, run, tables, words_answered}
+use Rattle.command_words.proofs.SubcommandLemmas.{Command, check, command_of, create, explain, history, leaf, make, name_of, operands_of, plain_words, run, tables, words_answered}
 use Rattle.command_words.proofs.WorkAnswers.{work_answered}
 use Rattle.command_words.proofs.WorkLeaf.{work_leaf}
 use Rattle.command_words.proofs.WorkPlain.{work_passes}
@@ -82,6 +82,7 @@ sub_leaf listed (working seeded) = work_leaf listed seeded
 -- the word is no name of a subcommand
 record IsNoName (word : Text) : Type 0 where
   pub check : bytes_eq (codes "check") word ≡ false
+  pub explain : bytes_eq (codes "explain") word ≡ false
   pub make : bytes_eq (codes "make") word ≡ false
   pub tables : bytes_eq (codes "tables") word ≡ false
   pub run : bytes_eq (codes "run") word ≡ false
@@ -95,9 +96,9 @@ record IsNoName (word : Text) : Type 0 where
 other_first : (listed : Bor (List (Bor Text))) (word : Text) → bytes_eq word (codes "--") ≡ false → IsNoName word
     → turn_fault (top_of listed) (names listed) (walk_from nothing_held) word ≡ [] → ⊥
 other_first listed word no_dashes other_names none = by_test (bytes_eq (codes "help") word)
-    (λ helps. never DisplayHelp (InvalidSubcommand ∷ []) (simp (other_names.check, other_names.make, other_names.tables, other_names.run, other_names.audit, other_names.work, other_names.stress, other_names.create, other_names.history, helps) at none))
+    (λ helps. never DisplayHelp (InvalidSubcommand ∷ []) (simp (other_names.check, other_names.explain, other_names.make, other_names.tables, other_names.run, other_names.audit, other_names.work, other_names.stress, other_names.create, other_names.history, helps) at none))
     (λ other.
-    let parts = or_else_none _ _ (simp (other_names.check, other_names.make, other_names.tables, other_names.run, other_names.audit, other_names.work, other_names.stress, other_names.create, other_names.history, other, no_dashes) at none) in
+    let parts = or_else_none _ _ (simp (other_names.check, other_names.explain, other_names.make, other_names.tables, other_names.run, other_names.audit, other_names.work, other_names.stress, other_names.create, other_names.history, other, no_dashes) at none) in
     let met = no_option (top_of listed).rules (top_of listed).args_override_self (top_refuses listed) idle (λ _ _. refl) [] None word parts.0 in
     never UnknownArgument (InvalidSubcommand ∷ []) (simp met at parts.1))
 
@@ -109,7 +110,8 @@ named_or_not : (word : Text) → Named word ⊎ IsNoName word
 unfolding Named
 named_or_not word =
     by_test (bytes_eq (codes "check") word) (λ is. inl (plain check, same_text (codes "check") word (sym is)))
-    (λ no_check. by_test (bytes_eq (codes "make") word) (λ is. inl (plain make, same_text (codes "make") word (sym is)))
+    (λ no_check. by_test (bytes_eq (codes "explain") word) (λ is. inl (plain explain, same_text (codes "explain") word (sym is)))
+    (λ no_explain. by_test (bytes_eq (codes "make") word) (λ is. inl (plain make, same_text (codes "make") word (sym is)))
     (λ no_make. by_test (bytes_eq (codes "tables") word) (λ is. inl (plain tables, same_text (codes "tables") word (sym is)))
     (λ no_tables. by_test (bytes_eq (codes "run") word) (λ is. inl (plain run, same_text (codes "run") word (sym is)))
     (λ no_run. by_test (bytes_eq (codes "audit") word) (λ is. inl (auditing, same_text (codes "audit") word (sym is)))
@@ -119,6 +121,7 @@ named_or_not word =
     (λ no_create. by_test (bytes_eq (codes "history") word) (λ is. inl (plain history, same_text (codes "history") word (sym is)))
     (λ no_history. inr (record {
       check = no_check;
+      explain = no_explain;
       make = no_make;
       tables = no_tables;
       run = no_run;
@@ -127,7 +130,7 @@ named_or_not word =
       stress = no_stress;
       create = no_create;
       history = no_history;
-    }))))))))))
+    })))))))))))
 
 -- the first word is the name of a subcommand
 first_word : (listed : Bor (List (Bor Text))) (word : Text) (rest : List Text) → fault_of (app listed) (word ∷ rest) ≡ [] → (sub : Sub) × (sub_name sub ≡ word)
@@ -156,6 +159,7 @@ command_walk : (listed : Bor (List (Bor Text))) (sub : Sub) (rest : List Text)
     → walk (top_of listed).rules (names listed) nothing_held (sub_name sub ∷ rest) ≡ stopped_at sub rest
 unfolding clap_on_literals
 command_walk listed (plain check) rest = stopped_walk (top_of listed).rules (names listed) (walk_from nothing_held) (codes "check") [] rest
+command_walk listed (plain explain) rest = stopped_walk (top_of listed).rules (names listed) (walk_from nothing_held) (codes "explain") [] rest
 command_walk listed (plain make) rest = stopped_walk (top_of listed).rules (names listed) (walk_from nothing_held) (codes "make") [] rest
 command_walk listed (plain tables) rest = stopped_walk (top_of listed).rules (names listed) (walk_from nothing_held) (codes "tables") [] rest
 command_walk listed (plain run) rest = stopped_walk (top_of listed).rules (names listed) (walk_from nothing_held) (codes "run") [] rest
@@ -169,6 +173,7 @@ command_walk listed (working true) rest = stopped_walk (top_of listed).rules (na
 command_entered : (listed : Bor (List (Bor Text))) (sub : Sub) (rest : List Text)
     → entered (built (app listed)) (Some (sub_name sub, rest)) ≡ Some (sub_name sub, rows_after (sub_leaf listed sub).rules [] rest)
 command_entered listed (plain check) rest = refl
+command_entered listed (plain explain) rest = refl
 command_entered listed (plain make) rest = refl
 command_entered listed (plain tables) rest = refl
 command_entered listed (plain run) rest = refl
@@ -208,6 +213,9 @@ unfolding clap_on_literals
 only_below listed (plain check) rest =
     ap (λ (k : Kinds). or_else k (or_else (below listed (plain check) rest) [])) (stopped_fault (top_of listed) (names listed) (walk_from nothing_held) (codes "check", []) rest)
     ∙ or_else-nil (below listed (plain check) rest)
+only_below listed (plain explain) rest =
+    ap (λ (k : Kinds). or_else k (or_else (below listed (plain explain) rest) [])) (stopped_fault (top_of listed) (names listed) (walk_from nothing_held) (codes "explain", []) rest)
+    ∙ or_else-nil (below listed (plain explain) rest)
 only_below listed (plain make) rest =
     ap (λ (k : Kinds). or_else k (or_else (below listed (plain make) rest) [])) (stopped_fault (top_of listed) (names listed) (walk_from nothing_held) (codes "make", []) rest)
     ∙ or_else-nil (below listed (plain make) rest)
@@ -249,6 +257,7 @@ pub record Gives (listed : Bor (List (Bor Text))) (words : List Text) : Type 0 w
 -- the name of a subcommand is not `--`
 no_dashes_first : (command : Command) (rest : List Text) → without_dashes (name_of command ∷ rest) ≡ name_of command ∷ without_dashes rest
 no_dashes_first check rest = refl
+no_dashes_first explain rest = refl
 no_dashes_first make rest = refl
 no_dashes_first tables rest = refl
 no_dashes_first run rest = refl
@@ -303,6 +312,7 @@ taken listed are (word ∷ rest) none =
 -- what is asked for begins with the name of its subcommand
 named_first : (a : Order) → order_words a ≡ name_of (command_of a) ∷ operands_of a
 named_first (asked.check kind path) = refl
+named_first (asked.explain kind path pair) = refl
 named_first (asked.make family size items) = refl
 named_first (asked.tables path) = refl
 named_first (asked.run script types) = refl
@@ -343,10 +353,11 @@ asked_passes : (listed : Bor (List (Bor Text))) → texts listed.now ≡ kind_wo
 asked_passes listed are words left (asked.order o) well are_for = ap (fault_of (app listed)) are_for ∙ plain_taken listed are o well
 asked_passes listed are words left (asked.audit a) well are_for = audit_taken listed a words well are_for
 asked_passes listed are words left (asked.work w) well are_for = work_taken listed w words well are_for
-asked_passes listed are words left (asked.serve s) well are_for = absurd (left.3 are_for.0 are_for.1)
-asked_passes listed are words left (asked.audit_database path) well are_for = absurd (left.1 path are_for)
-asked_passes listed are words left (asked.help topic) well are_for = absurd (left.0 topic are_for)
-asked_passes listed are words left asked.version well are_for = absurd (left.2 are_for)
+asked_passes listed are words left (asked.serve s) well are_for = absurd (left.0.3 are_for.0 are_for.1)
+asked_passes listed are words left (asked.audit_database path) well are_for = absurd (left.0.1 path are_for)
+asked_passes listed are words left (asked.audit_ordered a) well are_for = absurd (left.1 a are_for)
+asked_passes listed are words left (asked.help topic) well are_for = absurd (left.0.0 topic are_for)
+asked_passes listed are words left asked.version well are_for = absurd (left.0.2 are_for)
 
 -- an error comes of refused memory, or the words are no task's
 pub error_asked : (words : List Text) → AreLeftToClap words → (e : Error) → Parses words (Err e) → (kind_of e ≡ OutOfMemory) ⊎ AreNoTask words

@@ -300,6 +300,7 @@ no_task words rest is none (asked.order o) plain for = named o (sym for ∙ is)
   where
     named : (o : Order) → order_words o ≡ codes "serve" ∷ rest → ⊥
     named (asked.check kind path) same = omega (arith, ap (letter 0) same)
+    named (asked.explain kind path pair) same = omega (arith, ap (letter 0) same)
     named (asked.make family size items) same = omega (arith, ap (letter 0) same)
     named (asked.tables path) same = omega (arith, ap (letter 0) same)
     named (asked.run script types) same = omega (arith, ap (letter 0) same)
@@ -314,11 +315,13 @@ no_task words rest is none (asked.work w) plain for = named w.seed (sym for.1 �
 no_task words rest is none (asked.serve s) plain for =
     none s (subst (λ (ws : List Text). SayServe ws s) (ap tail (sym for.1 ∙ is)) for.2)
 no_task words rest is none (asked.audit_database path) plain for = omega (arith, ap (letter 0) (sym for ∙ is))
+no_task words rest is none (asked.audit_ordered a) plain for = omega (arith, ap (letter 0) (sym for.are ∙ is))
 no_task words rest is none (asked.help t) plain for = helps t (sym for ∙ is)
   where
     helps : (t : Topic) → help_words t ≡ codes "serve" ∷ rest → ⊥
     helps topic.Program same = omega (arith, ap (letter 0) same)
     helps topic.Check same = omega (arith, ap (letter 0) same)
+    helps topic.Explain same = omega (arith, ap (letter 0) same)
     helps topic.Make same = omega (arith, ap (letter 0) same)
     helps topic.Tables same = omega (arith, ap (letter 0) same)
     helps topic.Run same = omega (arith, ap (letter 0) same)

@@ -1,6 +1,6 @@
 -- The subcommands: where the walk is after their operands, and which operands they take.
 use Rattle.std.proofs.Common.{◌≡◌, ◌∙◌, ◌++◌, ◌||◌, ap, arith, refl, subst, sym, true, false, zero, suc, Bool, List, [], ◌∷◌, Bor}
-use Rattle.std.specs.Prelude.{All, codes, fold, length, ◌<◌, if◌then◌else◌}
+use Rattle.std.specs.Prelude.{All, codes, None, Some, fold, length, ◌<◌, if◌then◌else◌}
 use Rattle.std.specs.List.{list_any}
 use Rattle.std.specs.Str.{bytes_eq}
 use Rattle.std.specs.Cmp.Lexicographic.{same_text}
@@ -17,13 +17,14 @@ use Rattle.type_table.specs.declared.kind.Kind.{Kind}
 use Rattle.type_table.specs.declared.kind.Kind.TheVariants.{Undo, Intentions, Escrow}
 use Rattle.command_words.specs.Program.{check_app, entry_of, item_rows, kind_words, make_app, row, store_rows}
 use Rattle.command_words.specs.Lines.{IsPlain}
-use Rattle.command_words.specs.Words.{Order, IsPlainOrder, HasPlainWords, IsWhole, Text, without_dashes, order_words}
+use Rattle.command_words.specs.Words.{Order, IsPlainOrder, HasPlainWords, IsWhole, Text, without_dashes, order_words, pair_words}
 use Rattle.command_words.specs.Words as asked
 use Rattle.command_words.proofs.Leaves.{last_added, last_joined, last_of, leaf_of, waits}
 use Rattle.command_words.proofs.OptionLemmas.{by_test, holding, never, or_else_none, refuses}
 use Rattle.command_words.proofs.LeafLemmas.{IsBetween, Passes, Place, Takes, at, both_none, end_of, ends, faults, held_at, operand_fault, operands_taken, plain_taken, start}
 use Rattle.command_words.proofs.FileLemmas.{AreFileWords, FileTook, file_answers, file_leaf, file_passes, file_place, file_takes}
 use Rattle.command_words.proofs.CreateLemmas.{AreCreateWords, CreateTook, create_answers, create_leaf, create_passes, create_place, create_takes}
+use Rattle.command_words.proofs.ExplainLemmas.{AreExplainWords, ExplainTook, all, explain_answers, explain_leaf, explain_passes, explain_place, explain_rows, explain_takes, pair, pair_passes}
 use Rattle.command_words.proofs.StoreLemmas.{AreStoreWords, StoreTook, store_answers, store_leaf, store_passes, store_place, store_takes}
 
 -- ---- `check KIND FILE`
@@ -187,6 +188,7 @@ make_ends listed family size (item ∷ items) = ap (row_faults listed) (items_se
 -- a subcommand
 pub data Command : Type 0 where
   check : Command
+  explain : Command
   make : Command
   tables : Command
   run : Command
@@ -196,6 +198,7 @@ pub data Command : Type 0 where
 -- its name
 abbrev pub name_of : Command → Text
 name_of check = codes "check"
+name_of explain = codes "explain"
 name_of make = codes "make"
 name_of tables = codes "tables"
 name_of run = codes "run"
@@ -205,6 +208,7 @@ name_of history = codes "history"
 -- the subcommand as it is built
 abbrev pub leaf : Bor (List (Bor Text)) → Command → Shape
 leaf listed check = check_leaf listed
+leaf listed explain = explain_leaf listed
 leaf listed make = make_leaf listed
 leaf listed tables = file_leaf listed (codes "tables")
 leaf listed run = store_leaf listed (codes "run")
@@ -214,6 +218,7 @@ leaf listed history = file_leaf listed (codes "history")
 -- where its walk is after these operands
 abbrev pub place : Command → List Text → Place
 place check = check_place
+place explain = explain_place
 place make = make_place
 place tables = file_place
 place run = store_place
@@ -223,6 +228,7 @@ place history = file_place
 -- what holds of operands that it took
 abbrev pub Took : Bor (List (Bor Text)) → Command → List Text → Type 0
 Took listed check = CheckTook listed
+Took listed explain = ExplainTook listed
 Took listed make = MakeTook
 Took listed tables = FileTook
 Took listed run = StoreTook
@@ -232,6 +238,7 @@ Took listed history = FileTook
 -- the subcommand by its operands
 takes : (listed : Bor (List (Bor Text))) (command : Command) → Takes (leaf listed command) (place command) (Took listed command)
 takes listed check = check_takes listed
+takes listed explain = explain_takes listed
 takes listed make = make_takes listed
 takes listed tables = file_takes listed (codes "tables")
 takes listed run = store_takes listed (codes "run")
@@ -241,6 +248,7 @@ takes listed history = file_takes listed (codes "history")
 -- its walk begins where each walk does
 begins : (command : Command) → place command [] ≡ start
 begins check = refl
+begins explain = refl
 begins make = refl
 begins tables = refl
 begins run = refl
@@ -255,6 +263,10 @@ pub record Answers (name : Text) (s : Shape) (h : Held) (operands : List Text) :
   pub whole : IsWhole asked
   pub words : name ∷ operands ≡ order_words asked
   pub entry : (name, finished s.rules h) ≡ entry_of asked
+
+-- the name and the rows of `explain`
+abbrev entry_at : Text → Text → List Text → Text × List Row
+entry_at kind path words = (codes "explain", explain_rows kind path words)
 
 -- the fault of a value of KIND, by the words of the kinds
 kind_fault : (listed : Bor (List (Bor Text))) (word : Text) → texts listed.now ≡ kind_words
@@ -298,6 +310,26 @@ check_answers listed are (kind ∷ path ∷ []) took none =
       entry = ap (λ (k : Text). (codes "check", row (codes "kind") k ∷ row (codes "path") path ∷ [])) named.1;
     }
 check_answers listed are (kind ∷ path ∷ more ∷ rest) took none = absurd took
+
+-- what operands of `explain` ask for
+explain_asked : (listed : Bor (List (Bor Text))) → texts listed.now ≡ kind_words → (s : Shape) (h : Held) (operands : List Text) → AreExplainWords listed (finished s.rules h) operands
+    → Answers (codes "explain") s h operands
+explain_asked listed are s h _ (all kind path took entry) =
+    let named = named_kind listed kind are took in
+    record {
+      asked = asked.explain named.0 path None;
+      whole = tt;
+      words = ap (λ (k : Text). codes "explain" ∷ k ∷ path ∷ []) named.1;
+      entry = ap (λ (rows : List Row). (codes "explain", rows)) entry ∙ ap (λ (k : Text). entry_at k path []) named.1;
+    }
+explain_asked listed are s h _ (pair kind path p q took entry) =
+    let named = named_kind listed kind are took in
+    record {
+      asked = asked.explain named.0 path (Some (p, q));
+      whole = tt;
+      words = ap (λ (k : Text). codes "explain" ∷ k ∷ path ∷ p ∷ q ∷ []) named.1;
+      entry = ap (λ (rows : List Row). (codes "explain", rows)) entry ∙ ap (λ (k : Text). entry_at k path (p ∷ q ∷ [])) named.1;
+    }
 
 -- operands of `make` that come to no fault are a family, a size and items
 make_answers : (listed : Bor (List (Bor Text))) (operands : List Text)
@@ -356,6 +388,7 @@ create_asked s h operands are = record {
 answers : (listed : Bor (List (Bor Text))) → texts listed.now ≡ kind_words → (command : Command) (operands : List Text) → Took listed command operands
     → ends (leaf listed command) (held_at (place command operands)) ≡ [] → Answers (name_of command) (leaf listed command) (held_at (place command operands)) operands
 answers listed are check operands took none = check_answers listed are operands took none
+answers listed are explain operands took none = explain_asked listed are _ _ operands (explain_answers listed operands took none)
 answers listed are make operands took none = make_answers listed operands none
 answers listed are tables operands took none =
     file_asked (codes "tables") _ _ operands asked.tables (λ _. tt) (λ _. refl) (λ _. refl) (file_answers listed (codes "tables") operands took none)
@@ -379,6 +412,7 @@ words_answered listed are command rest none =
 -- the subcommand of what is asked for
 abbrev pub command_of : Order → Command
 command_of (asked.check kind path) = check
+command_of (asked.explain kind path words) = explain
 command_of (asked.make family size items) = make
 command_of (asked.tables path) = tables
 command_of (asked.run script types) = run
@@ -388,6 +422,7 @@ command_of (asked.history path) = history
 -- and its operands
 abbrev pub operands_of : Order → List Text
 operands_of (asked.check kind path) = kind_word kind ∷ path ∷ []
+operands_of (asked.explain kind path words) = kind_word kind ∷ path ∷ pair_words words
 operands_of (asked.make family size items) = family ∷ size ∷ items
 operands_of (asked.tables path) = path ∷ []
 operands_of (asked.run script types) = script ∷ types
@@ -424,6 +459,8 @@ all_pass : (listed : Bor (List (Bor Text))) → texts listed.now ≡ kind_words 
 unfolding clap_on_literals
 all_pass listed are (asked.check kind path) whole =
     (refl, (both_none (value_kinds false (parser.Names listed) (kind_word kind)) [] (offered listed kind are) refl, refl))
+all_pass listed are (asked.explain kind path None) whole = explain_passes listed (kind_word kind) path (offered listed kind are)
+all_pass listed are (asked.explain kind path (Some words)) whole = pair_passes listed (kind_word kind) path words.0 words.1 (offered listed kind are)
 all_pass listed are (asked.make family size items) whole = (refl, (refl, items_pass listed family size [] items))
 all_pass listed are (asked.tables path) whole = file_passes listed (codes "tables") path
 all_pass listed are (asked.run script []) whole = absurd (omega (arith, whole))
@@ -435,6 +472,8 @@ all_pass listed are (asked.history path) whole = file_passes listed (codes "hist
 -- where plain words are asked for, the operands are plain
 all_plain : (a : Order) → HasPlainWords a → All IsPlain (operands_of a)
 all_plain (asked.check kind path) plain = all_with IsPlain (kind_word kind) (path ∷ []) (plain_kind kind) (all_with IsPlain path [] plain (all_of_none IsPlain))
+all_plain (asked.explain kind path words) plain =
+    all_with IsPlain (kind_word kind) (path ∷ pair_words words) (plain_kind kind) (all_with IsPlain path (pair_words words) plain.0 plain.1)
 all_plain (asked.make family size items) plain = all_with IsPlain family (size ∷ items) plain.0 (all_with IsPlain size items plain.1 plain.2)
 all_plain (asked.tables path) plain = all_with IsPlain path [] plain (all_of_none IsPlain)
 all_plain (asked.run script types) plain = all_with IsPlain script types plain.0 plain.1

@@ -2,13 +2,14 @@
 use Rattle.std.specs.Prelude.{◌≡◌, ◌-◌, length, slice_index}
 use Rattle.command_words.specs.Words.{Text}
 use Rattle.command_words.specs.declared.task.Topic.{Topic}
-use Rattle.command_words.specs.declared.task.Topic.TheVariants.{Program, Check, Make, Tables, Run, Audit, Work, Stress, Create, Serve, History, Help, Faults}
-use Rattle.command_words.specs.declared.help.TheConstants.{AUDIT, CHECK, CREATE, FAULTS, HELP, HISTORY, MAKE, PROGRAM, RUN, SERVE, STRESS, TABLES, VERSION, WORK}
+use Rattle.command_words.specs.declared.task.Topic.TheVariants.{Program, Check, Explain, Make, Tables, Run, Audit, Work, Stress, Create, Serve, History, Help, Faults}
+use Rattle.command_words.specs.declared.help.TheConstants.{AUDIT, CHECK, CREATE, EXPLAIN, FAULTS, HELP, HISTORY, MAKE, PROGRAM, RUN, SERVE, STRESS, TABLES, VERSION, WORK}
 
 -- the text of help on a topic
 abbrev pub text_of_topic : Topic → Text
 text_of_topic Program = PROGRAM.now
 text_of_topic Check = CHECK.now
+text_of_topic Explain = EXPLAIN.now
 text_of_topic Make = MAKE.now
 text_of_topic Tables = TABLES.now
 text_of_topic Run = RUN.now

@@ -1,4 +1,5 @@
 pub mod Lines
+pub mod Ordered
 pub mod Words
 pub mod Program
 pub mod Help

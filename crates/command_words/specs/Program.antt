@@ -48,10 +48,21 @@ items_rule = record (new_rule (codes "items")) { action = Some Append; value_nam
 abbrev pub types_rule : Rule
 types_rule = record (wanted_rule (codes "types")) { action = Some Append }
 
+-- P and Q, both or neither
+abbrev pub pair_rule : Rule
+pair_rule = record (new_rule (codes "pair")) { value_names = 2 }
+
+-- a command over a type file and a kind, as `check KIND FILE`
+abbrev pub kind_app : Text → ValueParser → App
+kind_app name kinds = with_rule (with_rule (new_app name) (kind_rule kinds)) (wanted_rule (codes "path"))
+
 -- `check KIND FILE`
 abbrev pub check_app : ValueParser → App
-check_app kinds =
-    with_rule (with_rule (new_app (codes "check")) (kind_rule kinds)) (wanted_rule (codes "path"))
+check_app kinds = kind_app (codes "check") kinds
+
+-- `explain KIND FILE [P Q]`
+abbrev pub explain_app : ValueParser → App
+explain_app kinds = with_rule (kind_app (codes "explain") kinds) pair_rule
 
 -- `make FAMILY SIZE ITEM...`
 abbrev pub make_app : App
@@ -124,8 +135,8 @@ bare_program = on_top (λ top. record top {
 
 -- with its commands over types
 abbrev pub type_program : ValueParser → App
-type_program kinds = with_subcommand (with_subcommand (with_subcommand bare_program
-    (check_app kinds).top) make_app.top) (file_app (codes "tables")).top
+type_program kinds = with_subcommand (with_subcommand (with_subcommand (with_subcommand bare_program
+    (check_app kinds).top) (explain_app kinds).top) make_app.top) (file_app (codes "tables")).top
 
 -- and with those over scripts, histories and jobs
 abbrev pub script_program : ValueParser → App
@@ -185,6 +196,8 @@ store_rows path types = row (codes "path") path ∷ list_rows (codes "types") ty
 abbrev pub entry_of : Order → Text × List Row
 entry_of (asked.check kind path) =
     (codes "check", row (codes "kind") (kind_word kind) ∷ row (codes "path") path ∷ [])
+entry_of (asked.explain kind path pair) =
+    (codes "explain", row (codes "kind") (kind_word kind) ∷ row (codes "path") path ∷ list_rows (codes "pair") (asked.pair_words pair))
 entry_of (asked.make family size items) =
     (codes "make", row (codes "family") family ∷ row (codes "size") size ∷ item_rows items)
 entry_of (asked.tables path) = (codes "tables", row (codes "path") path ∷ [])

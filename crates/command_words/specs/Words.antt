@@ -1,6 +1,6 @@
 -- What the words of the command line say.
 use Rattle.std.specs.Borrow.{Bor}
-use Rattle.std.specs.Prelude.{◌≡◌, ◌≢◌, ◌⊎◌, ℕ, ◌<◌, length, List, [], ◌∷◌, Some, None, option_map, ⊤, All, codes, if◌then◌else◌}
+use Rattle.std.specs.Prelude.{◌≡◌, ◌≢◌, ◌⊎◌, ℕ, ◌<◌, length, List, [], ◌∷◌, Option, Some, None, option_map, ⊤, All, codes, if◌then◌else◌}
 use Rattle.std.specs.Str.{bytes_eq}
 use Rattle.clap.specs.Walk.{texts}
 use Rattle.type_table.specs.declared.kind.Kind.{Kind}
@@ -12,6 +12,7 @@ use Rattle.command_words.specs.declared.task.Topic.TheVariants as topic
 use Rattle.command_words.specs.declared.task.WordFault.{WordFault}
 use Rattle.command_words.specs.declared.task.WordFault.TheVariants.{Usage, NoMemory}
 use Rattle.command_words.specs.Lines.{AreAuditWords, AreWorkWords, Audit, IsPlain, IsWholeAudit, IsWholeWork, Work}
+use Rattle.command_words.specs.Ordered.{AreOrderedWords, Ordered}
 use Rattle.command_words.specs.Serve.{AreServeWords, Serve}
 
 abbrev pub Text : Type 0
@@ -21,6 +22,8 @@ Text = List ℕ
 pub data Order : Type 0 where
   -- `check KIND FILE`
   check : Kind → Text → Order
+  -- `explain KIND FILE [P Q]`
+  explain : Kind → Text → Option (Text × Text) → Order
   -- `make FAMILY SIZE ITEM...`
   make : Text → Text → List Text → Order
   -- `tables FILE`
@@ -44,14 +47,22 @@ pub data Asked : Type 0 where
   serve : Serve → Asked
   -- the path of the store whose history is to be audited
   audit_database : Text → Asked
+  -- the history that is to be audited in an order
+  audit_ordered : Ordered → Asked
   -- a text of help
   help : Topic → Asked
   -- the version
   version : Asked
 
+-- the words of a pair, where one is asked for
+abbrev pub pair_words : Option (Text × Text) → List Text
+pair_words None = []
+pair_words (Some pair) = pair.0 ∷ pair.1 ∷ []
+
 -- the words of a command and its operands
 abbrev pub order_words : Order → List Text
 order_words (check kind path) = codes "check" ∷ kind_word kind ∷ path ∷ []
+order_words (explain kind path pair) = codes "explain" ∷ kind_word kind ∷ path ∷ pair_words pair
 order_words (make family size items) = codes "make" ∷ family ∷ size ∷ items
 order_words (tables path) = codes "tables" ∷ path ∷ []
 order_words (run script types) = codes "run" ∷ script ∷ types
@@ -68,6 +79,7 @@ IsWhole o = ⊤
 abbrev pub help_words : Topic → List Text
 help_words topic.Program = codes "help" ∷ []
 help_words topic.Check = codes "help" ∷ codes "check" ∷ []
+help_words topic.Explain = codes "help" ∷ codes "explain" ∷ []
 help_words topic.Make = codes "help" ∷ codes "make" ∷ []
 help_words topic.Tables = codes "help" ∷ codes "tables" ∷ []
 help_words topic.Run = codes "help" ∷ codes "run" ∷ []
@@ -87,17 +99,25 @@ AreFor words (audit a) = AreAuditWords words a
 AreFor words (work w) = AreWorkWords words w
 AreFor words (serve s) = AreServeWords words s
 AreFor words (audit_database path) = words ≡ codes "audit" ∷ codes "--database" ∷ path ∷ []
+AreFor words (audit_ordered a) = AreOrderedWords words a
 AreFor words (help topic) = words ≡ help_words topic
 AreFor words version = (words ≡ codes "--version" ∷ []) ⊎ (words ≡ codes "-V" ∷ [])
+
+-- the texts of two words
+abbrev pub pair_of : Bor Text × Bor Text → Text × Text
+pair_of words = (words.0.now, words.1.now)
 
 -- what a task asks for
 abbrev pub asked_of : Task → Asked
 asked_of (task.Check kind path) = order (check kind path.now)
+asked_of (task.Explain kind path pair) = order (explain kind path.now (option_map pair_of pair))
 asked_of (task.Make family size items) = order (make family.now size.now (texts items.items))
 asked_of (task.Tables path) = order (tables path.now)
 asked_of (task.Run script types) = order (run script.now (texts types.items))
 asked_of (task.Audit first later types) =
     audit (record { history = first.now; later = texts later.items; types = texts types.items })
+asked_of (task.AuditOrdered ts path types) =
+    audit_ordered (record { order = ts.items; history = path.now; types = texts types.items })
 asked_of (task.Work jobs types workers tries) =
     work (record { jobs = jobs.now; types = texts types.items; workers = workers; tries = tries; seed = None })
 asked_of (task.Stress jobs types workers tries seed) =
@@ -129,6 +149,7 @@ AreWordsOf words task = AskFor words (asked_of task)
 -- none of the words that a user chooses begins with a hyphen
 abbrev pub HasPlainWords : Order → Type 0
 HasPlainWords (check kind path) = IsPlain path
+HasPlainWords (explain kind path pair) = IsPlain path × All IsPlain (pair_words pair)
 HasPlainWords (make family size items) = IsPlain family × IsPlain size × All IsPlain items
 HasPlainWords (tables path) = IsPlain path
 HasPlainWords (run script types) = IsPlain script × All IsPlain types
@@ -158,10 +179,14 @@ AsksPlainly asked = ⊤
 abbrev pub AreOfNoServe : List Text → Type 0
 AreOfNoServe words = (rest : List Text) → words ≢ codes "serve" ∷ rest
 
--- the words ask for neither help nor version, nor for the audit of a store, nor to serve one: what else they ask for is read by `clap`
-abbrev pub AreLeftToClap : List Text → Type 0
-AreLeftToClap words =
+-- the words ask for neither help nor version, nor for the audit of a store, nor to serve one
+abbrev pub AreOfNoDirectTask : List Text → Type 0
+AreOfNoDirectTask words =
     ((topic : Topic) → words ≢ help_words topic) × ((path : Text) → ¬ (AreFor words (audit_database path))) × ¬ (AreFor words version) × AreOfNoServe words
+
+-- nor for an audit in an order: what else they ask for is read by `clap`
+abbrev pub AreLeftToClap : List Text → Type 0
+AreLeftToClap words = AreOfNoDirectTask words × ((a : Ordered) → ¬ (AreFor words (audit_ordered a)))
 
 -- the words are no task's that has plain words
 abbrev pub AreNoTask : List Text → Type 0

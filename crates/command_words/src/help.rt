@@ -16,11 +16,14 @@ Usage: colock COMMAND
 
 Commands:
   check KIND FILE            Check a type file for a kind of recovery.
+  explain KIND FILE [P Q]    Say why two operations exclude each other.
   make FAMILY SIZE ITEM...   Write the type file of a family of types.
   tables FILE                Write a type file with its tables made anew.
   run SCRIPT TYPE...         Run a script at a store, and audit its history.
   audit HISTORY [--then HISTORY]... TYPE...
                              Audit a history, and those that follow it.
+  audit --order T,T,.. HISTORY TYPE...
+                             Audit a history in an order of its transactions.
   audit --database DATABASE  Audit the history of the store in a file.
   work --workers N [--tries K] JOBS TYPE...
                              Run jobs in threads, and audit their history.
@@ -98,6 +101,61 @@ Status: 0 yes, 1 no, 2 a fault of the command line or of the file's text, 3 a
 file that can't be read, refused memory, or an output that failed.
 ";
 
+pub(crate) const EXPLAIN: &str = "\
+Say why two operations of a type exclude each other: what breaks where a pair
+isn't in the conflict table, and what mends the file.
+
+Usage: colock explain KIND FILE [P Q]
+
+KIND and FILE are as with colock check. P is a requested operation and Q one
+that another transaction holds; each is the number of an operation in the file,
+or CALL/REPLY. With them, only this pair is explained.
+
+The first line is that of colock check. Then, for undo and intentions:
+  row OP C..
+      For a requested operation, written CALL/REPLY, a letter for each held one:
+        N   Some run breaks, unless the pair is in the table.
+        F   It fails by this file's set or relation alone.
+        S   It fails in the stronger form alone, of which colock check says
+            strong; for undo.
+        U   It doesn't fail.
+      A small letter is that of a pair that isn't in the table, and a point
+      stands for a small u.
+  pair OP OP C
+      A requested and a held operation, and their letter if it is no point. The
+      lines after it, up to the next pair, are on this pair.
+  state S, lead OP.., tell OP..
+      At N and n: in state S the two can't change places. The operations after
+      lead lead there from the initial state; those after tell are legal after
+      the two in one order, and not in the other.
+  two spaces and a line of a history, up to end; fails T T T T
+      A history that shows it, and the order of its transactions in which it
+      isn't legal (colock audit --order).
+  mend conflict KIND P Q, mend reach S, mend drop reach S, mend equi S T
+      Lines that the file lacks, or has to drop, at n and f.
+
+What has an upper U, S or F may go, all of it together, and no run breaks; but
+without an S the yes is one-way, and without an F it is a no until the file is
+mended. An N may not go. The history is one that the locks admit; a store, which
+does the first legal operation of a call, may make no such history. With
+intentions the order that isn't legal is another than that of the commits:
+nothing is said of that one alone.
+
+For escrow, after a yes and after a no:
+  bounds OP LOW HIGH MOVE, bounds OP never
+      OP is legal from LOW to HIGH, and moves the number by MOVE; or nowhere.
+  gap OP LOW S HIGH
+      OP is legal at LOW and HIGH, and not at S between them.
+  moves OP LOW END S END
+      It leads from LOW and from S to these ends, at different distances.
+
+Example: colock explain undo examples/ctr2.type
+
+Status: 0 yes, 1 no, 2 a fault of the command line or of the file's text, or a P
+or Q that is no operation, 3 a file that can't be read, refused memory, or an
+output that failed.
+";
+
 pub(crate) const MAKE: &str = "\
 Write the type file of a family, with a relation and conflict tables that fit.
 
@@ -127,8 +185,8 @@ Usage: colock make FAMILY SIZE ITEM...
       the one that came first. A state for each row counts: with two ELEMENTs,
       CAPACITY is at most 9.
   seats COUNT
-      Seats 1 to COUNT. Each can be held (ok, or taken), released or booked by
-      whoever holds it, and cancelled once it is booked. How many are free can
+      Seats 1 to COUNT. Each can be held (ok, or taken), released or booked
+      while it is held, and cancelled once it is booked. How many are free can
       be asked. There is no ITEM, and with more than 6 seats it is too large.
 
 CAP, CAPACITY and COUNT are 1 to 1023. An AMOUNT is a number from 1 to CAP, and
@@ -208,6 +266,7 @@ Say whether the committed transactions of a history, run one after another in
 the order of their commits, give the same replies.
 
 Usage: colock audit HISTORY [--then HISTORY]... TYPE...
+       colock audit --order T,T,.. HISTORY TYPE...
        colock audit --database DATABASE
 
 HISTORY is the path of a history, as colock run writes it, and each TYPE that
@@ -219,6 +278,11 @@ Options, anywhere after audit and before any --:
                    the states that the ones before it end in. It may come any
                    number of times, and they follow in this order.
 
+After --order come all committed transactions, each once: they are run in this
+order in place of that of their commits. No T may come after a U that executed
+an operation after T's commit, unless it was struck: T precedes U. The words
+are in this order, and no path begins with a hyphen.
+
 DATABASE is the path of the file of a store. Its history is that which colock
 history writes, and is audited with the file's own types, from the states where
 the epoch began. The words are in this order, and DATABASE may be any word.
@@ -228,8 +292,9 @@ the epoch began. The words are in this order, and DATABASE may be any word.
   # audit no BadEvent AT
       No history has event AT, counted from 0, after those before it.
   # audit no IllegalOp I X J
-      Of the I-th committed transaction the J-th operation at object X isn't
-      legal after those before it, where both are counted from 0.
+      Of the I-th committed transaction, in the order of the commits or in that
+      of --order, the J-th operation at object X isn't legal after those before
+      it, where both are counted from 0 and struck operations don't count.
 
 Where there is more than one history, a transaction is written N.T, for
 transaction T of the N-th history, and an event N.AT, where histories and events
@@ -238,8 +303,8 @@ are counted from 0. The audit is one, and # serial X S is where the last ends.
 Example: colock audit examples/hasty.history examples/credit.type
 
 Status: 0 yes, 1 no, 2 a fault of the command line or of a text, no TYPE at a
-place, or a file that is no store's, 3 a file that can't be read, refused
-memory, or an output that failed.
+place, an order that may not be asked for, or a file that is no store's, 3 a
+file that can't be read, refused memory, or an output that failed.
 ";
 
 pub(crate) const WORK: &str = "\
@@ -402,8 +467,13 @@ What the faults on standard error mean.
       F isn't the place of one of the TYPEs, from 0.
   colock: FILE: not the objects of HISTORY
       A history after --then has other objects than the first.
+  colock: HISTORY: order: T not committed, T twice, T missing
+      After --order come all committed transactions, each once.
+  colock: HISTORY: order: T precedes U
+      After T's commit U executed an operation that no rollback struck, so T
+      comes before U.
   colock: BadParameter, colock: TooLarge
-      Of make: see colock help make.
+      Of make: see colock help make. Of explain: P or Q is no operation.
   colock: OBJECTS: has events
       The text given to create has more than objects.
   colock: DATABASE: not a store
@@ -441,7 +511,7 @@ KIND, by the first test that refuses the line:
   Missing        A line that has to come before it is missing; without an end,
                  it is the line after the last.
   OutOfRange     A number is too large or too small, or there are too many such
-                 lines: colock make and docs/formats.md have the limits.
+                 lines: colock help make and docs/formats.md have the limits.
   OutOfOrder     The numbers of step, reach, equi or conflict don't ascend.
   TwiceOp        An operation with this call and reply came before.
   NoMemory       Memory was refused here.
@@ -458,6 +528,7 @@ impl Topic {
         match self {
             Topic::Program => PROGRAM,
             Topic::Check => CHECK,
+            Topic::Explain => EXPLAIN,
             Topic::Make => MAKE,
             Topic::Tables => TABLES,
             Topic::Run => RUN,

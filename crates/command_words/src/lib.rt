@@ -2,6 +2,7 @@
 #![tactic(auto)]
 
 mod help;
+mod ordered;
 mod program;
 mod serve;
 mod task;

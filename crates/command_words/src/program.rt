@@ -1,8 +1,9 @@
 //! The commands of the program, as `clap` reads them.
 ghost use Rattle.std.specs.Prelude.{◌≡◌, IfOk};
 ghost use Rattle.clap.specs.Simple.{App, app_of, with_rule, with_subcommand};
-ghost use Rattle.clap.specs.Walk.{Rule};
-ghost use Rattle.command_words.specs.Program.{IsCommand, IsWord, ReadsKinds, audit_app, check_app, create_app, file_app, items_rule, kind_rule, make_app, program, script_program, seed_rule, store_app, stress_app, then_rule, tries_rule, type_program, types_rule, wanted_rule, work_app, workers_app, workers_rule};
+ghost use Rattle.clap.specs.Walk.{Rule, texts};
+ghost use Rattle.clap.specs.declared.builder.value_parser.ValueParser.TheVariants as parser;
+ghost use Rattle.command_words.specs.Program.{IsCommand, IsWord, ReadsKinds, audit_app, check_app, create_app, explain_app, file_app, items_rule, kind_app, kind_rule, kind_words, make_app, pair_rule, program, script_program, seed_rule, store_app, stress_app, then_rule, tries_rule, type_program, types_rule, wanted_rule, work_app, workers_app, workers_rule};
 
 use crate::Topic;
 use clap::{Arg, ArgAction, Command, value_parser};
@@ -10,6 +11,9 @@ use std::alloc::{AllocError, Global};
 
 /// The words of the kinds of recovery.
 static KINDS: [&str; 3] = ["undo", "intentions", "escrow"];
+
+/// What help calls a requested and a held operation.
+static PAIR: [&str; 2] = ["P", "Q"];
 
 /// The program with its commands, but for `serve`.
 pub(crate) fn program<'a>(alloc: Global) -> Result<Command<'a>, AllocError>
@@ -40,18 +44,33 @@ fn type_program<'a>(alloc: Global) -> Result<Command<'a>, AllocError>
         .no_binary_name(true)
         .subcommand_required(true)
         .bin_name("colock");
-    let with_check = with_command(bare, check_command(alloc));
-    let with_make = with_command(with_check, make_command(alloc));
+    let kinds = kind_words();
+    let with_check = with_command(bare, kind_command(alloc, "check", Topic::Check, kinds));
+    let with_explain = with_command(with_check, explain_command(alloc, kinds));
+    let with_make = with_command(with_explain, make_command(alloc));
     let tables = file_command(alloc, "tables", Topic::Tables, "FILE");
     with_command(with_make, tables)
 }
 
-fn check_command<'a>(alloc: Global) -> Result<Command<'a>, AllocError>
-    ensures { (kinds : _) × ReadsKinds kinds × IfOk result (IsCommand (check_app kinds)) }
+/// A command over a type file and a kind, which has one of these words.
+fn kind_command<'a>(
+    alloc: Global,
+    name: &'a str,
+    topic: Topic,
+    kinds: &'a [&'a str],
+) -> Result<Command<'a>, AllocError>
+    ensures { IfOk result (IsCommand (kind_app name.entry.now (parser.Names kinds.entry))) }
 {
-    let bare = Command::new(alloc, "check").override_help(Topic::Check.text());
-    let with_kind = with_word(Ok(bare), kind_arg(alloc));
+    let bare = Command::new(alloc, name).override_help(topic.text());
+    let with_kind = with_word(Ok(bare), kind_arg(alloc, kinds));
     with_word(with_kind, wanted(alloc, "path", "FILE"))
+}
+
+fn explain_command<'a>(alloc: Global, kinds: &'a [&'a str]) -> Result<Command<'a>, AllocError>
+    ensures { IfOk result (IsCommand (explain_app (parser.Names kinds.entry))) }
+{
+    let bare = kind_command(alloc, "explain", Topic::Explain, kinds);
+    with_word(bare, pair_arg(alloc))
 }
 
 fn make_command<'a>(alloc: Global) -> Result<Command<'a>, AllocError>
@@ -160,10 +179,23 @@ fn wanted<'a>(alloc: Global, id: &'a str, shown: &'a str) -> Arg<'a>
     Arg::new(alloc, id).required(true).value_name(shown)
 }
 
-fn kind_arg<'a>(alloc: Global) -> Arg<'a>
-    ensures { (kinds : _) × ReadsKinds kinds × IsWord (kind_rule kinds) result }
+/// The words of the kinds of recovery.
+fn kind_words<'a>() -> &'a [&'a str]
+    ensures { texts result.now ≡ kind_words }
 {
-    wanted(alloc, "kind", "KIND").value_parser(KINDS.as_slice())
+    KINDS.as_slice()
+}
+
+fn kind_arg<'a>(alloc: Global, kinds: &'a [&'a str]) -> Arg<'a>
+    ensures { IsWord (kind_rule (parser.Names kinds.entry)) result }
+{
+    wanted(alloc, "kind", "KIND").value_parser(kinds)
+}
+
+fn pair_arg<'a>(alloc: Global) -> Arg<'a>
+    ensures { IsWord pair_rule result }
+{
+    Arg::new(alloc, "pair").value_names(PAIR.as_slice())
 }
 
 fn items_arg<'a>(alloc: Global) -> Arg<'a>

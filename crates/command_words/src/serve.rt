@@ -166,7 +166,7 @@ fn with_drain<'a>(seconds: &str, parts: Option<Parts<'a>>) -> Option<Parts<'a>>
 }
 
 /// The number of a text.
-fn number_of(text: &str) -> Option<u32>
+pub(crate) fn number_of(text: &str) -> Option<u32>
     ensures number { IfSome result (IsNumber text.now) }
     ensures other { IfNone result ((n : ℕ) → n < 2 ^ 32 → ¬ (IsNumber text.now n)) }
 {
@@ -197,7 +197,7 @@ fn with_database<'a>(path: &'a str, parts: Option<Parts<'a>>) -> Option<Parts<'a
 }
 
 /// Whether the word begins with no hyphen.
-fn is_plain(word: &str) -> bool
+pub(crate) fn is_plain(word: &str) -> bool
     ensures plain { result ≡ true → IsPlain word.now }
     ensures other { result ≡ false → ¬ (IsPlain word.now) }
 {

@@ -13,6 +13,15 @@ pub enum Task<'a> {
         /// The path of the type file.
         path: &'a str,
     },
+    /// Why do two operations of the type exclude each other?
+    Explain {
+        /// The kind of recovery.
+        kind: Kind,
+        /// The path of the type file.
+        path: &'a str,
+        /// The requested and the held operation, where this pair alone is asked for.
+        pair: Option<(&'a str, &'a str)>,
+    },
     /// What is the type file of a family at these parameters?
     Make {
         /// The name of the family.
@@ -41,6 +50,15 @@ pub enum Task<'a> {
         history: &'a str,
         /// The paths of the histories that follow it, in their order.
         later: Vec<&'a str>,
+        /// The paths of the type files, by whose places a history names its objects' types.
+        types: Vec<&'a str>,
+    },
+    /// Is a history legal in this order of its committed transactions?
+    AuditOrdered {
+        /// The numbers of its committed transactions, in this order.
+        order: Vec<u32>,
+        /// The path of the history.
+        history: &'a str,
         /// The paths of the type files, by whose places a history names its objects' types.
         types: Vec<&'a str>,
     },
@@ -114,6 +132,8 @@ pub enum Topic {
     Program,
     /// The command `check`.
     Check,
+    /// The command `explain`.
+    Explain,
     /// The command `make`.
     Make,
     /// The command `tables`.

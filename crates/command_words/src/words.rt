@@ -1,15 +1,17 @@
 //! The words of the command line.
-ghost use Rattle.std.specs.Prelude.{◌≡◌, ◌≢◌, ◌<◌, ℕ, List, [], ◌∷◌, None, Some, IfOk, IfErr, IfNone, IfSome, IsSome, codes};
+ghost use Rattle.std.specs.Prelude.{◌≡◌, ◌≢◌, ◌<◌, ℕ, List, [], ◌∷◌, Option, None, Some, option_map, unwrap_or, IfOk, IfErr, IfNone, IfSome, IsSome, codes};
 ghost use Rattle.clap.specs.Words.{found_of, kind_of, rows_of};
-ghost use Rattle.clap.specs.Walk.{first_of, texts};
+ghost use Rattle.clap.specs.Walk.{all_of, first_of, texts};
 ghost use Rattle.clap.specs.declared.parser.matches.ArgMatches.{ArgMatches};
 ghost use Rattle.command_words.specs.Program.{AskSomething, Asks, HasAudit, HasNumber, HasRows, HasStoreRows, HasWork, Parses};
 ghost use Rattle.command_words.specs.declared.task.Topic.{Topic};
+ghost use Rattle.type_table.specs.Kind.{kind_word};
 ghost use Rattle.type_table.specs.declared.kind.Kind.{Kind};
-ghost use Rattle.command_words.specs.Words.{AreLeftToClap, AreNoTask, AreOfNoServe, AreWordsOf, Asked, OnUsage, Text, asked_of, help_words};
+ghost use Rattle.command_words.specs.Words.{AreLeftToClap, AreNoTask, AreOfNoDirectTask, AreOfNoServe, AreWordsOf, Asked, OnUsage, Text, asked_of, help_words, pair_of, pair_words};
 ghost use Rattle.command_words.specs.Words as asked;
 ghost use Rattle.command_words.specs.Lines.{Audit, Work};
 
+use crate::ordered::read_ordered;
 use crate::program::program;
 use crate::serve::read_serve;
 use crate::{Task, Topic, WordFault};
@@ -21,9 +23,9 @@ use type_table::Kind;
 /// Reads the words after the program's name. At `Ok` they are the task's, and those of a command may
 /// have one `--` among them. The options of `audit`, `work` and `stress` may be anywhere before it, in
 /// either form. A fault of the command line comes of no words of a task, where none of the paths,
-/// FAMILY, SIZE and the ITEMs begins with a hyphen; `--help` among the words is such a fault. Which
+/// FAMILY, SIZE, the ITEMs, P and Q begins with a hyphen; `--help` among the words is such a fault. Which
 /// of the two faults comes is `clap`'s, but for `serve`. After `audit --database` comes one word, which
-/// is the path whatever it is.
+/// is the path whatever it is; after `audit --order` come the transactions, HISTORY and the TYPEs, and no option.
 pub fn read_words<'a>(alloc: Global, words: &'a [&'a str]) -> Result<Task<'a>, WordFault>
     ensures taken { IfOk result (AreWordsOf (texts words.now)) }
     ensures refused { IfErr result (λ fault. OnUsage fault (AreNoTask (texts words.now))) }
@@ -40,17 +42,21 @@ fn read_other<'a>(alloc: Global, words: &'a [&'a str]) -> Result<Task<'a>, WordF
     ensures taken { IfOk result (AreWordsOf (texts words.now)) }
     ensures refused { IfErr result (λ fault. OnUsage fault (AreNoTask (texts words.now))) }
 {
-    match direct_task(words) {
-        Some(task) => Ok(task),
-        None => read_order(alloc, words),
+    if let Some(task) = direct_task(words) {
+        return Ok(task);
+    }
+    match read_ordered(alloc, words) {
+        Ok(Some(task)) => Ok(task),
+        Ok(None) => read_order(alloc, words),
+        Err(AllocError) => Err(WordFault::NoMemory),
     }
 }
 
-/// The task of words that aren't left to `clap`.
+/// The task of words that ask for help, for the version or for the audit of a store.
 fn direct_task<'a>(words: &[&'a str]) -> Option<Task<'a>>
     requires { AreOfNoServe (texts words.now) }
     ensures taken { IfSome result (AreWordsOf (texts words.now)) }
-    ensures other { IfNone result (AreLeftToClap (texts words.now)) }
+    ensures other { IfNone result (AreOfNoDirectTask (texts words.now)) }
 {
     match *words {
         ["help"] => Some(help_on(Topic::Program)),
@@ -68,6 +74,7 @@ fn topic_of(name: &str) -> Option<Topic>
 {
     match name {
         "check" => Some(Topic::Check),
+        "explain" => Some(Topic::Explain),
         "make" => Some(Topic::Make),
         "tables" => Some(Topic::Tables),
         "run" => Some(Topic::Run),
@@ -119,6 +126,7 @@ fn task_of<'a>(alloc: Global, matches: &ArgMatches<'a>) -> Result<Task<'a>, Allo
     let (name, values) = matches.subcommand().unwrap();
     match name {
         "check" => Ok(check_task(values)),
+        "explain" => Ok(explain_task(values)),
         "make" => make_task(alloc, values),
         "tables" => Ok(tables_task(values)),
         "run" => run_task(alloc, values),
@@ -136,8 +144,20 @@ fn check_task<'a>(values: &ArgMatches<'a>) -> Task<'a>
         → asked_of result ≡ asked.order (asked.check kind path) }
 {
     Task::Check {
-        kind: Kind::of_word(values.get_str("kind").unwrap().as_bytes()).unwrap(),
-        path: values.get_str("path").unwrap(),
+        kind: asked_kind(values),
+        path: file_word(values),
+    }
+}
+
+fn explain_task<'a>(values: &ArgMatches<'a>) -> Task<'a>
+    requires { (kind : Kind) × (path : Text) × (pair : Option (Text × Text)) × HasRows values.now (asked.explain kind path pair) }
+    ensures { (kind : Kind) (path : Text) (pair : Option (Text × Text)) → HasRows values.now (asked.explain kind path pair)
+        → asked_of result ≡ asked.order (asked.explain kind path pair) }
+{
+    Task::Explain {
+        kind: asked_kind(values),
+        path: file_word(values),
+        pair: asked_pair(values),
     }
 }
 
@@ -240,6 +260,27 @@ fn small_number(values: &ArgMatches<'_>, id: &str) -> u8
     ensures { (n : ℕ) → HasNumber (rows_of (found_of values.now)) id.now n → result ≡ n }
 {
     values.get_one(id).unwrap()
+}
+
+/// The kind of recovery that a command is asked about.
+fn asked_kind(values: &ArgMatches<'_>) -> Kind
+    requires { (kind : Kind) × (first_of (codes "kind") (rows_of (found_of values.now)) ≡ Some (kind_word kind)) }
+    ensures { (kind : Kind) → first_of (codes "kind") (rows_of (found_of values.now)) ≡ Some (kind_word kind) → result ≡ kind }
+{
+    Kind::of_word(values.get_str("kind").unwrap().as_bytes()).unwrap()
+}
+
+/// The words of the requested and the held operation, where they are given.
+fn asked_pair<'a>(values: &ArgMatches<'a>) -> Option<(&'a str, &'a str)>
+    ensures { (pair : Option (Text × Text)) → unwrap_or (all_of (codes "pair") (rows_of (found_of values.now))) [] ≡ pair_words pair
+        → option_map pair_of result ≡ pair }
+{
+    let words = values.get_strs("pair")?;
+    if words.len() == 2 {
+        Some((words[0], words[1]))
+    } else {
+        None
+    }
 }
 
 /// The first file of a command.

@@ -6,7 +6,7 @@ use Rattle.std.specs.Io.KnownBytes.{Appends, append_known}
 use Rattle.command_files.specs.Answers.{ComesOr, Refuses}
 use Rattle.command_files.specs.Status.{is_input, status_at, status_of}
 use Rattle.command_files.specs.declared.fault.Fault.{Fault}
-use Rattle.command_files.specs.declared.fault.Fault.TheVariants.{Usage, Text, NoType, OtherObjects, HasEvents, BadParameter, TooLarge, CannotRead, Database, NoStore, NoMemory, Output}
+use Rattle.command_files.specs.declared.fault.Fault.TheVariants.{Usage, Text, NoType, OtherObjects, Order, HasEvents, BadParameter, TooLarge, CannotRead, Database, NoStore, NoMemory, Output}
 use Rattle.command_files.specs.declared.status.Status.{Status}
 use Rattle.command_files.specs.declared.status.Status.TheVariants.{Yes, No, BadInput, Failed}
 use Rattle.command_files.specs.declared.status.Verdict.{Verdict}
@@ -67,12 +67,14 @@ begun_nothing old gathered new nothing more part =
 -- what is at the path of a database may be no store
 may_be_amiss : (given : Shown) (task : Task) → IsToServe task → IsAmiss given task
 may_be_amiss given (task.Check kind path) is = absurd is
+may_be_amiss given (task.Explain kind path pair) is = absurd is
 may_be_amiss given (task.Make family size items) is = absurd is
 may_be_amiss given (task.Tables path) is = absurd is
 may_be_amiss given (task.Run script types) is = absurd is
 may_be_amiss given (task.Work jobs types workers tries) is = absurd is
 may_be_amiss given (task.Stress jobs types workers tries seed) is = absurd is
 may_be_amiss given (task.Audit history later types) is = absurd is
+may_be_amiss given (task.AuditOrdered order history types) is = absurd is
 may_be_amiss given (task.Create database objects types) is = absurd is
 may_be_amiss given (task.Serve database fast archive drain) is = tt
 may_be_amiss given (task.History database) is = tt
@@ -85,12 +87,14 @@ may_be_amiss given task.Version is = absurd is
 -- what is said of a task that has an answer
 unchanged : (given : Shown) (task : Task) (err : Option (List ℕ)) → Says given task err err
 unchanged given (task.Check kind path) err = refl
+unchanged given (task.Explain kind path pair) err = refl
 unchanged given (task.Make family size items) err = refl
 unchanged given (task.Tables path) err = refl
 unchanged given (task.Run script types) err = refl
 unchanged given (task.Work jobs types workers tries) err = refl
 unchanged given (task.Stress jobs types workers tries seed) err = refl
 unchanged given (task.Audit history later types) err = refl
+unchanged given (task.AuditOrdered order history types) err = refl
 unchanged given (task.Create database objects types) err = refl
 unchanged given (task.Serve database fast archive drain) err = nothing_said given.clean (given.databases database.now) database.now err
 unchanged given (task.History database) err = refl
@@ -100,12 +104,14 @@ unchanged given task.Version err = refl
 
 of_serving : (given : Shown) (task : Task) (v : Verdict) (err new_err : Option (List ℕ)) → SaysOfServing given task (Ok v) err new_err → Says given task err new_err
 of_serving given (task.Check kind path) v err new_err says = absurd says
+of_serving given (task.Explain kind path pair) v err new_err says = absurd says
 of_serving given (task.Make family size items) v err new_err says = absurd says
 of_serving given (task.Tables path) v err new_err says = absurd says
 of_serving given (task.Run script types) v err new_err says = absurd says
 of_serving given (task.Work jobs types workers tries) v err new_err says = absurd says
 of_serving given (task.Stress jobs types workers tries seed) v err new_err says = absurd says
 of_serving given (task.Audit history later types) v err new_err says = absurd says
+of_serving given (task.AuditOrdered order history types) v err new_err says = absurd says
 of_serving given (task.Create database objects types) v err new_err says = absurd says
 of_serving given (task.Serve database fast archive drain) v err new_err says = says
 of_serving given (task.History database) v err new_err says = absurd says
@@ -145,6 +151,7 @@ module _ (old gathered new err new_err : Option (List ℕ)) (status : Status) (n
   amiss_or_failed bad (Text path fault) refused which = ⊎_elim (λ is. inl (is, refused)) (λ is. inr is) which
   amiss_or_failed bad (NoType path x place) refused which = ⊎_elim (λ is. inl (is, refused)) (λ is. inr is) which
   amiss_or_failed bad (OtherObjects path first) refused which = ⊎_elim (λ is. inl (is, refused)) (λ is. inr is) which
+  amiss_or_failed bad (Order path fault) refused which = ⊎_elim (λ is. inl (is, refused)) (λ is. inr is) which
   amiss_or_failed bad (HasEvents path) refused which = ⊎_elim (λ is. inl (is, refused)) (λ is. inr is) which
   amiss_or_failed bad BadParameter refused which = ⊎_elim (λ is. inl (is, refused)) (λ is. inr is) which
   amiss_or_failed bad TooLarge refused which = ⊎_elim (λ is. inl (is, refused)) (λ is. inr is) which
@@ -222,6 +229,7 @@ module _ (old gathered new err new_err : Option (List ℕ)) (status : Status) (n
     does (Err (Text path fault)) says c ended = amiss (Text path fault) refl c ended
     does (Err (NoType path x place)) says c ended = amiss (NoType path x place) refl c ended
     does (Err (OtherObjects path first)) says c ended = amiss (OtherObjects path first) refl c ended
+    does (Err (Order path fault)) says c ended = amiss (Order path fault) refl c ended
     does (Err (HasEvents path)) says c ended = amiss (HasEvents path) refl c ended
     does (Err BadParameter) says c ended = amiss BadParameter refl c ended
     does (Err TooLarge) says c ended = amiss TooLarge refl c ended

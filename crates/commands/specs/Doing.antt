@@ -12,7 +12,7 @@ use Rattle.command_files.specs.declared.status.Verdict.TheVariants as verdict
 use Rattle.command_words.specs.Help.{text_of_topic, version_text}
 use Rattle.command_words.specs.Words.{AreNoTask, AreWordsOf}
 use Rattle.command_words.specs.declared.task.Task.{Task}
-use Rattle.command_words.specs.declared.task.Task.TheVariants.{Check, Make, Tables, Run, Work, Stress, Audit, Create, Serve, History, AuditDatabase, Help, Version}
+use Rattle.command_words.specs.declared.task.Task.TheVariants.{Check, Explain, Make, Tables, Run, Work, Stress, Audit, AuditOrdered, Create, Serve, History, AuditDatabase, Help, Version}
 use Rattle.database_commands.specs.Audited.{AuditsDatabase}
 use Rattle.database_commands.specs.Created.{CreatesStore, HasCreateFault}
 use Rattle.database_commands.specs.History.{TellsHistory}
@@ -20,9 +20,11 @@ use Rattle.serve_command.specs.Found.{SaysFound}
 use Rattle.serve_command.specs.Served.{BeginsServing, ComesOfServing, ServesDatabase}
 use Rattle.sqlite_trees.specs.Tree.{Trees}
 use Rattle.store_commands.specs.Audited.{AuditsFiles, HasAuditFault}
+use Rattle.store_commands.specs.Ordered.{AuditsOrdered, HasOrderedFault}
 use Rattle.store_commands.specs.Runs.{BeginsRunFile, HasRunFault, RunsFile, WritesRunFile}
 use Rattle.store_commands.specs.Works.{BeginsWorkFile, HasWorkFault, WorksFile, WritesWorkFile}
 use Rattle.store_files.specs.Types.{Held}
+use Rattle.type_commands.specs.Explain.{CannotBeExplained, ExplainsFile, words_as}
 use Rattle.type_commands.specs.Made.{CannotBeMade, MakesFamily, MakesTablesOf}
 use Rattle.type_commands.specs.Request.{texts, wanted_of}
 use Rattle.type_commands.specs.Verdict.{ChecksFile}
@@ -43,12 +45,14 @@ shown files databases made clean input rest = record { files = files; databases 
 -- the texts that answer a task, with a yes or with a no, by what is given
 abbrev pub Answer : Shown → Task → Answers
 Answer given (Check kind path) = ChecksFile (given.files path.now) kind
+Answer given (Explain kind path pair) = ExplainsFile (given.files path.now) kind (words_as pair)
 Answer given (Make family size items) = MakesFamily (wanted_of family.now size.now (texts items.items))
 Answer given (Tables path) = MakesTablesOf (given.files path.now)
 Answer given (Run script types) = RunsFile given.files script.now (texts types.items)
 Answer given (Work jobs types workers tries) = WorksFile given.files workers tries jobs.now (texts types.items)
 Answer given (Stress jobs types workers tries seed) = WorksFile given.files workers tries jobs.now (texts types.items)
 Answer given (Audit history later types) = AuditsFiles given.files history.now (texts later.items) (texts types.items)
+Answer given (AuditOrdered order history types) = AuditsOrdered given.files order.items history.now (texts types.items)
 Answer given (Create database objects types) = CreatesStore given.clean (given.made database.now) given.files objects.now (texts types.items)
 Answer given (History database) = TellsHistory given.clean (given.databases database.now)
 Answer given (AuditDatabase database) = AuditsDatabase given.clean (given.databases database.now)
@@ -56,16 +60,19 @@ Answer given (Serve database fast archive drain) = ServesDatabase given.clean (g
 Answer given (Help topic) = IsThis verdict.Yes (text_of_topic topic)
 Answer given Version = IsThis verdict.Yes version_text
 
--- what is amiss with what the user gave: a text has a fault, a history that follows has other objects, an object names no type, or nothing can
--- be made; of a database that isn't opened as a store's nothing is said
+-- what is amiss with what the user gave: a text has a fault, a word names no operation, a history that follows has other objects, an
+-- object names no type, an order of transactions may not be asked for, or nothing can be made; of a database that isn't opened as a
+-- store's nothing is said
 abbrev pub IsAmiss : Shown → Task → Type 0
 IsAmiss given (Check kind path) = IfSome (given.files path.now) IsFaulty
+IsAmiss given (Explain kind path pair) = IfSome (given.files path.now) (CannotBeExplained (words_as pair))
 IsAmiss given (Make family size items) = CannotBeMade (wanted_of family.now size.now (texts items.items))
 IsAmiss given (Tables path) = IfSome (given.files path.now) IsFaulty
 IsAmiss given (Run script types) = HasRunFault given.files script.now (texts types.items)
 IsAmiss given (Work jobs types workers tries) = HasWorkFault given.files workers jobs.now (texts types.items)
 IsAmiss given (Stress jobs types workers tries seed) = HasWorkFault given.files workers jobs.now (texts types.items)
 IsAmiss given (Audit history later types) = HasAuditFault given.files history.now (texts later.items) (texts types.items)
+IsAmiss given (AuditOrdered order history types) = HasOrderedFault given.files order.items history.now (texts types.items)
 IsAmiss given (Create database objects types) = HasCreateFault given.files objects.now (texts types.items)
 IsAmiss given (History database) = ⊤
 IsAmiss given (AuditDatabase database) = ⊤

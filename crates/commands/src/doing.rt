@@ -25,8 +25,8 @@ use std::rt::Clock;
 use std::sync::Wait;
 use std::thread::Threads;
 use std::time::Duration;
-use store_commands::{Schedule, Work, audit_histories, run_file, work_file};
-use type_commands::{check_file, make_family, make_tables_of};
+use store_commands::{Schedule, Work, audit_histories, audit_ordered, run_file, work_file};
+use type_commands::{check_file, explain_file, make_family, make_tables_of};
 
 /// Does what the words after the program's name ask for, with what is given, and answers the status; or says
 /// why there are no words.
@@ -218,6 +218,9 @@ fn do_task<
     let out = &mut console.out;
     match task {
         Task::Check { kind, path } => (check_file(rt, kind, path, source, out), console),
+        Task::Explain { kind, path, pair } => {
+            (explain_file(rt, kind, path, pair, source, out), console)
+        }
         Task::Make {
             family,
             size,
@@ -258,6 +261,14 @@ fn do_task<
             types,
         } => (
             audit_histories(alloc, history, &later, &types, source, out),
+            console,
+        ),
+        Task::AuditOrdered {
+            order,
+            history,
+            types,
+        } => (
+            audit_ordered(alloc, &order, history, &types, source, out),
             console,
         ),
         Task::Create {

@@ -29,7 +29,7 @@ use Rattle.dynamic_atomicity.proofs.Keeping.{keeps_breaking}
 
 -- ---- the condition is exact
 
-either : (t : ℕ) → is_among (0 ∷ 2 ∷ 1 ∷ 3 ∷ []) t ≡ is_among (0 ∷ 1 ∷ 2 ∷ 3 ∷ []) t
+pub either : (t : ℕ) → is_among (0 ∷ 2 ∷ 1 ∷ 3 ∷ []) t ≡ is_among (0 ∷ 1 ∷ 2 ∷ 3 ∷ []) t
 either t = turned (0 == t) (2 == t) (1 == t) (3 == t || false)
   where
     turned : (a b c d : Bool) → (a || (b || (c || d))) ≡ (a || (c || (b || d)))

@@ -11,3 +11,4 @@ pub mod Breaking
 pub mod Keeping
 pub mod Converse
 pub mod YesExact
+pub mod Witnessed

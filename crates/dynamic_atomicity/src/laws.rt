@@ -3,6 +3,7 @@
 
 ghost use Rattle.dynamic_atomicity.specs.Dynamic.{CommitOrderKeeps, CoveredIsAtomic, RunsAreAtomic, RunsAreAtomicLiving};
 ghost use Rattle.dynamic_atomicity.specs.Joined.{JoinedIsAtomic, JoinedOrder};
+ghost use Rattle.dynamic_atomicity.specs.Witnessed.{WitnessBreaks};
 ghost use Rattle.dynamic_atomicity.specs.Converse.{CoverIsExact, StrongIsExact, UndoBreaks, UndoSerialIsExact, YesIsExact};
 
 use escrow_laws::{
@@ -115,4 +116,13 @@ pub fn strong_is_exact()
     runs_along();
     legal_ends();
     covered_is_atomic();
+}
+
+/// The history that a witness of a pair gives is a run where the pair isn't in the table, and in an order
+/// of its commits that keeps what precedes it is illegal.
+pub fn witness_breaks()
+    ensures { WitnessBreaks }
+{
+    runs_along();
+    legal_ends();
 }

@@ -7,7 +7,7 @@ mod laws;
 pub use laws::{
     commit_order_keeps, cover_is_exact, covered_is_atomic, joined_is_atomic, joined_order,
     runs_are_atomic, runs_are_atomic_living, strong_is_exact, undo_breaks, undo_serial_is_exact,
-    yes_is_exact,
+    witness_breaks, yes_is_exact,
 };
 
 pub mod worked;

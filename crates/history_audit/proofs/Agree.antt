@@ -4,13 +4,13 @@ use Rattle.std.proofs.lemmas.Option.{same_Some}
 use Rattle.type_table.specs.Table.{Table}
 use Rattle.type_table.specs.Laws.{RunsAlong}
 use Rattle.object_trait.specs.declared.event.Event.{Event}
-use Rattle.serial_order.specs.History.{summary, ContinuesHistory, AllContinue}
-use Rattle.history_audit.specs.Audit.{IsAudit, IsFirstBad, ComesBefore, IsFirstIllegal}
+use Rattle.serial_order.specs.History.{commits, summary, ContinuesHistory, AllContinue}
+use Rattle.history_audit.specs.Audit.{LeadsTo, IsFirstBad, ComesBefore, IsFirstIllegal}
 use Rattle.history_audit.specs.Laws.{AuditsAgree, AlikeIsWritten}
 use Rattle.history_audit.specs.Text.{audit_text}
 use Rattle.history_audit.specs.declared.outcome.AuditFault.{AuditFault}
 use Rattle.history_audit.specs.declared.outcome.AuditFault.TheVariants.{BadEvent, IllegalOp, NoMemory}
-use Rattle.history_audit.proofs.Serials.{audited-serial, serial-each, never-bad, continues-at}
+use Rattle.history_audit.proofs.Serials.{leads-legal, serial-each, never-bad, continues-at}
 
 -- ---- lists
 
@@ -29,9 +29,9 @@ same-list (t ∷ ts) (x ∷ xs) (y ∷ ys) first second same =
 
 -- ---- a yes
 
-finals-agree : (tables : List Table) (H : List Event) (order finals other more : List ℕ) → IsAudit tables H order finals → IsAudit tables H other more → finals ≡ more
-finals-agree tables H order finals other more one two =
-    same-list tables finals more one.as_many two.as_many (λ x T s u at here there. same_Some s u (sym (one.states x T s at here) ∙ two.states x T u at there))
+finals-agree : (tables : List Table) (H : List Event) (ts finals other : List ℕ) → LeadsTo tables H ts finals → LeadsTo tables H ts other → finals ≡ other
+finals-agree tables H ts finals other one two =
+    same-list tables finals other one.as_many two.as_many (λ x T s u at here there. same_Some s u (sym (one.states x T s at here) ∙ two.states x T u at there))
 
 -- ---- the first bad event
 
@@ -77,8 +77,8 @@ same-places i x j k y l low high =
       places = same-number j l (λ h. low (inr (commit, inr (object, h)))) (λ h. high (inr (sym commit, inr (sym object, h))));
     }
 
-illegal-agree : (tables : List Table) (H : List Event) (i x j k y l : ℕ) → IsFirstIllegal tables H i x j → IsFirstIllegal tables H k y l → AreSame i x j k y l
-illegal-agree tables H i x j k y l one two =
+illegal-agree : (tables : List Table) (H : List Event) (ts : List ℕ) (i x j k y l : ℕ) → IsFirstIllegal tables H ts i x j → IsFirstIllegal tables H ts k y l → AreSame i x j k y l
+illegal-agree tables H ts i x j k y l one two =
     same-places i x j k y l (λ h. two.first i x j h one.illegal) (λ h. one.first k y l h two.illegal)
 
 -- ---- all outcomes
@@ -87,19 +87,19 @@ pub audits_agree : RunsAlong → AuditsAgree
 audits_agree along tables H (Err NoMemory) other one two memory more = absurd (memory refl)
 audits_agree along tables H outcome (Err NoMemory) one two memory more = absurd (more refl)
 audits_agree along tables H (Ok a) (Ok b) one two memory more =
-    (one.1.order_is ∙ sym two.1.order_is, finals-agree tables H a.order.items a.finals.items b.order.items b.finals.items one.1 two.1)
+    (one.1.order_is ∙ sym two.1.order_is, finals-agree tables H (commits H) a.finals.items b.finals.items one.1.leads two.1.leads)
 audits_agree along tables H (Ok a) (Err (BadEvent at)) one two memory more = absurd (never-bad tables H at one.0 two)
 audits_agree along tables H (Ok a) (Err (IllegalOp i x j)) one two memory more =
-    absurd (serial-each along tables H i x j (audited-serial tables H a.order.items a.finals.items one.1) two.1.illegal)
+    absurd (serial-each along tables H (commits H) i x j (leads-legal tables H (commits H) a.finals.items one.1.leads) two.1.illegal)
 audits_agree along tables H (Err (BadEvent at)) (Ok b) one two memory more = absurd (never-bad tables H at two.0 one)
 audits_agree along tables H (Err (BadEvent at)) (Err (BadEvent n)) one two memory more =
     ap (λ p. BadEvent p) (same-number at n (λ h. none-before tables H n at two one h) (λ h. none-before tables H at n one two h))
 audits_agree along tables H (Err (BadEvent at)) (Err (IllegalOp i x j)) one two memory more = absurd (never-bad tables H at two.0 one)
 audits_agree along tables H (Err (IllegalOp i x j)) (Ok b) one two memory more =
-    absurd (serial-each along tables H i x j (audited-serial tables H b.order.items b.finals.items two.1) one.1.illegal)
+    absurd (serial-each along tables H (commits H) i x j (leads-legal tables H (commits H) b.finals.items two.1.leads) one.1.illegal)
 audits_agree along tables H (Err (IllegalOp i x j)) (Err (BadEvent at)) one two memory more = absurd (never-bad tables H at one.0 two)
 audits_agree along tables H (Err (IllegalOp i x j)) (Err (IllegalOp k y l)) one two memory more =
-    let same = illegal-agree tables H i x j k y l one.1 two.1 in
+    let same = illegal-agree tables H (commits H) i x j k y l one.1 two.1 in
     rw (same.commits, same.objects, same.places) refl
 
 -- outcomes that say the same have the same lines

@@ -6,6 +6,7 @@ use Rattle.type_table.specs.Run.{run}
 use Rattle.type_table.specs.Examples.{counter, one_way}
 use Rattle.object_trait.specs.declared.event.Event.{Event}
 use Rattle.serial_order.specs.Operations.{ops}
+use Rattle.serial_order.specs.History.{commits}
 use Rattle.serial_order.specs.Serial.{serial_at}
 use Rattle.serial_order.specs.Examples.{one_way_history, unlocked_history, two_objects_history}
 use Rattle.history_audit.specs.Audit.{IsAudit, IsIllegalAt, IsFirstIllegal, ComesBefore}
@@ -25,7 +26,7 @@ one_way-states zero T s table at = state-at one_way_history 0 one_way T 4 s refl
 one_way-states (suc x) T s table at = absurd (none-some T table)
 
 pub one_way-audit : IsAudit (one_way ∷ []) one_way_history (1 ∷ 0 ∷ []) (4 ∷ [])
-one_way-audit = record { order_is = refl; as_many = refl; states = one_way-states }
+one_way-audit = record { order_is = refl; leads = record { as_many = refl; states = one_way-states } }
 
 struck-states : (x : ℕ) (T : Table) (s : ℕ) → slice_get two_counters x ≡ Some T → slice_get (1 ∷ 0 ∷ []) x ≡ Some s
     → run T (Some T.initial) (ops (serial_at x two_objects_history)) ≡ Some s
@@ -35,12 +36,12 @@ struck-states (suc zero) T s table at = state-at two_objects_history 1 counter T
 struck-states (suc (suc x)) T s table at = absurd (none-some T table)
 
 pub struck-audit : IsAudit two_counters two_objects_history (0 ∷ []) (1 ∷ 0 ∷ [])
-struck-audit = record { order_is = refl; as_many = refl; states = struck-states }
+struck-audit = record { order_is = refl; leads = record { as_many = refl; states = struck-states } }
 
 -- the transaction that commits first counts down at 0
-down-illegal : IsIllegalAt (counter ∷ []) unlocked_history 0 0 0
+down-illegal : IsIllegalAt (counter ∷ []) unlocked_history (commits unlocked_history) 0 0 0
 unfolding next
-down-illegal = record { t = 1; table = counter; committed = refl; object = refl; there = omega arith; illegal = refl }
+down-illegal = record { t = 1; table = counter; transaction = refl; object = refl; there = omega arith; illegal = refl }
 
 -- nothing comes before the first numbers
 none-before : (k y l : ℕ) → ComesBefore k y l 0 0 0 → ⊥
@@ -48,5 +49,5 @@ none-before k y l (inl less) = omega (arith, less)
 none-before k y l (inr (same, inl less)) = omega (arith, less)
 none-before k y l (inr (same, inr (here, less))) = omega (arith, less)
 
-pub down-first : IsFirstIllegal (counter ∷ []) unlocked_history 0 0 0
+pub down-first : IsFirstIllegal (counter ∷ []) unlocked_history (commits unlocked_history) 0 0 0
 down-first = record { illegal = down-illegal; first = λ k y l before wrong. none-before k y l before }

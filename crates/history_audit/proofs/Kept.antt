@@ -1,8 +1,7 @@
 -- What an event leaves as it was: the operations of committed transactions, and so their places in the serial order.
-use Rattle.std.proofs.Common.{◌≡◌, ℕ, suc, ◌<◌, ◌≤◌, Bool, true, false, not, ◌&&◌, ◌==◌, nat_lt, List, [], ◌∷◌, ◌++◌, length, take, Some, slice_get, refl, sym, ap, subst, ◌∙◌, inl, inr, append-nil, append_assoc, arith}
+use Rattle.std.proofs.Common.{◌≡◌, ℕ, suc, ◌<◌, ◌≤◌, Bool, true, false, not, ◌&&◌, ◌==◌, nat_lt, List, [], ◌∷◌, ◌++◌, length, take, Option, Some, None, slice_get, refl, sym, ap, subst, ◌∙◌, inl, inr, append-nil, append_assoc, arith}
 use Rattle.std.specs.List.{AllByRecursion}
 use Rattle.std.proofs.lemmas.Bool.{cases_Bool, eqb-true, false≢true}
-use Rattle.std.proofs.lemmas.Grind.{flat_map-append}
 use Rattle.std.proofs.lemmas.List.{take-append-le}
 use Rattle.std.proofs.lemmas.Option.{slice_get_within}
 use Rattle.type_table.specs.Table.{Table}
@@ -20,6 +19,9 @@ use Rattle.serial_order.specs.After.{summary_next, SummaryAfter}
 use Rattle.serial_order.specs.Held.{OwnAfter}
 use Rattle.serial_order.specs.declared.entry.Entry.{Entry}
 use Rattle.history_audit.specs.Audit.{IsIllegalAt, IsFirstIllegal, serial_up_to}
+use Rattle.history_audit.specs.SerialRun.{IsRunOf, RunsTo}
+use Rattle.history_audit.specs.declared.serial_run.Illegal.{Illegal}
+use Rattle.history_audit.specs.declared.serial_run.SerialRun.{SerialRun}
 use Rattle.history_audit.proofs.Lists.{among-at, among-take, serial-same}
 
 -- ---- one more event
@@ -60,7 +62,7 @@ other-than-open s t u opened committed =
     ]
 
 -- the operations of a committed transaction are the same after any event
-same-own : OwnAfter → (tables : List Table) (s : Summary) (happened : EventKind) (u : ℕ) → ContinuesHistory tables s happened → is_among s.committed u ≡ true → of u (summary_next s happened).survives ≡ of u s.survives
+pub same-own : OwnAfter → (tables : List Table) (s : Summary) (happened : EventKind) (u : ℕ) → ContinuesHistory tables s happened → is_among s.committed u ≡ true → of u (summary_next s happened).survives ≡ of u s.survives
 same-own own tables s (Begin t) u may committed = refl
 same-own own tables s (Op t x k) u may committed = rw (other-than-open s t u may.0 committed) at (own s (Op t x k) u)
 same-own own tables s (Busy c t x v) u may committed = refl
@@ -93,72 +95,95 @@ keeps-committed summary_after own tables H e may = record {
       ∙ sym (filter-turned (is_by u) (λ f. f.at == x) (surviving H));
 }
 
--- ---- places in the serial order
+-- ---- places in an order
 
-module _ (H K : List Event) (more : List ℕ) (kept : KeepsCommitted H K more) where
-  -- the serial order of the transactions that had committed
-  pub serial-kept : (x : ℕ) → serial (commits H) (surviving_at x K) ≡ serial_at x H
-  serial-kept x = serial-same (commits H) (surviving_at x K) (surviving_at x H) (kept.same x)
+module _ (H : List Event) (ts more : List ℕ) where
+  -- the first of them
+  place-front : (i : ℕ) → i < length ts → slice_get (ts ++ more) i ≡ slice_get ts i
+  place-front i inside = slice_get-front ts more i inside
 
-  -- and with those that committed since
-  pub serial-more : (x : ℕ) → serial_at x K ≡ serial_at x H ++ serial more (surviving_at x K)
-  serial-more x =
-      ap (λ C. serial C (surviving_at x K)) kept.commits_are
-      ∙ flat_map-append (λ t. of t (surviving_at x K)) (commits H) more
-      ∙ ap (λ V. V ++ serial more (surviving_at x K)) (serial-kept x)
+  up_to-front : (i u x j : ℕ) → i ≤ length ts → serial_up_to H (ts ++ more) i u x j ≡ serial_up_to H ts i u x j
+  up_to-front i u x j inside = ap (λ C. ops (serial C (surviving_at x H) ++ take (suc j) (of u (surviving_at x H)))) (take-append-le i ts more inside)
 
-  place-kept : (i : ℕ) → i < length (commits H) → slice_get (commits K) i ≡ slice_get (commits H) i
-  place-kept i inside = ap (λ C. slice_get C i) kept.commits_are ∙ slice_get-front (commits H) more i inside
-
-  -- the first commits
-  pub front-kept : (i : ℕ) → i ≤ length (commits H) → take i (commits K) ≡ take i (commits H)
-  front-kept i inside = ap (take i) kept.commits_are ∙ take-append-le i (commits H) more inside
-
-  up_to-kept : (i u x j : ℕ) → slice_get (commits H) i ≡ Some u → serial_up_to K i u x j ≡ serial_up_to H i u x j
-  up_to-kept i u x j at =
-      let inside = slice_get_within (commits H) i u at in
-      let first = front-kept i (omega (arith, inside)) in
-      let same = serial-same (take i (commits H)) (surviving_at x K) (surviving_at x H) (λ t is. kept.same x t (among-take (commits H) i t is)) in
-      ap (λ C. ops (serial C (surviving_at x K) ++ take (suc j) (of u (surviving_at x K)))) first
-      ∙ ap (λ V. ops (V ++ take (suc j) (of u (surviving_at x K)))) same
-      ∙ ap (λ V. ops (serial (take i (commits H)) (surviving_at x H) ++ take (suc j) V)) (kept.same x u (among-at (commits H) i u at))
-
-  -- an operation of them that isn't legal stays so
-  illegal-kept : (tables : List Table) (i x j : ℕ) → IsIllegalAt tables H i x j → IsIllegalAt tables K i x j
-  illegal-kept tables i x j wrong =
-      let inside = slice_get_within (commits H) i wrong.t wrong.committed in
+  -- an operation of them that isn't legal stays so with more behind them
+  illegal-more : (tables : List Table) (i x j : ℕ) → IsIllegalAt tables H ts i x j → IsIllegalAt tables H (ts ++ more) i x j
+  illegal-more tables i x j wrong =
+      let inside = slice_get_within ts i wrong.t wrong.transaction in
       record {
         t = wrong.t;
         table = wrong.table;
-        committed = place-kept i inside ∙ wrong.committed;
+        transaction = place-front i inside ∙ wrong.transaction;
         object = wrong.object;
-        there = rw (kept.same x wrong.t (among-at (commits H) i wrong.t wrong.committed)) wrong.there;
-        illegal = ap (run wrong.table (Some wrong.table.initial)) (up_to-kept i wrong.t x j wrong.committed) ∙ wrong.illegal;
+        there = wrong.there;
+        illegal = ap (run wrong.table (Some wrong.table.initial)) (up_to-front i wrong.t x j (omega (arith, inside))) ∙ wrong.illegal;
       }
 
-  -- and was so
-  pub illegal-back : (tables : List Table) (i x j : ℕ) → i < length (commits H) → IsIllegalAt tables K i x j → IsIllegalAt tables H i x j
-  illegal-back tables i x j inside wrong =
-      let at = sym (place-kept i inside) ∙ wrong.committed in
-      record {
-        t = wrong.t;
-        table = wrong.table;
-        committed = at;
-        object = wrong.object;
-        there = rw (kept.same x wrong.t (among-at (commits H) i wrong.t at)) at wrong.there;
-        illegal = ap (run wrong.table (Some wrong.table.initial)) (sym (up_to-kept i wrong.t x j at)) ∙ wrong.illegal;
-      }
+  -- and was so without
+  pub illegal-front : (tables : List Table) (i x j : ℕ) → i < length ts → IsIllegalAt tables H (ts ++ more) i x j → IsIllegalAt tables H ts i x j
+  illegal-front tables i x j inside wrong = record {
+    t = wrong.t;
+    table = wrong.table;
+    transaction = sym (place-front i inside) ∙ wrong.transaction;
+    object = wrong.object;
+    there = wrong.there;
+    illegal = ap (run wrong.table (Some wrong.table.initial)) (sym (up_to-front i wrong.t x j (omega (arith, inside)))) ∙ wrong.illegal;
+  }
 
   -- the first one stays the first
-  pub first-kept : (tables : List Table) (i x j : ℕ) → IsFirstIllegal tables H i x j → IsFirstIllegal tables K i x j
-  first-kept tables i x j known =
-      let inside = slice_get_within (commits H) i known.illegal.t known.illegal.committed in
+  pub first-more : (tables : List Table) (i x j : ℕ) → IsFirstIllegal tables H ts i x j → IsFirstIllegal tables H (ts ++ more) i x j
+  first-more tables i x j known =
+      let inside = slice_get_within ts i known.illegal.t known.illegal.transaction in
       record {
-        illegal = illegal-kept tables i x j known.illegal;
+        illegal = illegal-more tables i x j known.illegal;
         first = λ k y l before wrong.
-            let front : k < length (commits H) = elim before [
+            let front : k < length ts = elim before [
               | inl less ↦ omega (arith, inside, less)
               | inr same ↦ let e = same.0 in omega (arith, inside, e)
             ] in
-            known.first k y l before (illegal-back tables k y l front wrong);
+            known.first k y l before (illegal-front tables k y l front wrong);
       }
+
+-- ---- the order of those that had committed, after one more event
+
+module _ (H K : List Event) (more : List ℕ) (kept : KeepsCommitted H K more) where
+  serial-kept : (x : ℕ) → serial (commits H) (surviving_at x K) ≡ serial_at x H
+  serial-kept x = serial-same (commits H) (surviving_at x K) (surviving_at x H) (kept.same x)
+
+  up_to-kept : (i u x j : ℕ) → slice_get (commits H) i ≡ Some u → serial_up_to K (commits H) i u x j ≡ serial_up_to H (commits H) i u x j
+  up_to-kept i u x j at =
+      ap (λ V. ops (V ++ take (suc j) (of u (surviving_at x K)))) (serial-same (take i (commits H)) (surviving_at x K) (surviving_at x H) (λ t is. kept.same x t (among-take (commits H) i t is)))
+      ∙ ap (λ V. ops (serial (take i (commits H)) (surviving_at x H) ++ take (suc j) V)) (kept.same x u (among-at (commits H) i u at))
+
+  illegal-kept : (tables : List Table) (i x j : ℕ) → IsIllegalAt tables H (commits H) i x j → IsIllegalAt tables K (commits H) i x j
+  illegal-kept tables i x j wrong = record {
+    t = wrong.t;
+    table = wrong.table;
+    transaction = wrong.transaction;
+    object = wrong.object;
+    there = rw (kept.same x wrong.t (among-at (commits H) i wrong.t wrong.transaction)) wrong.there;
+    illegal = ap (run wrong.table (Some wrong.table.initial)) (up_to-kept i wrong.t x j wrong.transaction) ∙ wrong.illegal;
+  }
+
+  illegal-back : (tables : List Table) (i x j : ℕ) → IsIllegalAt tables K (commits H) i x j → IsIllegalAt tables H (commits H) i x j
+  illegal-back tables i x j wrong = record {
+    t = wrong.t;
+    table = wrong.table;
+    transaction = wrong.transaction;
+    object = wrong.object;
+    there = rw (kept.same x wrong.t (among-at (commits H) i wrong.t wrong.transaction)) at wrong.there;
+    illegal = ap (run wrong.table (Some wrong.table.initial)) (sym (up_to-kept i wrong.t x j wrong.transaction)) ∙ wrong.illegal;
+  }
+
+  runs-kept : (tables : List Table) (states : List ℕ) (illegal : Option Illegal) → RunsTo tables H (commits H) states illegal → RunsTo tables K (commits H) states illegal
+  runs-kept tables states None known = record {
+    as_many = known.as_many;
+    states = λ x T s table at. ap (λ V. run T (Some T.initial) (ops V)) (serial-kept x) ∙ known.states x T s table at;
+  }
+  runs-kept tables states (Some p) known = record {
+    illegal = illegal-kept tables p.commit_index p.object p.op_index known.illegal;
+    first = λ k y l before wrong. known.first k y l before (illegal-back tables k y l wrong);
+  }
+
+  -- they are run as they were
+  pub run-kept : (tables : List Table) (r : SerialRun) → IsRunOf tables H (commits H) r → IsRunOf tables K (commits H) r
+  run-kept tables r known = record { ready = known.ready; order = known.order; leads = runs-kept tables r.states.items r.illegal known.leads }

@@ -10,7 +10,13 @@ pub mod EpochsPassed
 pub mod Lists
 pub mod Replayed
 pub mod Kept
-pub mod Committed
+pub mod RunOn
+pub mod Taken
 pub mod Audited
+pub mod Gathered
+pub mod DatesExact
+pub mod DatesKept
+pub mod Ordered
+pub mod InOrderDecided
 pub mod Examples
 pub mod Agree

@@ -12,7 +12,7 @@ use Rattle.type_table.proofs.Elements.{each-found, found-set, found-set_other, t
 use Rattle.serial_order.specs.History.{IsOperation}
 use Rattle.history_audit.specs.declared.operation.Operation.{Operation}
 use Rattle.history_audit.specs.Replay.{ops_at, AreOperations, AreStates, next_by, next_at, is_stopped_at, with_state, stop_by, states_after, stop_after, IsStopped, AreReplayed}
-use Rattle.history_audit.specs.Auditor.{AreInitial}
+use Rattle.history_audit.specs.SerialRun.{AreInitial}
 use Rattle.history_audit.specs.declared.replay.Stop.{Stop}
 use Rattle.history_audit.proofs.Lists.{apart, ops_at-here, ops_at-apart}
 use Rattle.history_audit.proofs.Serials.{found}

@@ -10,10 +10,10 @@ use Rattle.type_table.proofs.Legal.{run_from_none}
 use Rattle.object_trait.specs.Object.{Object}
 use Rattle.object_trait.specs.declared.event.Event.{Event}
 use Rattle.serial_order.specs.Operations.{ops, of, serial}
-use Rattle.serial_order.specs.History.{commits, summary, ContinuesHistory, AllContinue, IsHistory}
+use Rattle.serial_order.specs.History.{summary, ContinuesHistory, AllContinue, IsHistory}
 use Rattle.serial_order.specs.Serial.{surviving_at, serial_at, IsSerial}
 use Rattle.serial_order.specs.declared.entry.Entry.{Entry}
-use Rattle.history_audit.specs.Audit.{IsAudit, IsFirstBad, IsIllegalAt, AreSerial}
+use Rattle.history_audit.specs.Audit.{LeadsTo, IsFirstBad, IsIllegalAt, AreLegal, AreSerial}
 use Rattle.history_audit.specs.Laws.{tables_of}
 
 -- ---- a yes
@@ -25,9 +25,9 @@ found (z ∷ xs) [] x a same at = absurd (omega (arith, same))
 found (z ∷ xs) (b ∷ ys) zero a same at = (b, refl)
 found (z ∷ xs) (b ∷ ys) (suc x) a same at = found xs ys x a (omega (arith, same)) at
 
--- where the serial order leads to a state at each object, it is legal there
-pub audited-serial : (tables : List Table) (H : List Event) (order finals : List ℕ) → IsAudit tables H order finals → AreSerial tables H
-audited-serial tables H order finals known x T at =
+-- where an order leads to a state at each object, it is legal there
+pub leads-legal : (tables : List Table) (H : List Event) (ts finals : List ℕ) → LeadsTo tables H ts finals → AreLegal tables H ts
+leads-legal tables H ts finals known x T at =
     let (s, there) = found tables finals x T known.as_many at in
     rw (known.states x T s at there) refl
 
@@ -73,12 +73,12 @@ serial-front C V i t n at =
 pub stuck-along : RunsAlong → (T : Table) (from : Option ℕ) (v w : List ℕ) → run T from v ≡ None → IsLegal T from (v ++ w) → ⊥
 stuck-along along T from v w stuck legal = false≢true (rw (along T from v w, stuck, run_from_none T w) at legal)
 
--- where the serial order is legal, so is each operation after what is serially before it
-pub serial-each : RunsAlong → (tables : List Table) (H : List Event) (i x j : ℕ) → AreSerial tables H → IsIllegalAt tables H i x j → ⊥
-serial-each along tables H i x j legal wrong =
-    let (rest, is) = serial-front (commits H) (surviving_at x H) i wrong.t (suc j) wrong.committed in
-    let front = serial (take i (commits H)) (surviving_at x H) ++ take (suc j) (of wrong.t (surviving_at x H)) in
-    let whole : ops (serial_at x H) ≡ ops front ++ ops rest = ap ops is ∙ map-append (λ (e : Entry). e.op) front rest in
+-- where an order is legal, so is each operation behind those before it
+pub serial-each : RunsAlong → (tables : List Table) (H : List Event) (ts : List ℕ) (i x j : ℕ) → AreLegal tables H ts → IsIllegalAt tables H ts i x j → ⊥
+serial-each along tables H ts i x j legal wrong =
+    let (rest, is) = serial-front ts (surviving_at x H) i wrong.t (suc j) wrong.transaction in
+    let front = serial (take i ts) (surviving_at x H) ++ take (suc j) (of wrong.t (surviving_at x H)) in
+    let whole : ops (serial ts (surviving_at x H)) ≡ ops front ++ ops rest = ap ops is ∙ map-append (λ (e : Entry). e.op) front rest in
     stuck-along along wrong.table (Some wrong.table.initial) (ops front) (ops rest) wrong.illegal (rw whole at (legal x wrong.table wrong.object))
 
 -- ---- events of a history

@@ -11,7 +11,7 @@ use Rattle.object_trait.specs.declared.event.EventKind.{EventKind}
 use Rattle.object_trait.specs.declared.event.EventKind.TheVariants as kind
 use Rattle.object_trait.specs.declared.event.EventKind.TheVariants.{Begin, Op, Busy, Commit, Abort, Rollback}
 use Rattle.serial_order.specs.Operations.{ops}
-use Rattle.serial_order.specs.History.{Summary, summary, IsOperation, ContinuesHistory, AllContinue, IsHistory}
+use Rattle.serial_order.specs.History.{Summary, commits, summary, IsOperation, ContinuesHistory, AllContinue, IsHistory}
 use Rattle.serial_order.specs.Serial.{serial_at}
 use Rattle.history_audit.specs.Audit.{AreSerial}
 use Rattle.history_audit.specs.Epochs.{tables_at, tables_after, AreAudits, HasFault, AuditsEpochs, serial_over, AreSerialOver, AreHistories, YesIsSerialOver, EpochsDecide}
@@ -93,11 +93,11 @@ module _ (along : RunsAlong) (alike : RunsAlike) where
   leads tables [] [] them x T at = (T.initial, refl, at)
   leads tables (H ∷ Hs) (a ∷ more) them x T at =
       let finals = a.finals.items in
-      let (s, there) = found tables finals x T them.0.1.as_many at in
+      let (s, there) = found tables finals x T them.0.1.leads.as_many at in
       let (e, runs, behind) = leads (tables_at tables finals) Hs more them.1 x (table_at T s) (at-state tables finals x T s at there) in (
         e,
         along T (Some T.initial) (ops (serial_at x H)) (serial_over x Hs)
-            ∙ ap (λ from. run T from (serial_over x Hs)) (them.0.1.states x T s at there)
+            ∙ ap (λ from. run T from (serial_over x Hs)) (them.0.1.leads.states x T s at there)
             ∙ sym (alike T s (Some s) (serial_over x Hs))
             ∙ runs,
         behind,
@@ -152,7 +152,7 @@ module _ (along : RunsAlong) (alike : RunsAlike) where
   never-faulty tables Hs n (BadEvent at) them serial f =
       absurd (never-bad (tables_after tables f.audits) f.history at (after-alike tables f.audits f.history (history-at tables Hs n f.history them f.there)) f.faulty)
   never-faulty tables Hs n (IllegalOp i x j) them serial f =
-      absurd (serial-each along (tables_after tables f.audits) f.history i x j (serial-next tables Hs n f.audits f.history serial f.before f.there) f.faulty.1.illegal)
+      absurd (serial-each along (tables_after tables f.audits) f.history (commits f.history) i x j (serial-next tables Hs n f.audits f.history serial f.before f.there) f.faulty.1.illegal)
   never-faulty tables Hs n NoMemory them serial f = refl
 
   decides : (tables : List Table) (Hs : List (List Event)) (outcome : Result (Vec Audit Global) EpochFault) → AuditsEpochs tables Hs outcome

@@ -3,9 +3,15 @@ pub mod Moves
 pub mod Slots
 pub mod Judges
 pub mod Audit
+pub mod InOrder
 pub mod Epochs
 pub mod Replay
+pub mod Judged
+pub mod SerialRun
 pub mod Auditor
+pub mod Commits
+pub mod OrderTests
+pub mod Dates
 pub mod Text
 pub mod EpochText
 pub mod Laws

@@ -1,15 +1,19 @@
-ghost use Rattle.std.specs.Prelude.{◌≡◌, ◌↔◌, ℕ, [], List, map, slice_get, IsTrue, OnErr};
+ghost use Rattle.std.specs.Prelude.{◌≡◌, ◌↔◌, ◌+◌, ◌<◌, ℕ, [], List, length, map, take, slice_get, IfErr, IfOk, IsTrue, OnErr};
 ghost use Rattle.type_table.specs.Table.{Table};
 ghost use Rattle.serial_order.specs.History.{IsOperation};
 ghost use Rattle.object_trait.specs.declared.event.EventKind.TheVariants as kind;
 ghost use Rattle.history_audit.specs.Judges.{Judges, Takes, handed};
+ghost use Rattle.history_audit.specs.Judged.{IsHanded, IsJudged, StopsJudge, fault_at};
 
+use crate::committed::Committed;
 use crate::event_fault::EventFault;
 use crate::laws::moved_rows_agree;
 use crate::operation::Operation;
 use crate::operations::Operations;
+use crate::outcome::AuditFault;
 use crate::slots::Slots;
-use object_trait::EventKind;
+use object_trait::{Event, EventKind};
+use serial_order::summary_after;
 use std::alloc::Global;
 use std::marker::Model;
 use type_table::TypeTable;
@@ -74,6 +78,35 @@ impl Judge {
             return Err(EventFault::Bad);
         }
         Ok(self.rows.end(t))
+    }
+
+    /// Judges the event at this place, behind those before it, and hands out the transaction that it commits.
+    pub fn take(
+        &mut self,
+        tables: &[&TypeTable],
+        events: &[Event],
+        at: usize,
+    ) -> Result<Option<Committed>, AuditFault>
+        requires inside { at < length events.now }
+        requires so_far { IsJudged (map (λ t. t.now) tables.now) (take at events.now) self.old }
+        ensures taken { IfOk result (λ done. IsJudged (map (λ t. t.now) tables.now) (take (at + 1) events.now) self.new × IsHanded (map (λ t. t.now) tables.now) events.now at done) }
+        ensures refused { IfErr result (StopsJudge (map (λ t. t.now) tables.now) events.now) }
+    {
+        summary_after();
+        let event = events[at];
+        match event.kind {
+            EventKind::Commit { t } => match self.commit(t) {
+                Ok(operations) => Ok(Some(Committed {
+                    number: t,
+                    operations,
+                })),
+                Err(fault) => Err(fault_at(fault, at)),
+            },
+            kind => match self.judge(tables, kind) {
+                Ok(()) => Ok(None),
+                Err(fault) => Err(fault_at(fault, at)),
+            },
+        }
     }
 
     // A transaction's number is the number of those before it.
@@ -153,6 +186,16 @@ impl Judge {
         }
         self.rows.keep(t, count - n);
         Ok(())
+    }
+}
+
+/// Why the audit has no yes, where the event at this place isn't taken.
+fn fault_at(fault: EventFault, at: usize) -> AuditFault
+    ensures { result ≡ fault_at fault at }
+{
+    match fault {
+        EventFault::Bad => AuditFault::BadEvent { at },
+        EventFault::NoMemory => AuditFault::NoMemory,
     }
 }
 

@@ -4,6 +4,7 @@ ghost use Rattle.std.specs.Prelude.{[]};
 ghost use Rattle.serial_order.specs.History.{summary};
 ghost use Rattle.history_audit.specs.Rows.{AreRows};
 ghost use Rattle.history_audit.specs.Epochs.{EpochsDecide, EpochsPass, YesIsSerialOver};
+ghost use Rattle.history_audit.specs.InOrder.{InOrderDecides, LegalOrdersPass};
 ghost use Rattle.history_audit.specs.Moves.{MovedRowsAgree};
 ghost use Rattle.history_audit.specs.Laws.{YesIsSerial, SerialHistoriesPass, RunsPass, AuditDecides, AuditsAgree, AlikeIsWritten};
 
@@ -40,6 +41,23 @@ pub fn runs_pass()
 #[tactic(auto, using(crate::proofs::Said::audit_decides))]
 pub fn audit_decides()
     ensures { AuditDecides }
+{
+    runs_along();
+}
+
+/// To an order that keeps what precedes and is legal an audit in it says yes, or memory was refused.
+#[tactic(auto, using(crate::proofs::InOrderDecided::legal_orders_pass))]
+pub fn legal_orders_pass()
+    ensures { LegalOrdersPass }
+{
+    runs_along();
+}
+
+/// Where memory wasn't refused, an audit in an order says yes exactly where the events are a history, the order
+/// keeps what precedes, and it is legal.
+#[tactic(auto, using(crate::proofs::InOrderDecided::in_order_decides))]
+pub fn in_order_decides()
+    ensures { InOrderDecides }
 {
     runs_along();
 }

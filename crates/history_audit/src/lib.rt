@@ -4,24 +4,33 @@
 
 mod auditing;
 mod auditor;
+mod commits;
+mod committed;
+mod dates;
 mod epoch_lines;
 mod event_fault;
+mod in_order;
+mod in_order_fault;
 mod in_turn;
 mod judge;
 mod laws;
 mod operation;
 mod operations;
+mod order_tests;
 mod outcome;
 mod replay;
+mod serial_run;
 mod slots;
 mod write;
 
 pub use auditing::audit;
 pub use epoch_lines::write_epochs;
+pub use in_order::audit_in_order;
+pub use in_order_fault::{InOrderFault, OrderFault};
 pub use in_turn::audit_epochs;
 pub use laws::{
-    audit_decides, audits_agree, epochs_decide, epochs_pass, runs_pass, serial_histories_pass,
-    yes_is_serial, yes_is_serial_over,
+    audit_decides, audits_agree, epochs_decide, epochs_pass, in_order_decides, legal_orders_pass,
+    runs_pass, serial_histories_pass, yes_is_serial, yes_is_serial_over,
 };
 pub use outcome::{Audit, AuditFault, EpochFault};
 pub use outputs::{Out, OutFault};

@@ -6,7 +6,7 @@ ghost use Rattle.type_table.specs.Run.{run};
 ghost use Rattle.type_table.specs.Examples.{counter, one_way};
 ghost use Rattle.type_table.specs.Table.{table_at};
 ghost use Rattle.object_trait.specs.declared.event.EventKind.TheVariants as kind;
-ghost use Rattle.serial_order.specs.History.{summary, IsHistory};
+ghost use Rattle.serial_order.specs.History.{commits, summary, IsHistory};
 ghost use Rattle.serial_order.specs.Examples.{one_way_history, unlocked_history, two_objects_history};
 ghost use Rattle.history_audit.specs.declared.event_fault.EventFault.TheVariants as fault;
 ghost use Rattle.history_audit.specs.Rows.{operations_of, committed_in, IsRow, AreRows};
@@ -14,7 +14,7 @@ ghost use Rattle.history_audit.specs.Moves.{RowsMove};
 ghost use Rattle.history_audit.specs.Judges.{Judges};
 ghost use Rattle.history_audit.specs.Audit.{IsAudit, IsFirstBad, IsIllegalAt, IsFirstIllegal, ComesBefore, serial_up_to};
 ghost use Rattle.history_audit.specs.Replay.{ops_at, states_after, stop_after};
-ghost use Rattle.history_audit.specs.Auditor.{illegal_at};
+ghost use Rattle.history_audit.specs.SerialRun.{illegal_at};
 ghost use Rattle.history_audit.specs.Laws.{SaysAlike};
 ghost use Rattle.history_audit.specs.Epochs.{AreAudits, AreHistories, serial_over, tables_at};
 ghost use Rattle.history_audit.specs.EpochText.{commit_line_in, fault_line, numbered};
@@ -34,7 +34,7 @@ pub fn commit_order_is_audited()
 /// One counts up and another down, which commits first: its operation isn't legal in commit order.
 pub fn legal_in_execution_order_alone()
     ensures history { IsHistory (counter ∷ []) unlocked_history }
-    ensures first { IsFirstIllegal (counter ∷ []) unlocked_history 0 0 0 }
+    ensures first { IsFirstIllegal (counter ∷ []) unlocked_history (commits unlocked_history) 0 0 0 }
 {}
 
 /// A transaction takes two operations back, where it has one.
@@ -50,10 +50,10 @@ pub fn struck_operations_are_left_out()
 /// Two operations aren't legal, at object 1 and then at object 0. The second comes first by its object; the two
 /// before it there are legal.
 pub fn the_least_object_comes_first()
-    ensures executed_first { IsIllegalAt two_counters two_stops_history 0 1 0 }
-    ensures first { IsIllegalAt two_counters two_stops_history 0 0 2 }
+    ensures executed_first { IsIllegalAt two_counters two_stops_history (commits two_stops_history) 0 1 0 }
+    ensures first { IsIllegalAt two_counters two_stops_history (commits two_stops_history) 0 0 2 }
     ensures order { ComesBefore 0 0 2 0 1 0 }
-    ensures legal { run counter (Some 0) (serial_up_to two_stops_history 0 0 0 1) ≡ Some 0 }
+    ensures legal { run counter (Some 0) (serial_up_to two_stops_history (commits two_stops_history) 0 0 0 1) ≡ Some 0 }
 {}
 
 /// How the same is replayed, operation by operation.

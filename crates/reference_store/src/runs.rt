@@ -7,6 +7,7 @@ use crate::reference::Reference;
 use object_trait::{Event, EventKind};
 use serial_order::Refusal;
 use std::alloc::{AllocError, Global};
+use std::fmt::Write;
 use std::sync::Arc;
 use std::test::Fail;
 use table_checker::CheckedType;
@@ -35,19 +36,6 @@ pub fn refusal_line(refusal: Refusal) -> &'static str {
     }
 }
 
-/// The line of an event of worker 0.
-pub fn event_line(alloc: Global, event: Event) -> Result<String, AllocError> {
-    match event.kind {
-        EventKind::Begin { t } => format!(in alloc; "begin 0 {t}"),
-        EventKind::Op { t, x, k } => format!(in alloc; "op 0 {t} {x} {k}"),
-        EventKind::Busy { c, t, x, u } => format!(in alloc; "busy 0 {t} {x} {c} {u}"),
-        EventKind::None { t, x, c } => format!(in alloc; "none 0 {t} {x} {c}"),
-        EventKind::Commit { t } => format!(in alloc; "commit 0 {t}"),
-        EventKind::Abort { t } => format!(in alloc; "abort 0 {t}"),
-        EventKind::Rollback { t, n } => format!(in alloc; "rollback 0 {t} {n}"),
-    }
-}
-
 /// The number that a word is.
 fn number(word: Option<&str>) -> Option<u32> {
     word?.parse().ok()
@@ -57,28 +45,22 @@ fn number(word: Option<&str>) -> Option<u32> {
 fn ask_of(line: &'static str) -> Option<Ask> {
     let mut words = line.split_whitespace();
     let key = words.next()?;
-    if key == "begin" {
-        return Some(Ask::Begin);
-    }
-    let t = number(words.next())?;
-    match key {
-        "commit" => Some(Ask::Commit(t)),
-        "abort" => Some(Ask::Abort(t)),
-        "rollback" => Some(Ask::Rollback(t, number(words.next())?)),
-        "call" => Some(Ask::Call(t, number(words.next())?, words.next()?)),
+    let (t, n) = (number(words.next()), number(words.next()));
+    match (key, t, n, words.next()) {
+        ("begin", ..) => Some(Ask::Begin),
+        ("commit", Some(t), ..) => Some(Ask::Commit(t)),
+        ("abort", Some(t), ..) => Some(Ask::Abort(t)),
+        ("rollback", Some(t), Some(n), _) => Some(Ask::Rollback(t, n)),
+        ("call", Some(t), Some(x), Some(name)) => Some(Ask::Call(t, x, name)),
         _ => None,
     }
 }
 
 /// The object of a line of a script, where it is one: the texts of the types are in their order.
 fn sort_of(line: &str, types: &[&'static str]) -> Option<Sort> {
-    let mut words = line.split_whitespace();
-    if words.next()? != "object" {
-        return None;
-    }
-    let kind = Kind::of_word(words.next()?.as_bytes())?;
-    let place = number(words.next())?;
-    Some((kind, *types.get(place as usize)?))
+    let (kind, place) = line.strip_prefix("object ")?.split_once(" ")?;
+    let place = number(Some(place))?;
+    Some((Kind::of_word(kind.as_bytes())?, *types.get(place as usize)?))
 }
 
 /// Puts a line after the others.
@@ -86,6 +68,36 @@ pub fn push_line(text: &mut Vec<u8>, line: &str) -> Result<(), AllocError> {
     text.extend_from_slice(line.as_bytes())?;
     text.extend_from_slice(b"\n")?;
     Ok(())
+}
+
+/// Puts a line of a word and of numbers after the others.
+pub fn push_numbers(
+    alloc: Global,
+    text: &mut Vec<u8>,
+    word: &str,
+    numbers: &[u32],
+) -> Result<(), AllocError> {
+    let mut line = String::new(alloc);
+    line.push_str(word)?;
+    for n in numbers {
+        write!(line, " {n}")?;
+    }
+    push_line(text, line.as_str())
+}
+
+/// Puts the line of an event of worker 0 after the others.
+pub fn push_event(alloc: Global, text: &mut Vec<u8>, event: Event) -> Result<(), AllocError> {
+    match event.kind {
+        EventKind::Begin { t } => push_numbers(alloc, text, "begin 0", &[t]),
+        EventKind::Op { t, x, k } => push_numbers(alloc, text, "op 0", &[t, x, u32::from(k)]),
+        EventKind::Busy { c, t, x, u } => {
+            push_numbers(alloc, text, "busy 0", &[t, x, u32::from(c), u])
+        }
+        EventKind::None { t, x, c } => push_numbers(alloc, text, "none 0", &[t, x, u32::from(c)]),
+        EventKind::Commit { t } => push_numbers(alloc, text, "commit 0", &[t]),
+        EventKind::Abort { t } => push_numbers(alloc, text, "abort 0", &[t]),
+        EventKind::Rollback { t, n } => push_numbers(alloc, text, "rollback 0", &[t, n]),
+    }
 }
 
 /// Puts the line of what comes of a command after the others.
@@ -98,11 +110,10 @@ fn push_told(
     if let Told::Refused(refusal) = fold.told(0, ask)? {
         return push_line(text, refusal_line(refusal));
     }
-    if let Some(event) = fold.events().last() {
-        let line = event_line(alloc, *event)?;
-        push_line(text, line.as_str())?;
+    match fold.events().last() {
+        Some(event) => push_event(alloc, text, *event),
+        None => Ok(()),
     }
-    Ok(())
 }
 
 /// The line at a place of a text.
@@ -110,8 +121,24 @@ fn line_at(text: &[u8], place: usize) -> &[u8] {
     text.split(|b| *b == b'\n').nth(place).unwrap_or(b"")
 }
 
-/// Puts what a run writes of the lines of its script after its limit. A command whose line in the text
-/// that was written says that it met a refused allocation does nothing.
+/// Puts what a run writes of a line of its script. A command whose line in the text that was written says
+/// that it met a refused allocation does nothing.
+fn push_step(
+    alloc: Global,
+    text: &mut Vec<u8>,
+    fold: &mut Reference,
+    line: &'static str,
+    written: &[u8],
+) -> Result<(), AllocError> {
+    match ask_of(line) {
+        Some(_) if written == NO_MEMORY.as_bytes() => push_line(text, NO_MEMORY),
+        Some(ask) => push_told(alloc, text, fold, ask),
+        None if line.starts_with("object ") => push_line(text, line),
+        None => Ok(()),
+    }
+}
+
+/// Puts what a run writes of the lines of its script after its limit.
 fn push_lines(
     alloc: Global,
     text: &mut Vec<u8>,
@@ -120,15 +147,7 @@ fn push_lines(
     written: &[u8],
 ) -> Result<(), AllocError> {
     for (place, line) in script.lines().skip(1).enumerate() {
-        if let Some(ask) = ask_of(line) {
-            if line_at(written, place) == NO_MEMORY.as_bytes() {
-                push_line(text, NO_MEMORY)?;
-            } else {
-                push_told(alloc, text, fold, ask)?;
-            }
-        } else if line.starts_with("object ") {
-            push_line(text, line)?;
-        }
+        push_step(alloc, text, fold, line, line_at(written, place))?;
     }
     Ok(())
 }
@@ -142,10 +161,7 @@ fn push_state(
     state: Option<u16>,
 ) -> Result<(), AllocError> {
     match state {
-        Some(state) => {
-            let line = format!(in alloc; "# {word} {x} {state}")?;
-            push_line(text, line.as_str())
-        }
+        Some(state) => push_numbers(alloc, text, word, &[x, u32::from(state)]),
         None => Ok(()),
     }
 }
@@ -159,7 +175,7 @@ pub fn push_end(alloc: Global, text: &mut Vec<u8>, fold: &mut Reference) -> Resu
     }
     push_line(text, "end")?;
     for x in 0..256 {
-        push_state(alloc, text, "kept", x, fold.committed(x))?;
+        push_state(alloc, text, "# kept", x, fold.committed(x))?;
     }
     Ok(())
 }
@@ -168,8 +184,7 @@ pub fn push_end(alloc: Global, text: &mut Vec<u8>, fold: &mut Reference) -> Resu
 fn push_commits(alloc: Global, text: &mut Vec<u8>, events: &[Event]) -> Result<(), AllocError> {
     for event in events {
         if let EventKind::Commit { t } = event.kind {
-            let line = format!(in alloc; "# commit {t}")?;
-            push_line(text, line.as_str())?;
+            push_numbers(alloc, text, "# commit", &[t])?;
         }
     }
     Ok(())
@@ -180,7 +195,7 @@ fn push_audit(alloc: Global, text: &mut Vec<u8>, fold: &Reference) -> Result<(),
     push_line(text, "# audit yes")?;
     push_commits(alloc, text, fold.events())?;
     for x in 0..256 {
-        push_state(alloc, text, "serial", x, fold.serial_state(x))?;
+        push_state(alloc, text, "# serial", x, fold.serial_state(x))?;
     }
     Ok(())
 }

@@ -3,7 +3,9 @@
 
 use crate::asked::{Ask, Told};
 use crate::reference::Reference;
-use crate::runs::{audit_of, event_line, push_end, push_line, refusal_line, sorts_of, types_of};
+use crate::runs::{
+    audit_of, push_end, push_event, push_line, push_numbers, refusal_line, sorts_of, types_of,
+};
 use object_trait::Event;
 use serial_order::Refusal;
 use std::alloc::{AllocError, Global};
@@ -65,17 +67,26 @@ fn call_of(line: &'static str) -> Option<Call> {
     Some((x.parse().ok()?, name))
 }
 
+/// Takes a line of a text into its jobs: a job begins with it, or it is a call of the last one.
+fn take_line(
+    alloc: Global,
+    jobs: &mut Vec<Vec<Call>>,
+    line: &'static str,
+) -> Result<(), AllocError> {
+    if line.starts_with("job ") {
+        return Ok(jobs.push(Vec::new(alloc))?);
+    }
+    match (call_of(line), jobs.last_mut()) {
+        (Some(call), Some(job)) => Ok(job.push(call)?),
+        _ => Ok(()),
+    }
+}
+
 /// The calls of each job of a text.
 fn jobs_in(alloc: Global, text: &'static str) -> Result<Vec<Vec<Call>>, AllocError> {
     let mut jobs: Vec<Vec<Call>> = Vec::new(alloc);
     for line in text.lines() {
-        if line.starts_with("job ") {
-            jobs.push(Vec::new(alloc))?;
-        } else if let Some(call) = call_of(line) {
-            if let Some(job) = jobs.last_mut() {
-                job.push(call)?;
-            }
-        }
+        take_line(alloc, &mut jobs, line)?;
     }
     Ok(jobs)
 }
@@ -196,8 +207,7 @@ fn push_objects(text: &mut Vec<u8>, jobs: &str) -> Result<(), AllocError> {
 /// Puts the lines of what happened.
 fn push_events(alloc: Global, text: &mut Vec<u8>, events: &[Event]) -> Result<(), AllocError> {
     for event in events {
-        let line = event_line(alloc, *event)?;
-        push_line(text, line.as_str())?;
+        push_event(alloc, text, *event)?;
     }
     Ok(())
 }
@@ -211,16 +221,22 @@ fn run_of(alloc: Global, worker: &OneWorker, fold: &mut Fold) -> Result<Vec<u8>,
     Ok(text)
 }
 
-/// The line of job i of worker 0.
-fn job_line(alloc: Global, i: usize, outcome: Outcome) -> Result<String, AllocError> {
+/// Puts the line of job i of worker 0.
+fn push_job(
+    alloc: Global,
+    text: &mut Vec<u8>,
+    i: usize,
+    outcome: Outcome,
+) -> Result<(), AllocError> {
+    let front = format!(in alloc; "# job 0 {i}")?;
+    text.extend_from_slice(front.as_bytes())?;
     match outcome {
-        Outcome::Committed(t) => format!(in alloc; "# job 0 {i} committed {t}"),
-        Outcome::GaveUp => format!(in alloc; "# job 0 {i} gaveup"),
+        Outcome::Committed(t) => push_numbers(alloc, text, " committed", &[t]),
+        Outcome::GaveUp => push_line(text, " gaveup"),
         Outcome::Refused(refusal) => {
-            let why = refusal_line(refusal).strip_prefix("#").unwrap_or("");
-            format!(in alloc; "# job 0 {i}{why}")
+            push_line(text, refusal_line(refusal).strip_prefix("#").unwrap_or(""))
         }
-        Outcome::NotRun => format!(in alloc; "# job 0 {i} notrun"),
+        Outcome::NotRun => push_line(text, " notrun"),
     }
 }
 
@@ -228,8 +244,7 @@ fn job_line(alloc: Global, i: usize, outcome: Outcome) -> Result<String, AllocEr
 fn job_lines(alloc: Global, outcomes: &[Outcome]) -> Result<Vec<u8>, AllocError> {
     let mut text = Vec::new(alloc);
     for (i, outcome) in outcomes.iter().enumerate() {
-        let line = job_line(alloc, i, *outcome)?;
-        push_line(&mut text, line.as_str())?;
+        push_job(alloc, &mut text, i, *outcome)?;
     }
     Ok(text)
 }

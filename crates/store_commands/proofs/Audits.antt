@@ -14,29 +14,28 @@ use Rattle.command_files.specs.Answers.{IsThis}
 use Rattle.command_files.specs.declared.status.Verdict.{Verdict}
 use Rattle.command_files.specs.declared.status.Verdict.TheVariants.{Yes, No}
 use Rattle.store_files.specs.Types.{AreTablesOf}
-use Rattle.store_commands.specs.Audited.{AuditsRead, IsAuditOf}
+use Rattle.store_commands.specs.Audited.{AuditsRead, IsAuditOf, IsSaid}
 
 module _ (history : HistoryFile) (files : List TypeFile) (tables given : List Table) (objects : List ObjectLine) (events : List Event) (outcome : Result Audit AuditFault)
     (objects_are : objects ≡ history.objects.items) (events_are : events ≡ history.events.items) (given_are : given ≡ tables)
-    (are : AreTablesOf files objects tables) (audits : Audits given events outcome) (lines : List ℕ) (text_is : lines ≡ audit_text outcome) where
-  -- the text of an audit is its
-  pub is_audit : IsAuditOf history files outcome lines
-  is_audit = record {
-    tables = tables;
-    are = subst (λ (os : List ObjectLine). AreTablesOf files os tables) objects_are are;
-    audits = subst (λ (es : List Event). Audits tables es outcome) events_are (subst (λ (ts : List Table). Audits ts events outcome) given_are audits);
-    is = text_is;
-  }
+    (are : AreTablesOf files objects tables) (audits : Audits given events outcome) where
+  tables_are : AreTablesOf files history.objects.items tables
+  tables_are = subst (λ (os : List ObjectLine). AreTablesOf files os tables) objects_are are
 
-  here : (text : List ℕ) → text ≡ lines → IsAuditOf history files outcome text
-  here text same = record { tables = is_audit.tables; are = is_audit.are; audits = is_audit.audits; is = same ∙ text_is }
+  audits_are : Audits tables history.events.items outcome
+  audits_are = subst (λ (es : List Event). Audits tables es outcome) events_are (subst (λ (ts : List Table). Audits ts events outcome) given_are audits)
 
-  -- a yes
-  pub says_yes : (a : Audit) → outcome ≡ Ok a → (v : Verdict) (text : List ℕ) → IsThis Yes lines v text → AuditsRead history files v text
-  says_yes a is Yes text this = (a, subst (λ (r : Result Audit AuditFault). IsAuditOf history files r text) is (here text this.1))
-  says_yes a is No text this = absurd (let clash = this.0 in cc)
+  -- what the outcome says answers it
+  pub says : (v : Verdict) (text : List ℕ) → IsSaid outcome v text → AuditsRead history files v text
+  says Yes text (a, is, same) = (a, subst (λ (r : Result Audit AuditFault). IsAuditOf history files r text) is (record { tables = tables; are = tables_are; audits = audits_are; is = same }))
+  says No text (fault, is, some, same) = (fault, some, subst (λ (r : Result Audit AuditFault). IsAuditOf history files r text) is (record { tables = tables; are = tables_are; audits = audits_are; is = same }))
 
-  -- a no
-  pub says_no : (fault : AuditFault) → outcome ≡ Err fault → fault ≢ NoMemory → (v : Verdict) (text : List ℕ) → IsThis No lines v text → AuditsRead history files v text
-  says_no fault is some Yes text this = absurd (let clash = this.0 in cc)
-  says_no fault is some No text this = (fault, some, subst (λ (r : Result Audit AuditFault). IsAuditOf history files r text) is (here text this.1))
+-- what was put out is what the outcome says
+pub said_yes : (outcome : Result Audit AuditFault) (a : Audit) (lines : List ℕ) → outcome ≡ Ok a → lines ≡ audit_text outcome → (v : Verdict) (text : List ℕ) → IsThis Yes lines v text → IsSaid outcome v text
+said_yes outcome a lines is lines_are Yes text this = (a, is, this.1 ∙ lines_are)
+said_yes outcome a lines is lines_are No text this = absurd (let clash = this.0 in cc)
+
+pub said_no : (outcome : Result Audit AuditFault) (fault : AuditFault) (lines : List ℕ) → outcome ≡ Err fault → fault ≢ NoMemory → lines ≡ audit_text outcome
+    → (v : Verdict) (text : List ℕ) → IsThis No lines v text → IsSaid outcome v text
+said_no outcome fault lines is some lines_are Yes text this = absurd (let clash = this.0 in cc)
+said_no outcome fault lines is some lines_are No text this = (fault, is, some, this.1 ∙ lines_are)

@@ -1,5 +1,6 @@
 pub mod Audits
 pub mod SeveralAudits
+pub mod OrderedAudits
 pub mod Exits
 pub mod Files
 pub mod Kept

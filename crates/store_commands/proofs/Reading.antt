@@ -52,11 +52,11 @@ module _ (s : Stored) (checked : (x : ℕ) (c : Checked) → slice_get s.types x
   finals_short : EndsWithin → (order finals : List ℕ) → IsAudit (tables s) s.history order finals → AllByRecursion (λ n. n < 10 ^ 7) finals
   finals_short within order finals audit =
       each-places (λ n. n < 10 ^ 7) finals (λ x n there.
-      let low : x < length (tables s) = omega (arith, slice_get_within finals x n there, audit.as_many) in
+      let low : x < length (tables s) = omega (arith, slice_get_within finals x n there, audit.leads.as_many) in
       let found = element_at (tables s) x low in
       let T = found.0 in
       let is = tables_are x T found.1 in
-      let inside = within T T.initial n (ops (serial_at x s.history)) is is.initial_inside (audit.states x T n found.1 there) in
+      let inside = within T T.initial n (ops (serial_at x s.history)) is is.initial_inside (audit.leads.states x T n found.1 there) in
       omega (arith, inside, is.states_fit))
 
 commit_below : (n k m : ℕ) (happened : EventKind) → AreBelow n k m happened → AllByRecursion (λ t. t < m) (committed_by happened)
@@ -86,6 +86,6 @@ pub audit_short : EndsWithin → NumbersInRun → (s : Stored) → ((x : ℕ) (c
 audit_short within numbers s checked history limit few a audits =
     record {
       order = subst (AllByRecursion (λ n. n < 10 ^ 7)) (sym audits.1.order_is) (commits_short numbers s checked history limit);
-      objects = omega (arith, audits.1.as_many, length-map s.types (λ (c : Checked). c.file.table), few);
+      objects = omega (arith, audits.1.leads.as_many, length-map s.types (λ (c : Checked). c.file.table), few);
       finals = finals_short s checked within a.order.items a.finals.items audits.1;
     }

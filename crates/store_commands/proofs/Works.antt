@@ -20,7 +20,7 @@ use Rattle.store_files.specs.ObjectTypes.{AreTypesAt, SaysRefused}
 use Rattle.store_files.specs.Types.{Held}
 use Rattle.store_commands.proofs.Kept.{types_kept}
 use Rattle.command_files.specs.declared.fault.Fault.{Fault}
-use Rattle.command_files.specs.declared.fault.Fault.TheVariants.{Usage, Text, NoType, OtherObjects, HasEvents, BadParameter, TooLarge, CannotRead, Database, NoStore, NoMemory, Output}
+use Rattle.command_files.specs.declared.fault.Fault.TheVariants.{Usage, Text, NoType, OtherObjects, Order, HasEvents, BadParameter, TooLarge, CannotRead, Database, NoStore, NoMemory, Output}
 use Rattle.command_files.specs.declared.status.Verdict.{Verdict}
 use Rattle.command_files.specs.declared.status.Verdict.TheVariants.{Yes, No}
 use Rattle.store_commands.specs.Works.{AreJobsAt, BeginsWork, BeginsWorkFile, IsTextOf, IsWholeTextOf, IsWholeWork, TellsWork, WorksFile, WorksOf, WritesWorkFile, start_of_work}
@@ -81,6 +81,7 @@ module _ (file : JobsFile) (types : List Checked) (tries : ℕ) (o : Start) (lef
   told (Err (Text path f)) old new t = absurd t
   told (Err (NoType path x place)) old new t = absurd t
   told (Err (OtherObjects path first)) old new t = absurd t
+  told (Err (Order path fault)) old new t = absurd t
   told (Err (HasEvents path)) old new t = absurd t
   told (Err BadParameter) old new t = absurd t
   told (Err TooLarge) old new t = absurd t

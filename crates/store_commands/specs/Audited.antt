@@ -27,6 +27,11 @@ pub record IsAuditOf (history : HistoryFile) (files : List TypeFile) (outcome : 
   pub audits : Audits tables history.events.items outcome
   pub is : text ≡ audit_text outcome
 
+-- what an outcome says: yes or no with its lines
+abbrev pub IsSaid : Result Audit AuditFault → Answers
+IsSaid outcome Yes text = (audit : Audit) × (outcome ≡ Ok audit) × (text ≡ audit_text outcome)
+IsSaid outcome No text = (fault : AuditFault) × (outcome ≡ Err fault) × (fault ≢ NoMemory) × (text ≡ audit_text outcome)
+
 -- yes with the order and the states, or no with the first fault
 abbrev pub AuditsRead : HistoryFile → List TypeFile → Answers
 AuditsRead history files Yes text = (audit : Audit) × IsAuditOf history files (Ok audit) text

@@ -1,4 +1,5 @@
 pub mod Audited
+pub mod Ordered
 pub mod Passing
 pub mod Runs
 pub mod Works

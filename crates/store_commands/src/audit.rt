@@ -5,7 +5,7 @@ ghost use Rattle.std.specs.Prelude.{◌≡◌, None, map, IfOk, IfErr};
 ghost use Rattle.command_files.specs.declared.fault.Fault.TheVariants.{NoMemory};
 ghost use Rattle.command_files.specs.Answers.{Comes};
 ghost use Rattle.history_audit.specs.Text.{audit_text};
-ghost use Rattle.store_commands.specs.Audited.{AuditsFiles, AuditsRead, HasAuditFault};
+ghost use Rattle.store_commands.specs.Audited.{AuditsFiles, AuditsRead, HasAuditFault, IsSaid};
 ghost use Rattle.object_types.specs.Types.{IsUnplaced};
 
 use crate::several::{audit_each, same_objects};
@@ -61,7 +61,19 @@ fn audit_one<'a, W: Out>(
 {
     let tables = tables_of(alloc, path, files, &history.objects)?;
     let outcome = audit(alloc, &history.events, &tables);
-    let text = audit_lines(alloc, &outcome)?;
+    put_audit(alloc, &outcome, out)
+}
+
+/// The answer that an audit is: a yes or a no with its lines.
+pub(crate) fn put_audit<'a, W: Out>(
+    alloc: Global,
+    outcome: &Result<Audit, AuditFault>,
+    out: &mut W,
+) -> Result<Verdict, Fault<'a>>
+    requires { W.fault out.old ≡ None }
+    ensures { Comes (IsSaid outcome.now) ⊥ result (W.taken out.old) (W.taken out.new) }
+{
+    let text = audit_lines(alloc, outcome)?;
     match outcome {
         Ok(_) => put_answer(Verdict::Yes, &text, out),
         Err(AuditFault::NoMemory) => Err(Fault::NoMemory),

@@ -3,6 +3,7 @@
 
 mod audit;
 mod laws;
+mod ordered;
 mod passing;
 mod run;
 mod schedule;
@@ -11,6 +12,7 @@ mod work;
 
 pub use audit::{audit_histories, audit_lines};
 pub use laws::{run_is_read, works_are_read};
+pub use ordered::audit_ordered;
 pub use passing::audit_types;
 pub use run::run_file;
 pub use schedule::Schedule;

@@ -14,7 +14,7 @@ use script_text::{Script, read_script};
 use std::alloc::Global;
 
 /// The format of scripts.
-#[derive(Clone, Copy, Debug, PartialEq, Eq)]
+#[derive(Clone, Copy)]
 pub struct ScriptFormat;
 
 impl Format for ScriptFormat {
@@ -32,7 +32,7 @@ impl Format for ScriptFormat {
 }
 
 /// The format of jobs for this many workers, 1 to 16.
-#[derive(Clone, Copy, Debug, PartialEq, Eq)]
+#[derive(Clone, Copy)]
 pub struct JobsFormat {
     pub workers: u8,
 }
@@ -52,7 +52,7 @@ impl Format for JobsFormat {
 }
 
 /// The format of histories.
-#[derive(Clone, Copy, Debug, PartialEq, Eq)]
+#[derive(Clone, Copy)]
 pub struct HistoryFormat;
 
 impl Format for HistoryFormat {

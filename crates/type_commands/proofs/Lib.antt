@@ -1,2 +1,5 @@
 pub mod RequestLemmas
 pub mod Verdicts
+pub mod Words
+pub mod Asked
+pub mod Explaining

@@ -1,3 +1,4 @@
 pub mod Request
 pub mod Verdict
 pub mod Made
+pub mod Explain

@@ -53,7 +53,7 @@ fn check_read<'a, R: AllocGlobal + Threads + Sync, W: Out>(
     }
 }
 
-fn yes_line(strong: bool) -> &'static str
+pub fn yes_line(strong: bool) -> &'static str
     ensures { result.now ≡ yes_line strong }
 {
     if strong {

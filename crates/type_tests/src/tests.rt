@@ -5,6 +5,7 @@ mod checked;
 mod lines;
 mod number_files;
 mod numbers;
+mod reasons;
 mod relations;
 mod requests;
 mod sinks;

@@ -140,6 +140,14 @@ impl Served {
         Ok(slot)
     }
 
+    /// Asks for the commit of a transaction, and what others ask meanwhile may go first.
+    pub(crate) fn send_last(&mut self, commit: Request<'_>) -> Result<Arc<Slot>, Error> {
+        self.put_due(Some(thread::current().id()));
+        let slot = self.conversation.put_last(commit);
+        self.conversation.ask_all()?;
+        Ok(slot)
+    }
+
     /// Puts the begins that a thread put off, or all of them, before what comes next.
     fn put_due(&mut self, of: Option<ThreadId>) {
         for PutOff { age, .. } in self.begins.due(of) {

@@ -27,6 +27,15 @@ pub(crate) enum Verb {
     Would,
 }
 
+/// When a child gets the end of a transaction.
+#[derive(Clone, Copy, Debug, PartialEq, Eq)]
+pub(crate) enum When {
+    /// Before what is asked later.
+    InOrder,
+    /// What others ask meanwhile may come before it.
+    OthersFirst,
+}
+
 /// What a store answered.
 struct Told {
     reply: Reply,
@@ -401,10 +410,10 @@ impl SharedStore {
 
     /// Commits a transaction. Over a child that is awaited outside the lock.
     #[inline]
-    pub(crate) fn commit(&self, guard: Guard<'_>, ticket: Ticket) -> Result<(), Error> {
+    pub(crate) fn commit(&self, guard: Guard<'_>, ticket: Ticket, when: When) -> Result<(), Error> {
         match self.child() {
             None => self.commit_in_memory(guard, ticket),
-            Some(behind) => self.end_served(behind, guard, ticket, Request::Commit(ticket.id)),
+            Some(behind) => self.end_served(behind, guard, ticket, (Request::Commit(ticket.id), when)),
         }
     }
 
@@ -421,16 +430,20 @@ impl SharedStore {
     pub(crate) fn abort(&self, mut guard: Guard<'_>, ticket: Ticket) -> Result<(), Error> {
         match self.child() {
             None => abort_in_memory(&mut guard, ticket),
-            Some(behind) => self.end_served(behind, guard, ticket, Request::Abort(ticket.id)),
+            Some(behind) => self.end_served(behind, guard, ticket, (Request::Abort(ticket.id), When::InOrder)),
         }
     }
 
-    /// Asks a child for the end of a transaction. As soon as it is asked for it counts as ended, since the child
-    /// takes the lines in their order.
-    fn end_served(&self, behind: &Behind, mut guard: Guard<'_>, ticket: Ticket, request: Request<'_>) -> Result<(), Error> {
+    /// Asks a child for the end of a transaction. As soon as it is asked for it counts as ended: the child takes the
+    /// lines in their order, and who was let go first and is kept out looks again.
+    fn end_served(&self, behind: &Behind, mut guard: Guard<'_>, ticket: Ticket, (request, when): (Request<'_>, When)) -> Result<(), Error> {
         guard.is_of_life(ticket)?;
         let is_abort = request.committed().is_none();
-        let slot = guard.send(request)?;
+        // who waits is woken now, and is to find that it has ended
+        let slot = match when {
+            When::OthersFirst if guard.waiting.is_empty() => guard.served()?.send_last(request)?,
+            _ => guard.send(request)?,
+        };
         counts_as_ended(&mut guard, ticket, is_abort);
         drop(guard);
         let told = behind.link.answered(&slot);

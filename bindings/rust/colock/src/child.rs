@@ -1,8 +1,8 @@
 //! The child process `colock serve`, the thread that reads what it answers, and the requests to it.
 
 use crate::error::Error;
+use crate::flight::{no_line, Flight};
 use crate::fork::{self, Unforked};
-use crate::gather::Gather;
 use crate::locks::locked;
 use crate::past::Found;
 use crate::program::{found_in, nameless_file, said_in};
@@ -10,10 +10,8 @@ use crate::request::{answer, Answer, Request};
 use crate::slot::{Form, Pending, Slot};
 use crate::store_state::State;
 use crate::waiting::Verdict;
-use std::collections::VecDeque;
 use std::fs::File;
 use std::io::{self, ErrorKind, Read, Write};
-use std::mem;
 use std::os::unix::process::CommandExt;
 use std::process::{Child, ChildStdin, ChildStdout, Command, Stdio};
 use std::sync::{Arc, Mutex, OnceLock, Weak};
@@ -27,10 +25,7 @@ const LONGEST_ANSWER: usize = 4096;
 const READ_AT_ONCE: usize = 65_536;
 
 /// How long who writes waits for those who were just answered.
-const LONGEST_GATHERING: Duration = Duration::from_micros(50);
-
-/// How many bytes of requests are written at once at most.
-const WRITTEN_AT_ONCE: usize = 32_768;
+const LONGEST_GATHERING: Duration = Duration::from_micros(200);
 
 /// How long a child that has closed its output may take to end, between two looks.
 const BETWEEN_LOOKS: Duration = Duration::from_millis(1);
@@ -53,60 +48,6 @@ pub(crate) struct Link {
     store: OnceLock<Weak<Mutex<State>>>,
 }
 
-/// What was asked and isn't answered, in the order in which it was asked.
-#[derive(Debug)]
-struct Flight {
-    queue: VecDeque<Pending>,
-    /// The lines of the last of them, which aren't written yet, and how many these are.
-    lines: Vec<u8>,
-    unwritten: usize,
-    /// Whether a thread is about to write.
-    is_writing: bool,
-    gather: Gather,
-    /// Whether the end was asked for.
-    is_ending: bool,
-    /// Why nothing can be asked any more.
-    lost: Option<String>,
-}
-
-/// Requests that were answered, each with the last line of its answer.
-type Whole<'l> = Vec<(Pending, &'l str)>;
-
-impl Flight {
-    /// Whether a thread is to write what was asked, or is about to be, since all that was written is answered, and no other
-    /// thread does. The answer is yes once.
-    fn is_to_write(&mut self) -> bool {
-        let is_to_write = !self.is_writing && self.queue.len() == self.unwritten;
-        self.is_writing |= is_to_write;
-        is_to_write
-    }
-
-    /// The lines that are written now. Who writes them never waits for the child to read: its pipe takes more.
-    fn taken(&mut self) -> Vec<u8> {
-        if self.lines.len() <= WRITTEN_AT_ONCE {
-            self.unwritten = 0;
-            return mem::take(&mut self.lines);
-        }
-        let end = self.lines[..WRITTEN_AT_ONCE].iter().rposition(|byte| *byte == b'\n').map_or(self.lines.len(), |place| place + 1);
-        let later = self.lines.split_off(end);
-        self.unwritten = later.iter().filter(|byte| **byte == b'\n').count();
-        mem::replace(&mut self.lines, later)
-    }
-
-    /// Takes a line. Where an answer is whole by it, the request is answered.
-    fn take<'l>(&mut self, line: &'l [u8], whole: &mut Whole<'l>) -> Result<(), String> {
-        let text = line.strip_suffix(b"\n").and_then(|text| std::str::from_utf8(text).ok()).ok_or_else(|| no_line(line))?;
-        let head = self.queue.front().ok_or_else(|| format!("an answer that nobody asked for: {text}"))?;
-        let answer = head.own(text).ok_or_else(|| format!("an answer to another request: {text}"))?;
-        if !head.ends_with(answer) {
-            head.add(answer);
-        } else if let Some(head) = self.queue.pop_front() {
-            whole.push((head, answer));
-        }
-        Ok(())
-    }
-}
-
 /// Reads what is there; how many bytes that are.
 fn read_more(output: &mut Unforked<ChildStdout>, room: &mut [u8]) -> io::Result<usize> {
     loop {
@@ -115,11 +56,6 @@ fn read_more(output: &mut Unforked<ChildStdout>, room: &mut [u8]) -> io::Result<
             count => return count,
         }
     }
-}
-
-/// That a line isn't one.
-fn no_line(line: &[u8]) -> String {
-    format!("no whole line of text: {}", shown(line))
 }
 
 impl Link {
@@ -135,17 +71,8 @@ impl Link {
         };
         let (input, output) = (Mutex::new(Some(Unforked::new(input))), Unforked::new(output));
         let greeting = Arc::new(Slot::default());
-        let first = Pending { tag: 0, form: Form::Greeting, commits: None, wakes: false, slot: Arc::clone(&greeting) };
-        let flight = Flight {
-            queue: VecDeque::from([first]),
-            lines: Vec::new(),
-            unwritten: 0,
-            is_writing: false,
-            gather: Gather::default(),
-            is_ending: false,
-            lost: None,
-        };
-        let (child, flight, forks) = (Mutex::new(child), Mutex::new(flight), fork::count());
+        let first = Pending { tag: 0, form: Form::Greeting, commits: None, wakes: false, is_last: false, slot: Arc::clone(&greeting) };
+        let (child, flight, forks) = (Mutex::new(child), Mutex::new(Flight::new(first)), fork::count());
         let link = Arc::new(Link { child, input, flight, said, limit, forks, reason: OnceLock::new(), store: OnceLock::new() });
         let reading = Arc::clone(&link);
         let reader = thread::Builder::new().name("colock answers".to_string()).spawn(move || reading.read_all(output));
@@ -207,7 +134,7 @@ impl Link {
         let (taken, is_to_write) = {
             let mut flight = locked(&self.flight);
             let taken = lines.split_inclusive(|byte| *byte == b'\n').try_for_each(|line| flight.take(line, &mut whole));
-            flight.gather.answers(whole.iter().filter(|(pending, _)| pending.wakes).count() as u64);
+            flight.answers(&whole);
             (taken, flight.is_to_write())
         };
         // without the lock, since those who are woken take it
@@ -220,15 +147,7 @@ impl Link {
 
     /// No more answers come.
     fn is_over(&self, words: &str) {
-        let is_closed = {
-            let mut flight = locked(&self.flight);
-            let is_closed = flight.is_ending && flight.queue.is_empty();
-            if is_closed {
-                flight.lost.get_or_insert_with(|| "it is closed".to_string());
-            }
-            is_closed
-        };
-        if !is_closed {
+        if !locked(&self.flight).is_closed() {
             self.lose(words);
         }
         self.wake_sleepers();
@@ -251,11 +170,7 @@ impl Link {
         self.kill();
         let said = said_in(&self.said);
         let words = if said.is_empty() { words.clone() } else { format!("{words}: {said}") };
-        let doomed = {
-            let mut flight = locked(&self.flight);
-            flight.lost.get_or_insert_with(|| words.clone());
-            std::mem::take(&mut flight.queue)
-        };
+        let doomed = locked(&self.flight).lose(&words);
         doomed.iter().for_each(|pending| pending.fail(&words));
     }
 
@@ -280,7 +195,7 @@ impl Link {
 
     /// Why nothing can be asked any more.
     pub(crate) fn lost(&self) -> Option<Error> {
-        locked(&self.flight).lost.clone().map(Error::ConnectionLost)
+        locked(&self.flight).lost().map(|words| Error::ConnectionLost(words.to_string()))
     }
 
     /// An answer that isn't one to what was asked.
@@ -292,17 +207,14 @@ impl Link {
     // ---- requests
 
     /// Puts requests after those that aren't answered. Where the child is lost they fail.
-    fn expect(&self, requests: &mut Vec<Pending>, lines: &[u8]) -> Result<(), Error> {
+    fn expect(&self, requests: &mut Vec<Pending>, lines: &mut Vec<u8>) -> Result<(), Error> {
         let mut flight = locked(&self.flight);
-        if let Some(words) = &flight.lost {
+        if let Some(words) = flight.lost() {
             requests.drain(..).for_each(|pending| pending.fail(words));
-            return Err(Error::ConnectionLost(words.clone()));
+            lines.clear();
+            return Err(Error::ConnectionLost(words.to_string()));
         }
-        flight.is_ending |= requests.iter().any(|pending| pending.form == Form::End);
-        flight.unwritten += requests.len();
-        flight.queue.extend(requests.drain(..));
-        flight.lines.extend_from_slice(lines);
-        flight.gather.asks();
+        flight.expect(requests, lines);
         Ok(())
     }
 
@@ -311,7 +223,7 @@ impl Link {
     pub(crate) fn write(&self) {
         let is_to_write = {
             let mut flight = locked(&self.flight);
-            !flight.lines.is_empty() && flight.is_to_write()
+            flight.has_lines() && flight.is_to_write()
         };
         if is_to_write {
             self.write_gathered();
@@ -332,9 +244,9 @@ impl Link {
                 self.lose(&format!("nothing can be asked: {error}"));
             }
             let mut flight = locked(&self.flight);
-            flight.is_writing = false;
+            flight.has_written();
             // that was answered meanwhile, and more was asked
-            if flight.lines.is_empty() || !flight.is_to_write() {
+            if !flight.has_lines() || !flight.is_to_write() {
                 return;
             }
         }
@@ -345,8 +257,7 @@ impl Link {
         let start = Instant::now();
         loop {
             let mut flight = locked(&self.flight);
-            if flight.gather.is_whole() || start.elapsed() >= LONGEST_GATHERING {
-                flight.gather.writes();
+            if flight.is_whole() || start.elapsed() >= LONGEST_GATHERING {
                 return flight.taken();
             }
             drop(flight);
@@ -396,6 +307,15 @@ impl Conversation {
 
     /// Puts a request after those that are to be asked. Its answer comes into the slot, after `ask_all`.
     pub(crate) fn put(&mut self, request: Request<'_>) -> Arc<Slot> {
+        self.put_so(request, false)
+    }
+
+    /// The same, where what others ask meanwhile may go before it.
+    pub(crate) fn put_last(&mut self, request: Request<'_>) -> Arc<Slot> {
+        self.put_so(request, true)
+    }
+
+    fn put_so(&mut self, request: Request<'_>, is_last: bool) -> Arc<Slot> {
         self.tag += 1;
         // a write into memory doesn't fail
         let _ = writeln!(self.lines, "{} {request}", self.tag);
@@ -406,7 +326,7 @@ impl Conversation {
         };
         let slot = Arc::new(Slot::default());
         let wakes = !matches!(request, Request::Begin | Request::Abort(_));
-        self.requests.push(Pending { tag: self.tag, form, commits: request.committed(), wakes, slot: Arc::clone(&slot) });
+        self.requests.push(Pending { tag: self.tag, form, commits: request.committed(), wakes, is_last, slot: Arc::clone(&slot) });
         slot
     }
 
@@ -425,9 +345,7 @@ impl Conversation {
         }
         // before any lock that is needed for it: in a fork it may be held for ever
         self.link.is_here()?;
-        let asked = self.link.expect(&mut self.requests, &self.lines);
-        self.lines.clear();
-        asked
+        self.link.expect(&mut self.requests, &mut self.lines)
     }
 
     /// Asks for something and waits for the answer, with the lock.
@@ -443,11 +361,6 @@ impl Drop for Link {
         // its reader and its store are gone, so that its output has ended
         self.kill();
     }
-}
-
-/// The beginning of a line, for words.
-fn shown(line: &[u8]) -> String {
-    String::from_utf8_lossy(&line[..line.len().min(80)]).escape_debug().to_string()
 }
 
 /// The lines of a list, and nothing of the `ok` after them.

@@ -153,6 +153,7 @@ mod child;
 mod creating;
 mod error;
 mod event;
+mod flight;
 mod fork;
 mod gather;
 mod handle;

@@ -1,5 +1,5 @@
 use crate::beginning::FirstTold;
-use crate::calling::{abort_at_once, Call, InTheWay, Verb};
+use crate::calling::{abort_at_once, Call, InTheWay, Verb, When};
 use crate::error::Error;
 use crate::locks::locked;
 use crate::request::Id;
@@ -325,7 +325,7 @@ impl<'s> SharedTransaction<'s> {
     /// or [`Error::OutcomeUnknown`] where the child was lost before it answered.
     pub fn commit(mut self) -> Result<(), Error> {
         let ticket = self.ended()?;
-        self.store.commit(self.store.enter()?, ticket)
+        self.store.commit(self.store.enter()?, ticket, When::OthersFirst)
     }
 
     /// Its end is asked for by the caller.

@@ -85,6 +85,8 @@ pub(crate) struct Pending {
     pub(crate) commits: Option<Id>,
     /// Whether a thread waits for it that may ask again at once.
     pub(crate) wakes: bool,
+    /// Whether what others ask may go before it.
+    pub(crate) is_last: bool,
     pub(crate) slot: Arc<Slot>,
 }
 
@@ -131,7 +133,7 @@ mod tests {
 
     fn pending(form: Form, commits: Option<Id>) -> (Pending, Arc<Slot>) {
         let slot = Arc::new(Slot::default());
-        (Pending { tag: 12, form, commits, wakes: true, slot: Arc::clone(&slot) }, slot)
+        (Pending { tag: 12, form, commits, wakes: true, is_last: false, slot: Arc::clone(&slot) }, slot)
     }
 
     #[test]

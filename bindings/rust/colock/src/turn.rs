@@ -1,4 +1,4 @@
-use crate::calling::{abort_at_once, in_memory, Call, Verb};
+use crate::calling::{abort_at_once, in_memory, Call, Verb, When};
 use crate::error::Error;
 use crate::shared::{Guard, Lock, SharedStore};
 use crate::store_state::{Held, State, Ticket};
@@ -101,7 +101,8 @@ impl<'s> Turn<'s> {
     #[inline]
     fn commit(mut self) -> Result<(), Error> {
         match self.guard.take() {
-            Some(guard) => self.store.commit(guard, self.ticket),
+            // the next turn is to find that it has ended
+            Some(guard) => self.store.commit(guard, self.ticket, When::InOrder),
             None => Err(Error::NotOpen),
         }
     }

@@ -9,6 +9,8 @@ use std::io::{Read, Write};
 use std::os::unix::net::UnixStream;
 use std::path::PathBuf;
 use std::sync::Mutex;
+use std::thread;
+use std::time::{Duration, Instant};
 
 extern "C" {
     fn fork() -> i32;
@@ -121,6 +123,11 @@ fn a_fork_has_no_pipe() {
     });
     here.read_exact(&mut [0]).unwrap();
     let held = |process: u32| files(process).into_iter().filter(|file| all.contains(file)).count();
+    // the thread that reads what a closed store answers may end a moment later
+    let start = Instant::now();
+    while held(std::process::id()) > 2 && start.elapsed() < LONG {
+        thread::sleep(Duration::from_millis(1));
+    }
     assert_eq!((held(std::process::id()), held(fork.0 as u32)), (2, 0));
     here.write_all(b"!").unwrap();
     assert!(fork.ended_well());

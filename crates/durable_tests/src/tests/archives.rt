@@ -5,7 +5,7 @@ ghost use Rattle.sqlite_trees.specs.View.{IsClean};
 ghost use Rattle.serving.specs.Archives.{KeptHistory};
 ghost use Rattle.durable_tests.specs.declared.tests.archives.Kept.{Kept};
 
-use super::counters::{has, no_trees, opened};
+use super::counters::{NewTrees, has, opened};
 use super::serving_lines::output;
 use durable_store::open;
 use serving::{Archive, ArchiveFault, Client, EpochLimits, ServeFault, Server, serve};
@@ -88,7 +88,7 @@ fn has_one(shelf: &Shelf, text: &[u8]) -> bool {
 }
 
 /// Trees in memory, which are always listed by their numbers.
-trait Numbered: Alter {
+trait Numbered: NewTrees {
     /// The same.
     fn numbered(self) -> Self
         ensures { IsTrue (Self.Store.view result).is_numbered };
@@ -155,12 +155,6 @@ fn is_kept<S: Alter + Drop>(rt: &(impl Abort + AllocGlobal + Clock), trees: S)
     assert!(rt; told == (Ok(()), 2, 1) && has_one(&shelf, HISTORY));
 }
 
-/// An epoch that is full is kept as the text of its history, under its life, and the next one begins.
-#[test]
-fn a_full_epoch_is_kept(rt: HostRuntime) {
-    is_kept(&rt, no_trees(&rt));
-}
-
 /// The same, where what is open is aborted.
 static OPEN: &[u8] =
     b"a begin\nb call 1.0 0 inc:1\nc begin\nd call 1.1 1 inc:1\ne begin\nf stats\n";
@@ -179,12 +173,6 @@ fn is_kept_aborted<S: Alter + Drop>(rt: &(impl Abort + AllocGlobal + Clock), tre
     assert!(rt; told == (Ok(()), 2, 1) && has_one(&shelf, ABORTED));
 }
 
-/// What is open is aborted before the history is kept.
-#[test]
-fn aborts_are_kept(rt: HostRuntime) {
-    is_kept_aborted(&rt, no_trees(&rt));
-}
-
 /// That nothing begins anew where the archive fails: what is found in the trees has the whole epoch.
 fn is_held<S: Numbered + Drop>(rt: &(impl Abort + AllocGlobal + Clock), trees: S)
     requires { IsClean (S.Store.view trees) → IsTrue (S.Store.view trees).is_numbered }
@@ -197,12 +185,6 @@ fn is_held<S: Numbered + Drop>(rt: &(impl Abort + AllocGlobal + Clock), trees: S
     assert!(rt; told == (Err(fault), 1, 6) && shelf.all.is_empty());
 }
 
-/// Where the archive fails, serving stops, and the file holds the epoch.
-#[test]
-fn an_epoch_that_is_not_kept_does_not_end(rt: HostRuntime) {
-    is_held(&rt, no_trees(&rt));
-}
-
 /// That an archive that asks for none is given none.
 fn is_let_go<S: Alter + Drop>(rt: &(impl Abort + AllocGlobal + Clock), trees: S)
     requires { IsClean (S.Store.view trees) → IsTrue (S.Store.view trees).is_numbered }
@@ -210,12 +192,6 @@ fn is_let_go<S: Alter + Drop>(rt: &(impl Abort + AllocGlobal + Clock), trees: S)
     let mut none = Unwilling { given: 0 };
     let (told, _) = served(rt, trees, &mut none, hour(), COMMITTED);
     assert!(rt; told == (Ok(()), 2, 1) && none.given == 0);
-}
-
-/// Where the archive asks for none, the next epoch begins without it.
-#[test]
-fn an_archive_that_wants_none_is_given_none(rt: HostRuntime) {
-    is_let_go(&rt, no_trees(&rt));
 }
 
 /// That the history is kept at the end too, and the end is answered.
@@ -245,8 +221,19 @@ fn is_kept_at_the_end<S: Alter + Drop>(rt: &(impl Abort + AllocGlobal + Clock), 
     assert!(rt; ended.is_ok() && has_one(&shelf, text.as_slice()));
 }
 
-/// The last epoch is kept before the end is answered.
+/// Each of these archives at new trees: an epoch that is full is kept as the text of its history, under its life, and
+/// the next one begins; what is open is aborted before. Where the archive fails, serving stops and the file holds the
+/// epoch; where it asks for none, the next epoch begins without it. The last epoch is kept before the client hears of
+/// the end.
+fn archives<S: Numbered + Drop, R: Abort + AllocGlobal + Clock>(rt: &R) {
+    is_kept(rt, S::no_trees(rt));
+    is_kept_aborted(rt, S::no_trees(rt));
+    is_held(rt, S::no_trees(rt));
+    is_let_go(rt, S::no_trees(rt));
+    is_kept_at_the_end(rt, S::no_trees(rt));
+}
+
 #[test]
-fn the_last_epoch_is_kept(rt: HostRuntime) {
-    is_kept_at_the_end(&rt, no_trees(&rt));
+fn epochs_that_end_are_kept(rt: HostRuntime) {
+    archives::<MemStore, HostRuntime>(&rt);
 }

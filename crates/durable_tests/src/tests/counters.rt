@@ -61,9 +61,18 @@ pub fn two_counters(rt: &(impl Abort + AllocGlobal)) -> FileContents {
     contents(rt, COUNTER, &TWO, 0)
 }
 
-/// Trees in memory, none yet.
-pub fn no_trees(rt: &(impl Abort + AllocGlobal)) -> MemStore {
-    MemStore::new(rt.alloc(), &[]).expect(rt, "no trees")
+/// Trees of which a test makes new ones. The tests are generic in them, and run over trees in memory: where these are
+/// named, each step costs several times as much to prove.
+pub trait NewTrees: Alter + Reopen {
+    /// None yet.
+    fn no_trees<R: Abort + AllocGlobal>(rt: &R) -> Self
+        ensures { IsClean (Self.Store.view result) → IsTrue (Self.Store.view result).is_numbered };
+}
+
+impl NewTrees for MemStore {
+    fn no_trees<R: Abort + AllocGlobal>(rt: &R) -> MemStore {
+        MemStore::new(rt.alloc(), &[]).expect(rt, "no trees")
+    }
 }
 
 /// The trees of a new file.
@@ -73,6 +82,13 @@ pub fn created<S: Alter + Drop>(rt: &(impl Abort + AllocGlobal), trees: S, said:
 {
     let journal = Journal::create(rt.alloc(), trees, said).ok();
     journal.expect(rt, "no file").into_store()
+}
+
+/// A new store of the two counters, over new trees.
+pub fn new_store<S: NewTrees + Drop, R: Abort + AllocGlobal>(rt: &R) -> Durable<S>
+    ensures { IsDurable S.Store result }
+{
+    opened(rt, S::no_trees(rt))
 }
 
 /// A new store of the two counters.

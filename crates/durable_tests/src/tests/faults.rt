@@ -3,10 +3,11 @@
 ghost use Rattle.std.specs.Prelude.{IsTrue};
 ghost use Rattle.sqlite_trees.specs.View.{IsClean};
 
-use super::counters::{TWO, contents, created, no_trees, two_counters};
+use super::counters::{NewTrees, TWO, contents, created, two_counters};
 use durable_store::{OpenError, open};
 use journal::{Journal, JournalError};
 use object_trait::EventKind;
+use sqlite_trees::memory::MemStore;
 use sqlite_trees::store::Alter;
 use std::process::Abort;
 use std::test::Fail;
@@ -43,27 +44,24 @@ fn error_of_new<S: Alter + Drop>(
 }
 
 /// Trees with no table are no file of a store.
-#[test]
-fn no_tables_are_foreign(rt: HostRuntime) {
-    assert!(rt; error_of(&rt, no_trees(&rt)) == Some(OpenError::Journal(JournalError::Foreign)));
+fn no_tables_are_foreign<S: NewTrees + Drop, R: Abort + AllocGlobal>(rt: &R) {
+    assert!(rt; error_of(rt, S::no_trees(rt)) == Some(OpenError::Journal(JournalError::Foreign)));
 }
 
 /// A text has a fault.
-#[test]
-fn a_text_with_a_fault_is_told(rt: HostRuntime) {
-    let told = error_of_new(&rt, no_trees(&rt), "type counter\nend\n", &TWO, 0);
+fn a_text_with_a_fault_is_told<S: NewTrees + Drop, R: Abort + AllocGlobal>(rt: &R) {
+    let told = error_of_new(rt, S::no_trees(rt), "type counter\nend\n", &TWO, 0);
     assert!(rt; told == Some(OpenError::Text(0)));
 }
 
 /// An object names a text that isn't there, or begins at a state that isn't its type's.
-#[test]
-fn an_object_without_a_type_is_told(rt: HostRuntime) {
+fn an_object_without_a_type_is_told<S: NewTrees + Drop, R: Abort + AllocGlobal>(rt: &R) {
     let second = ObjectLine {
         kind: Kind::Undo,
         file: 1,
     };
-    let unplaced = error_of_new(&rt, no_trees(&rt), COUNTER, &[TWO[0], second], 0);
-    let outside = error_of_new(&rt, no_trees(&rt), COUNTER, &TWO, 3);
+    let unplaced = error_of_new(rt, S::no_trees(rt), COUNTER, &[TWO[0], second], 0);
+    let outside = error_of_new(rt, S::no_trees(rt), COUNTER, &TWO, 3);
     let untyped = (Some(OpenError::Untyped(1)), Some(OpenError::Untyped(0)));
     assert!(rt; (unplaced, outside) == untyped);
 }
@@ -84,20 +82,32 @@ fn with_a_stray<S: Alter + Drop>(rt: &(impl Abort + AllocGlobal), trees: S) -> S
 }
 
 /// A file of another format isn't opened.
-#[test]
-fn another_format_is_told(rt: HostRuntime) {
-    let mut said = two_counters(&rt);
+fn another_format_is_told<S: NewTrees + Drop, R: Abort + AllocGlobal>(rt: &R) {
+    let mut said = two_counters(rt);
     said.header.format = 2;
-    let trees = created(&rt, no_trees(&rt), &said);
-    assert!(rt; error_of(&rt, trees) == Some(OpenError::Journal(JournalError::Foreign)));
+    let trees = created(rt, S::no_trees(rt), &said);
+    assert!(rt; error_of(rt, trees) == Some(OpenError::Journal(JournalError::Foreign)));
 }
 
 /// The second event isn't made.
+fn an_event_that_nothing_makes_is_told<S: NewTrees + Drop, R: Abort + AllocGlobal>(rt: &R) {
+    let trees = created(rt, S::no_trees(rt), &two_counters(rt));
+    let trees = with_a_stray(rt, trees);
+    assert!(rt; error_of(rt, trees) == Some(OpenError::NotMade(1)));
+}
+
+/// All of these.
+fn faults<S: NewTrees + Drop, R: Abort + AllocGlobal>(rt: &R) {
+    no_tables_are_foreign::<S, R>(rt);
+    a_text_with_a_fault_is_told::<S, R>(rt);
+    an_object_without_a_type_is_told::<S, R>(rt);
+    another_format_is_told::<S, R>(rt);
+    an_event_that_nothing_makes_is_told::<S, R>(rt);
+}
+
 #[test]
-fn an_event_that_nothing_makes_is_told(rt: HostRuntime) {
-    let trees = created(&rt, no_trees(&rt), &two_counters(&rt));
-    let trees = with_a_stray(&rt, trees);
-    assert!(rt; error_of(&rt, trees) == Some(OpenError::NotMade(1)));
+fn faults_are_told(rt: HostRuntime) {
+    faults::<MemStore, HostRuntime>(&rt);
 }
 
 /// What each error says.

@@ -3,9 +3,10 @@
 ghost use Rattle.std.specs.Prelude.{IsTrue};
 ghost use Rattle.sqlite_trees.specs.View.{IsClean};
 
-use super::counters::{no_trees, opened};
+use super::counters::{NewTrees, opened};
 use super::serving_lines::output;
 use serving::{Client, NoArchive, Server};
+use sqlite_trees::memory::MemStore;
 use sqlite_trees::store::Alter;
 use std::process::Abort;
 use std::rt::Clock;
@@ -41,8 +42,9 @@ fn are_told<S: Alter + Drop>(
 }
 
 /// No transaction begins in a full epoch, and where the last one has ended the next epoch begins in another life.
-#[test]
-fn the_next_epoch_begins_where_nothing_is_open(rt: HostRuntime) {
+fn the_next_epoch_begins_where_nothing_is_open<S: NewTrees + Drop, R: Abort + AllocGlobal + Clock>(
+    rt: &R,
+) {
     let lines =
         b"a begin\nb call 1.0 0 inc:1\nc begin\nd call 1.1 1 inc:1\ne begin\nf stats\ng commit 1.0\n\
         h begin\ni commit 1.1\nj begin\nk commit 1.1\nl kept 0\nm stats\n";
@@ -50,15 +52,25 @@ fn the_next_epoch_begins_where_nothing_is_open(rt: HostRuntime) {
         f ok events 4 begun 2 open 2\ng ok\nh busy drain\ni ok\nj ok 2.0\nk refused NotOpen\nl ok 1\n\
         m ok events 1 begun 1 open 1\n";
     let hour = Duration::from_secs(3_600);
-    are_told(&rt, no_trees(&rt), hour, lines, answers);
+    are_told(rt, S::no_trees(rt), hour, lines, answers);
 }
 
 /// What is open longer than it may is aborted.
-#[test]
-fn what_goes_on_too_long_is_aborted(rt: HostRuntime) {
+fn what_goes_on_too_long_is_aborted<S: NewTrees + Drop, R: Abort + AllocGlobal + Clock>(rt: &R) {
     let lines =
         b"a begin\nb call 1.0 0 inc:1\nc begin\nd call 1.1 1 inc:1\ne begin\nf commit 1.0\ng kept 0\n";
     let answers =
         b"a ok 1.0\nb reply ok\nc ok 1.1\nd reply ok\ne ok 2.0\nf refused NotOpen\ng ok 0\n";
-    are_told(&rt, no_trees(&rt), Duration::ZERO, lines, answers);
+    are_told(rt, S::no_trees(rt), Duration::ZERO, lines, answers);
+}
+
+/// Both of these.
+fn full_epochs<S: NewTrees + Drop, R: Abort + AllocGlobal + Clock>(rt: &R) {
+    the_next_epoch_begins_where_nothing_is_open::<S, R>(rt);
+    what_goes_on_too_long_is_aborted::<S, R>(rt);
+}
+
+#[test]
+fn full_epochs_end(rt: HostRuntime) {
+    full_epochs::<MemStore, HostRuntime>(&rt);
 }

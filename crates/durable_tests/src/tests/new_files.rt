@@ -3,9 +3,10 @@
 ghost use Rattle.std.specs.Prelude.{IfOk, IsTrue};
 ghost use Rattle.sqlite_trees.specs.View.{IsClean};
 
-use super::counters::{TWO, has, no_trees};
+use super::counters::{NewTrees, TWO, has};
 use durable_store::{OpenError, create, open};
 use journal::TypeText;
+use sqlite_trees::memory::MemStore;
 use sqlite_trees::store::Alter;
 use std::process::Abort;
 use store_text::ObjectLine;
@@ -48,20 +49,24 @@ fn is_opened<S: Alter + Drop>(rt: &(impl Abort + AllocGlobal), trees: S)
     has(rt, store.expect(rt, "it isn't opened"), 0, 0);
 }
 
-/// Its objects are at the initial states of their types, and nothing has happened.
-#[test]
-fn a_new_file_is_opened(rt: HostRuntime) {
-    is_opened(&rt, no_trees(&rt));
-}
-
 /// No file is made of a text with a fault, nor of an object that names none.
-#[test]
-fn no_file_without_types(rt: HostRuntime) {
+fn no_file_without_types<S: NewTrees + Drop, R: Abort + AllocGlobal>(rt: &R) {
     let second = ObjectLine {
         kind: Kind::Undo,
         file: 1,
     };
-    let faulty = created(&rt, no_trees(&rt), "type counter\nend\n", &TWO).err();
-    let unplaced = created(&rt, no_trees(&rt), COUNTER, &[TWO[0], second]).err();
-    assert!(&rt; faulty == Some(OpenError::Text(0)) && unplaced == Some(OpenError::Untyped(1)));
+    let faulty = created(rt, S::no_trees(rt), "type counter\nend\n", &TWO).err();
+    let unplaced = created(rt, S::no_trees(rt), COUNTER, &[TWO[0], second]).err();
+    assert!(rt; faulty == Some(OpenError::Text(0)) && unplaced == Some(OpenError::Untyped(1)));
+}
+
+/// Its objects are at the initial states of their types, and nothing has happened; of other lines no file is made.
+fn new_files<S: NewTrees + Drop, R: Abort + AllocGlobal>(rt: &R) {
+    is_opened(rt, S::no_trees(rt));
+    no_file_without_types::<S, R>(rt);
+}
+
+#[test]
+fn new_files_are_made(rt: HostRuntime) {
+    new_files::<MemStore, HostRuntime>(&rt);
 }

@@ -6,10 +6,11 @@ ghost use Rattle.durable_store.specs.Durable.{IsDurable};
 ghost use Rattle.outputs.specs.Gathered.{under};
 ghost use Rattle.outputs.specs.Out.{sink_fault};
 
-use super::counters::{has, no_trees, opened, restarted};
+use super::counters::{NewTrees, has, opened, restarted};
 use durable_store::Durable;
 use outputs::{Gathered, OutFault, Sink};
 use serving::{Client, EpochLimits, NoArchive, ServeFault, Server, serve};
+use sqlite_trees::memory::MemStore;
 use sqlite_trees::store::{Alter, Reopen};
 use std::process::Abort;
 use std::rt::Clock;
@@ -133,18 +134,6 @@ fn are_answered<S: Alter + Drop>(rt: &(impl Abort + AllocGlobal + Clock), trees:
     assert!(rt; said.as_slice() == ANSWERED.as_bytes() && served.is_ok() && begun == 3);
 }
 
-#[test]
-fn lines_are_answered(rt: HostRuntime) {
-    are_answered(&rt, no_trees(&rt), 4096);
-}
-
-/// However they come.
-#[test]
-fn lines_are_answered_in_pieces(rt: HostRuntime) {
-    are_answered(&rt, no_trees(&rt), 1);
-    are_answered(&rt, no_trees(&rt), 7);
-}
-
 /// That lines without a request have these answers.
 fn have_no_request<S: Alter + Drop>(
     rt: &(impl Abort + AllocGlobal + Clock),
@@ -160,15 +149,14 @@ fn have_no_request<S: Alter + Drop>(
 }
 
 /// A line that is too long, one with a byte that isn't ASCII, and one that isn't whole.
-#[test]
-fn lines_without_a_request(rt: HostRuntime) {
+fn lines_without_a_request<S: NewTrees + Drop, R: Abort + AllocGlobal + Clock>(rt: &R) {
     let mut lines = Vec::new(rt.alloc());
-    lines.resize(256, b'a').expect(&rt, "no line");
+    lines.resize(256, b'a').expect(rt, "no line");
     lines
         .extend_from_slice(b"\na \xff\nA begin\na begin")
-        .expect(&rt, "no lines");
+        .expect(rt, "no lines");
     let answers = b"- fault TooLong\n- fault NotAscii\n- fault BadTag\n";
-    have_no_request(&rt, no_trees(&rt), &lines, answers.as_slice());
+    have_no_request(rt, S::no_trees(rt), &lines, answers.as_slice());
 }
 
 /// A commit that is answered, and a transaction that stays open.
@@ -189,12 +177,6 @@ fn is_found<S: Alter + Reopen + Drop>(rt: &(impl Abort + AllocGlobal + Clock), t
     }
 }
 
-/// What was answered is found after a crash, and what was open is aborted.
-#[test]
-fn an_answered_commit_is_found(rt: HostRuntime) {
-    is_found(&rt, no_trees(&rt));
-}
-
 /// That the client gets this many bytes of the answers.
 fn is_told_a_beginning<S: Alter + Drop>(
     rt: &(impl Abort + AllocGlobal + Clock),
@@ -207,12 +189,6 @@ fn is_told_a_beginning<S: Alter + Drop>(
     let _ = store.into_trees();
     let is_beginning = ANSWERED.as_bytes().get(..room) == Some(said.as_slice());
     assert!(rt; is_beginning && served == Err(ServeFault::Output(OutFault::Device)));
-}
-
-/// The client gets a beginning where its output stops.
-#[test]
-fn an_output_stops(rt: HostRuntime) {
-    is_told_a_beginning(&rt, no_trees(&rt), 20);
 }
 
 /// What is written from the greeting to the end, where the client has asked for it.
@@ -251,8 +227,20 @@ fn is_served<S: Alter + Drop>(
     assert!(rt; (is_told, served, life) == (true, Ok(()), 2));
 }
 
-/// What was open is aborted, the file begins anew at the states that were kept, and then the end is answered.
+/// Each of these at new trees: lines are answered however they come; what was answered is found after a crash, and
+/// what was open is aborted; the client gets a beginning where its output stops; and at the end the file begins
+/// anew at the states that were kept, before the end is answered.
+fn lines_are_served<S: NewTrees + Drop, R: Abort + AllocGlobal + Clock>(rt: &R) {
+    are_answered(rt, S::no_trees(rt), 4096);
+    are_answered(rt, S::no_trees(rt), 1);
+    are_answered(rt, S::no_trees(rt), 7);
+    lines_without_a_request::<S, R>(rt);
+    is_found(rt, S::no_trees(rt));
+    is_told_a_beginning(rt, S::no_trees(rt), 20);
+    is_served(rt, S::no_trees(rt), ASKED.as_bytes(), b"u ok\n");
+}
+
 #[test]
-fn a_client_is_served_to_the_end(rt: HostRuntime) {
-    is_served(&rt, no_trees(&rt), ASKED.as_bytes(), b"u ok\n");
+fn lines_are_answered(rt: HostRuntime) {
+    lines_are_served::<MemStore, HostRuntime>(&rt);
 }

@@ -81,8 +81,46 @@ fn reads_which_histories_follow(rt: HostRuntime) {
     }
 }
 
+/// Words, and the audit in an order that they ask for: the order, the path of the history, and those of the types.
+static ORDERED: [(&[&str], (&[u32], &str, &[&str])); 3] = [
+    (
+        &["audit", "--order", "2,0,1", "a.history", "a.type", "b.type"],
+        (&[2, 0, 1], "a.history", &["a.type", "b.type"]),
+    ),
+    (
+        &["audit", "--order", "7", "a.history", "a.type"],
+        (&[7], "a.history", &["a.type"]),
+    ),
+    (
+        &["audit", "--order", "7,7,+4294967295,007", "audit", "order"],
+        (&[7, 7, 4294967295, 7], "audit", &["order"]),
+    ),
+];
+
+/// Whether the words ask for this audit in an order.
+fn asks_ordered(alloc: Global, words: &[&str], parts: (&[u32], &str, &[&str])) -> bool {
+    let (ts, path, paths) = parts;
+    match read_words(alloc, words) {
+        Ok(
+            Task::AuditOrdered {
+                order,
+                history,
+                types,
+            },
+        ) => (order.as_slice() == ts) & (history == path) & (types.as_slice() == paths),
+        _ => false,
+    }
+}
+
+#[test]
+fn reads_in_which_order(rt: HostRuntime) {
+    for (words, parts) in &ORDERED {
+        assert!(rt; asks_ordered(rt.alloc(), words, *parts));
+    }
+}
+
 /// Words that ask for no audit, and an option that is none of another command.
-static REFUSED: [&[&str]; 8] = [
+static REFUSED: [&[&str]; 20] = [
     &["audit", "--then", "b.history", "a.history"],
     &["audit", "a.history", "a.type", "--then"],
     &["audit", "a.history", "--then", "--", "b.history", "a.type"],
@@ -91,6 +129,26 @@ static REFUSED: [&[&str]; 8] = [
     &["run", "--then", "b.script", "a.script", "a.type"],
     &["work", "--workers=2", "--then=b", "a.jobs", "a.type"],
     &["--then", "b.history", "audit", "a.history", "a.type"],
+    &["audit", "--order"],
+    &["audit", "--order", "1,0"],
+    &["audit", "--order", "1,0", "a.history"],
+    &["audit", "--order", "", "a.history", "a.type"],
+    &["audit", "--order", "1,", "a.history", "a.type"],
+    &["audit", "--order", "1,,0", "a.history", "a.type"],
+    &["audit", "--order", "1 0", "a.history", "a.type"],
+    &["audit", "--order", "4294967296", "a.history", "a.type"],
+    &["audit", "--order", "-1", "a.history", "a.type"],
+    &[
+        "audit",
+        "--order",
+        "1,0",
+        "a.history",
+        "--then",
+        "b.history",
+        "a.type",
+    ],
+    &["audit", "--order", "1,0", "--database", "a.db"],
+    &["audit", "a.history", "a.type", "--order", "1,0"],
 ];
 
 #[test]

@@ -8,6 +8,7 @@ mod checks;
 mod database_processes;
 mod deferred;
 mod escrow;
+mod explanations;
 mod faults;
 mod first_faults;
 mod in_place;
@@ -15,11 +16,13 @@ mod jobs;
 mod many;
 mod memory;
 mod one_database;
+mod orders;
 mod processes;
 mod rollbacks;
 mod seeds;
 mod stopped;
 mod texts;
+mod type_processes;
 
 use crate::tests::memory_databases::MemoryDatabases;
 use crate::tests::no_archives::NoArchives;
@@ -249,7 +252,7 @@ fn all_play<R: Abort + AllocGlobal + Clock + Threads + Wait + Sync>(rt: &R, case
 }
 
 /// The cases of runs and audits.
-fn all_cases() -> [&'static [Case<'static>]; 7] {
+fn all_cases() -> [&'static [Case<'static>]; 8] {
     [
         &in_place::CASES,
         &deferred::CASES,
@@ -258,6 +261,7 @@ fn all_cases() -> [&'static [Case<'static>]; 7] {
         &faults::CASES,
         &first_faults::CASES,
         &audits::CASES,
+        &orders::CASES,
     ]
 }
 
@@ -269,7 +273,13 @@ fn runs_and_audits(rt: HostRuntime) {
 }
 
 #[test]
+fn explains(rt: HostRuntime) {
+    all_play(&rt, &explanations::CASES);
+}
+
+#[test]
 fn processes_over_memory(rt: HostRuntime) {
+    all_play(&rt, &type_processes::CASES);
     all_play(&rt, &processes::CASES);
     all_play(&rt, &database_processes::CASES);
 }

@@ -178,9 +178,10 @@ fn answers_faults(rt: HostRuntime) {
 }
 
 /// The words that ask for the text on a topic.
-static HELP: [(&[&str], Topic); 13] = [
+static HELP: [(&[&str], Topic); 14] = [
     (&["help"], Topic::Program),
     (&["help", "check"], Topic::Check),
+    (&["help", "explain"], Topic::Explain),
     (&["help", "make"], Topic::Make),
     (&["help", "tables"], Topic::Tables),
     (&["help", "run"], Topic::Run),

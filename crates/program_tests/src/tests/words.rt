@@ -18,6 +18,12 @@ fn has_parts(task: &Task<'_>, parts: &Parts) -> bool {
         Task::Check { kind, path } => {
             (command == "check") & (first == kind.word()) & (second == *path)
         }
+        Task::Explain { kind, path, pair } => {
+            (command == "explain")
+                & (first == kind.word())
+                & (second == *path)
+                & are_pair(*pair, rest)
+        }
         Task::Make {
             family,
             size,
@@ -56,9 +62,18 @@ fn has_parts(task: &Task<'_>, parts: &Parts) -> bool {
         }
         Task::History { database } => (command == "history") & (first == *database),
         Task::AuditDatabase { database } => (command == "audit") & (first == *database),
-        Task::Audit { .. } | Task::Work { .. } | Task::Stress { .. } => false,
+        Task::Audit { .. } | Task::AuditOrdered { .. } | Task::Work { .. } | Task::Stress { .. } =>
+            { false }
         Task::Help { topic } => (command == "help") & (first == word_of(*topic)),
         Task::Version => (command == "version") & (first == VERSION),
+    }
+}
+
+/// Whether these are the words of a pair, or none where there is no pair.
+fn are_pair(pair: Option<(&str, &str)>, words: &[&str]) -> bool {
+    match pair {
+        None => words.is_empty(),
+        Some((p, q)) => words == [p, q].as_slice(),
     }
 }
 
@@ -66,6 +81,7 @@ fn word_of(topic: Topic) -> &'static str {
     match topic {
         Topic::Program => "colock",
         Topic::Check => "check",
+        Topic::Explain => "explain",
         Topic::Make => "make",
         Topic::Tables => "tables",
         Topic::Run => "run",
@@ -81,7 +97,7 @@ fn word_of(topic: Topic) -> &'static str {
 }
 
 /// Words, and the task that they ask for.
-static TASKS: [(&[&str], Parts); 37] = [
+static TASKS: [(&[&str], Parts); 41] = [
     (
         &["check", "undo", "ctr2.type"],
         ("check", "undo", "ctr2.type", &[]),
@@ -89,6 +105,14 @@ static TASKS: [(&[&str], Parts); 37] = [
     (
         &["check", "intentions", "ctr2.type"],
         ("check", "intentions", "ctr2.type", &[]),
+    ),
+    (
+        &["explain", "undo", "ctr2.type"],
+        ("explain", "undo", "ctr2.type", &[]),
+    ),
+    (
+        &["explain", "escrow", "ctr2.type", "0", "dec:1/ok"],
+        ("explain", "escrow", "ctr2.type", &["0", "dec:1/ok"]),
     ),
     (&["make", "account", "2"], ("make", "account", "2", &[])),
     (
@@ -138,6 +162,10 @@ static TASKS: [(&[&str], Parts); 37] = [
         ("check", "intentions", "-x", &[]),
     ),
     (
+        &["explain", "undo", "a.type", "--", "-p/ok", "--"],
+        ("explain", "undo", "a.type", &["-p/ok", "--"]),
+    ),
+    (
         &["create", "--", "-a.db", "--", "-x"],
         ("create", "-a.db", "--", &["-x"]),
     ),
@@ -157,6 +185,7 @@ static TASKS: [(&[&str], Parts); 37] = [
     ),
     (&["help"], ("help", "colock", "", &[])),
     (&["help", "check"], ("help", "check", "", &[])),
+    (&["help", "explain"], ("help", "explain", "", &[])),
     (&["help", "make"], ("help", "make", "", &[])),
     (&["help", "tables"], ("help", "tables", "", &[])),
     (&["help", "run"], ("help", "run", "", &[])),
@@ -444,7 +473,7 @@ fn refuses_other_words_of_workers(rt: HostRuntime) {
 }
 
 /// Words that ask for no task.
-static REFUSED: [&[&str]; 57] = [
+static REFUSED: [&[&str]; 64] = [
     &[],
     &["prove"],
     &["check"],
@@ -455,6 +484,13 @@ static REFUSED: [&[&str]; 57] = [
     &["check", "intentions", "-x"],
     &["--", "check", "intentions", "a"],
     &["check", "--force", "intentions", "a"],
+    &["explain"],
+    &["explain", "undo"],
+    &["explain", "both", "a.type"],
+    &["explain", "undo", "a.type", "0"],
+    &["explain", "undo", "a.type", "0", "1", "2"],
+    &["explain", "undo", "a.type", "0", "-1"],
+    &["explain", "undo", "a.type", "--", "0"],
     &["make"],
     &["make", "account"],
     &["make", "account", "-2", "1"],
@@ -531,10 +567,11 @@ fn usage_names_what_is_missing(rt: HostRuntime) {
 }
 
 /// Options that ask for a text of help.
-static HELP: [(&[&str], Topic); 15] = [
+static HELP: [(&[&str], Topic); 16] = [
     (&["--help"], Topic::Program),
     (&["-h"], Topic::Program),
     (&["check", "--help"], Topic::Check),
+    (&["explain", "-h"], Topic::Explain),
     (&["make", "--help"], Topic::Make),
     (&["make", "-h"], Topic::Make),
     (&["tables", "-h"], Topic::Tables),

@@ -8,6 +8,7 @@ mod forgotten;
 pub mod full;
 mod laws;
 mod made;
+mod numbers;
 mod random;
 mod refused;
 mod renewals;
@@ -18,9 +19,15 @@ mod runs;
 pub mod scripts;
 mod shared;
 
+use object_trait::{Event, Renew};
 use objects::Object;
 use reference_store::checked_types::{Sort, checked_of};
+use std::alloc::{AllocError, Global};
 use std::process::Abort;
+use std::sync::Arc;
+use store::{RenewRefusal, Store};
+use table_checker::CheckedType;
+use type_table::TypeTable;
 
 /// New objects of these sorts. Where one allocation is refused, the next try has it.
 pub fn objects_of(rt: &(impl Abort + AllocGlobal), sorts: &[Sort]) -> Vec<Object> {
@@ -34,4 +41,44 @@ pub fn objects_of(rt: &(impl Abort + AllocGlobal), sorts: &[Sort]) -> Vec<Object
         objects.push(object).ok().expect(rt, "no room");
     }
     objects
+}
+
+/// The checked types of these sorts.
+pub fn types_of(rt: &(impl Abort + AllocGlobal), sorts: &[Sort]) -> Vec<Arc<CheckedType>> {
+    let mut types = Vec::new(rt.alloc());
+    for (kind, text) in sorts {
+        let checked = checked_of(rt.alloc(), text, *kind).expect(rt, "no checked type");
+        types.push(checked).ok().expect(rt, "no room");
+    }
+    types
+}
+
+/// A new object of each of these types.
+pub fn objects_over(rt: &(impl Abort + AllocGlobal), types: &[Arc<CheckedType>]) -> Vec<Object> {
+    let mut objects = Vec::new(rt.alloc());
+    for checked in types {
+        let copy = Arc::try_clone(checked).expect(rt, "too many");
+        let object = Object::new(rt.alloc(), copy);
+        objects.push(object).ok().expect(rt, "no room");
+    }
+    objects
+}
+
+/// The tables of these types.
+pub fn tables_of(alloc: Global, types: &[Arc<CheckedType>]) -> Result<Vec<&TypeTable>, AllocError> {
+    types.iter().map(|checked| checked.table()).collect(alloc)
+}
+
+/// A store that begins anew, and the events of its epoch; else the store, and why not.
+pub type Renewed<R> = Result<(Store<R>, Vec<Event>), (Store<R>, RenewRefusal)>;
+
+/// A store that began anew, and the events of its epoch.
+pub fn next_of<R: Renew>(rt: &impl Abort, renewed: Renewed<R>) -> (Store<R>, Vec<Event>) {
+    match renewed {
+        Ok(next) => next,
+        Err((store, _)) => {
+            let _ = store.close();
+            panic!(rt; "no epoch began")
+        }
+    }
 }

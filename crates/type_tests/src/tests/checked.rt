@@ -1,6 +1,7 @@
 //! What `check` and `check_parallel` hand back besides their verdict, and how faults are printed.
 
 use crate::tests::type_files::{file_of, is_written};
+use escrow_laws::Bounded;
 use std::process::Abort;
 use std::test::Fail;
 use table_checker::{
@@ -9,7 +10,7 @@ use table_checker::{
 use table_maker::MakeError;
 use test_support::printed::are_printed;
 use test_support::texts::changed;
-use test_support::type_texts::{COUNTER, IDLE, ONE_WAY};
+use test_support::type_texts::{COUNTER, IDLE, NUMBER_OF_FIVE, ONE_WAY};
 use type_table::{ConflictTable, Kind, TableKind};
 use type_text::TypeFile;
 
@@ -85,9 +86,30 @@ fn counter_refused_in_parallel_comes_back(rt: HostRuntime) {
 fn a_number_needs_no_conflict(rt: HostRuntime) {
     let text = with_conflict(&rt, b"");
     assert!(rt; check(file_of(&rt, &text), Kind::Intentions).is_err());
-    let counter = accepted(&rt, &text, Kind::Escrow);
-    assert!(rt; counter.kind() == Kind::Escrow && counter.is_strong());
-    assert!(rt; counter.bounds().as_slice().len() == 2);
+    is_numeric(&rt, &text, 2, up_to(1));
+}
+
+/// An operation that gives one, and is legal up to this number.
+fn up_to(high: u32) -> Bounded {
+    Bounded {
+        low: 0,
+        high,
+        gives: 1,
+        takes: 0,
+    }
+}
+
+/// That a number is accepted for escrow, with so many operations, of which the first has these bounds.
+fn is_numeric(rt: &(impl Abort + AllocGlobal), text: &[u8], count: usize, first: Bounded) {
+    let checked = accepted(rt, text, Kind::Escrow);
+    assert!(rt; checked.kind() == Kind::Escrow && checked.is_strong());
+    let bounds = checked.bounds().as_slice();
+    assert!(rt; bounds.len() == count && bounds.first() == Some(&first));
+}
+
+#[test]
+fn a_number_has_bounds(rt: HostRuntime) {
+    is_numeric(&rt, NUMBER_OF_FIVE.as_bytes(), 3, up_to(4));
 }
 
 /// `q` of this type is legal in states 0 and 2, and not in state 1. (`p` is legal in 0 and 1, and moves both by
@@ -97,6 +119,27 @@ fn a_type_that_is_no_number_comes_back(rt: HostRuntime) {
     let wanted = CheckRefusal::NotNumeric { k: 1, s: 1 };
     let checked = check_parallel(&rt, file_of(&rt, ONE_WAY.as_bytes()), Kind::Escrow);
     comes_back(&rt, ONE_WAY.as_bytes(), checked, wanted);
+}
+
+/// A set of one element.
+const SET: &[u8] = b"type set
+states 2
+initial 0
+op insert:a ok
+op delete:a ok
+step 0 0 1
+step 0 1 0
+step 1 0 1
+step 1 1 0
+end
+";
+
+/// `insert:a` leads from both states to state 1.
+#[test]
+fn a_set_is_no_number(rt: HostRuntime) {
+    let wanted = CheckRefusal::NotNumeric { k: 0, s: 1 };
+    let checked = check(file_of(&rt, SET), Kind::Escrow);
+    comes_back(&rt, SET, checked, wanted);
 }
 
 /// The type of a text, accepted for a kind of recovery.

@@ -10,6 +10,7 @@ use Rattle.serve_command.specs.Found.{SaysFound}
 use Rattle.serve_command.specs.Served.{BeginsServing, ComesOfServing, ServesDatabase}
 use Rattle.database_commands.specs.Created.{CreatesStore, HasCreateFault}
 use Rattle.store_commands.specs.Audited.{AuditsFiles, HasAuditFault}
+use Rattle.store_commands.specs.Ordered.{AuditsOrdered, HasOrderedFault}
 use Rattle.store_commands.specs.Runs.{BeginsRunFile, HasRunFault, RunsFile, WritesRunFile}
 use Rattle.store_commands.specs.Works.{BeginsWorkFile, HasWorkFault, WorksFile, WritesWorkFile}
 use Rattle.type_commands.specs.Made.{CannotBeMade, MakesFamily}
@@ -88,6 +89,21 @@ returns-in-Audit-clause-does g c =
     let one = subst (λ hs. Of hs c.deref-in-Audit-2.result.now) c.deref-in-Audit.ensures.value c.audit_histories.ensures in
     let done = subst (λ ws. Of c.in-Audit.later.items ws) c.deref-in-Audit-2.ensures.value one in
     subst Does (sym c.in-Audit.is) (inr (comes_or _ _ _ _ _ _ _ _ c.audit_histories.result old new (λ text whole. whole) (λ text begun. begun) (λ v text answer. answer) (λ bad. bad) done))
+
+pub returns-in-AuditOrdered-clause-does : goal.returns-in-AuditOrdered-clause-does
+returns-in-AuditOrdered-clause-does g c =
+    let holds = g.S.Source.holds c.args.given.now.source in
+    let databases = c.args.given.now.databases in
+    let input = g.I.Read.remaining c.args.given.now.input in
+    let given = shown holds (g.D.Databases.holds databases) (g.D.Databases.holds databases) (g.D.Databases.is_clean databases) input input in
+    let old = taken_by g.W.Out.taken c.args.console.out in
+    let new = taken_by g.W.Out.taken c.audit_ordered.new.out in
+    let Does : Task → Type 0 = λ t. DoesTask given t c.audit_ordered.result old new in
+    let Of : List ℕ → List (Bor (List ℕ)) → Type 0 = λ ts ws. let words = map (λ p. p.now) ws in
+    Comes (AuditsOrdered holds ts c.in-AuditOrdered.history.now words) (HasOrderedFault holds ts c.in-AuditOrdered.history.now words) c.audit_ordered.result old new in
+    let one = subst (λ ts. Of ts c.deref-in-AuditOrdered-2.result.now) c.deref-in-AuditOrdered.ensures.value c.audit_ordered.ensures in
+    let done = subst (λ ws. Of c.in-AuditOrdered.order.items ws) c.deref-in-AuditOrdered-2.ensures.value one in
+    subst Does (sym c.in-AuditOrdered.is) (inr (comes_or _ _ _ _ _ _ _ _ c.audit_ordered.result old new (λ text whole. whole) (λ text begun. begun) (λ v text answer. answer) (λ bad. bad) done))
 
 pub returns-in-Create-clause-does : goal.returns-in-Create-clause-does
 returns-in-Create-clause-does g c =

@@ -10,4 +10,4 @@ returns-clause-audits c =
 
 pub returns-clause-states : goal.returns-clause-states
 returns-clause-states c =
-    outcome-ready (map (λ t. t.now) c.args.tables.now) c.loop-at.auditor c.outcome.result c.loop-at.invariant.ready c.outcome.ensures
+    outcome-ready (map (λ t. t.now) c.args.tables.now) c.loop-at.auditor.serial c.outcome.result c.loop-at.invariant.serial.ready c.outcome.ensures

@@ -5,11 +5,11 @@ use Rattle.history_audit.proofs.worked.the_least_object_comes_first.Goals as goa
 
 pub returns-clause-executed_first : goal.returns-clause-executed_first
 unfolding next
-returns-clause-executed_first c = record { t = 0; table = counter; committed = refl; object = refl; there = omega arith; illegal = refl }
+returns-clause-executed_first c = record { t = 0; table = counter; transaction = refl; object = refl; there = omega arith; illegal = refl }
 
 pub returns-clause-first : goal.returns-clause-first
 unfolding next
-returns-clause-first c = record { t = 0; table = counter; committed = refl; object = refl; there = omega arith; illegal = refl }
+returns-clause-first c = record { t = 0; table = counter; transaction = refl; object = refl; there = omega arith; illegal = refl }
 
 pub returns-clause-order : goal.returns-clause-order
 returns-clause-order c = inr (refl, inl (omega arith))

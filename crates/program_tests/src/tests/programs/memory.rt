@@ -7,7 +7,7 @@ use super::deferred::BOTH_COMMIT;
 use super::in_place::{ONE_WAY_ORDER, TWO_DEQUEUES};
 use super::jobs::{ONE_WORKER, ONE_WORKER_DRAWN};
 use super::rollbacks::BOTH_KINDS;
-use super::{Case, NO_MEMORY, Played, checks, made_of, play};
+use super::{Case, NO_MEMORY, Played, checks, explanations, made_of, play};
 use command_files::Status;
 use reference_store::runs::{RunText, folded};
 use reference_store::work::{OneWorker, ROOMS, WorkText, written};
@@ -63,6 +63,9 @@ fn says_or_is_refused<R: Abort + AllocGlobal + Clock + Threads + Wait + Sync>(
 #[test]
 fn checks_and_audits_are_refused_memory(rt: HostRuntime) {
     for case in &checks::CASES {
+        says_or_is_refused(&rt, case);
+    }
+    for case in &explanations::CASES {
         says_or_is_refused(&rt, case);
     }
     says_or_is_refused(&rt, &NEXT_ILLEGAL);

@@ -1,149 +1,11 @@
 //! The program as a process: each command with each status that it can have over files. `tools/run_processes`
 //! reads this table, and runs the built program over real files and pipes: so a case has plain strings alone.
-//! The commands over databases have a table of their own.
+//! The commands over types and those over databases have tables of their own.
 
 use super::Case;
 use command_files::Status;
 
-pub static CASES: [Case<'static>; 31] = [
-    Case {
-        words: &["check", "undo", "ctr2.type"],
-        files: &[(
-            "ctr2.type",
-            "type counter
-states 3
-initial 0
-op inc:1 ok
-op dec:1 ok
-step 0 0 1
-step 1 0 2
-step 1 1 0
-step 2 1 1
-conflict undo 0 1
-conflict undo 1 0
-conflict intentions 0 0
-conflict intentions 1 1
-end
-",
-        )],
-        out: "yes strong\n",
-        err: "",
-        status: Status::Yes,
-    },
-    Case {
-        words: &["check", "undo", "less.type"],
-        files: &[(
-            "less.type",
-            "type counter
-states 3
-initial 0
-op inc:1 ok
-op dec:1 ok
-step 0 0 1
-step 1 0 2
-step 1 1 0
-step 2 1 1
-conflict undo 0 1
-conflict intentions 0 0
-conflict intentions 1 1
-end
-",
-        )],
-        out: "no NotCommuting 1 0 0\n",
-        err: "",
-        status: Status::No,
-    },
-    Case {
-        words: &["check", "undo", "cut.type"],
-        files: &[("cut.type", "type counter")],
-        out: "",
-        err: "colock: cut.type: line 1: Unterminated\n",
-        status: Status::BadInput,
-    },
-    Case {
-        words: &["check", "intentions", "nowhere.type"],
-        files: &[],
-        out: "",
-        err: "colock: nowhere.type: cannot read\n",
-        status: Status::Failed,
-    },
-    Case {
-        words: &["make", "counter", "2", "1"],
-        files: &[],
-        out: "type counter
-states 3
-initial 0
-op inc:1 ok
-op dec:1 ok
-step 0 0 1
-step 1 0 2
-step 1 1 0
-step 2 1 1
-conflict undo 0 1
-conflict undo 1 0
-conflict intentions 0 0
-conflict intentions 1 1
-end
-",
-        err: "",
-        status: Status::Yes,
-    },
-    Case {
-        words: &["make", "account", "60", "1"],
-        files: &[],
-        out: "",
-        err: "colock: TooLarge\n",
-        status: Status::BadInput,
-    },
-    Case {
-        words: &["tables", "idle.type"],
-        files: &[(
-            "idle.type",
-            "type idle
-states 3
-initial 0
-op p ok
-op q ok
-step 0 0 0
-step 0 1 0
-step 1 0 2
-step 1 1 1
-reach 0
-end
-",
-        )],
-        out: "type idle
-states 3
-initial 0
-op p ok
-op q ok
-step 0 0 0
-step 0 1 0
-step 1 0 2
-step 1 1 1
-reach 0
-equi 1 0
-equi 2 0
-equi 2 1
-end
-",
-        err: "",
-        status: Status::Yes,
-    },
-    Case {
-        words: &["tables", "cut.type"],
-        files: &[("cut.type", "type counter\nstates 1025\n")],
-        out: "",
-        err: "colock: cut.type: line 2: OutOfRange\n",
-        status: Status::BadInput,
-    },
-    Case {
-        words: &["tables", "nowhere.type"],
-        files: &[],
-        out: "",
-        err: "colock: nowhere.type: cannot read\n",
-        status: Status::Failed,
-    },
+pub static CASES: [Case<'static>; 23] = [
     Case {
         words: &["run", "the.script", "ctr2.type"],
         files: &[
@@ -520,6 +382,19 @@ end
         ],
         out: "",
         err: "colock: next.history: not the objects of the.history\n",
+        status: Status::BadInput,
+    },
+    Case {
+        words: &["audit", "--order", "1,0", "the.history", "one.type"],
+        files: &[
+            ("the.history", "object undo 0\nbegin 3 0\ncommit 3 0\nend\n"),
+            (
+                "one.type",
+                "type one\nstates 1\ninitial 0\nop p ok\nstep 0 0 0\nend\n",
+            ),
+        ],
+        out: "",
+        err: "colock: the.history: order: 1 not committed\n",
         status: Status::BadInput,
     },
     Case {

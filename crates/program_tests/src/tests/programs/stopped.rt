@@ -3,6 +3,7 @@
 
 use super::audits::OWN_OUTPUT;
 use super::checks::{CHECKED, MADE, WRITTEN};
+use super::explanations::LESS;
 use super::faults::{EIGHT_DIGITS, INITIAL_OUTSIDE};
 use super::rollbacks::BOTH_KINDS;
 use super::{Case, held_output, play_on};
@@ -13,12 +14,13 @@ use std::sync::Wait;
 use std::thread::Threads;
 use test_support::sinks::AtEnd;
 
-/// A run, an audit, a run with an object that is refused, a check, a type that is made, and its tables.
-static CASES: [Case<'static>; 6] = [
+/// A run, an audit, a run with an object that is refused, a check, an explanation, a type that is made, and its tables.
+static CASES: [Case<'static>; 7] = [
     BOTH_KINDS,
     OWN_OUTPUT,
     INITIAL_OUTSIDE,
     CHECKED,
+    LESS,
     MADE,
     WRITTEN,
 ];

@@ -1,12 +1,11 @@
-use Rattle.std.proofs.Common.{◌∙◌, ap, map}
+use Rattle.std.proofs.Common.{ap, map}
 use Rattle.command_files.proofs.Comes.{comes}
-use Rattle.store_commands.proofs.Audits.{says_yes}
+use Rattle.store_commands.proofs.Audits.{says}
 use Rattle.store_commands.proofs.audit.audit_one.Goals as goal
 
-pub returns-in-Ok : goal.returns-in-Ok
-returns-in-Ok g c =
-    comes _ _ _ _ c.put_answer.result _ _
-    (says_yes c.args.history.now c.args.files.now (map (λ t. t.now) c.in_ok-tables.tables.items) (map (λ t. t.now) c.deref-3.result.now) c.deref.result.now c.deref-2.result.now
-    c.audit-outcome.result c.deref.ensures.value c.deref-2.ensures.value (ap (map (λ t. t.now)) c.deref-3.ensures.value) c.in_ok-tables.ensures.tables c.audit-outcome.ensures.audits
-    c.deref-in-Ok.result.now (c.deref-in-Ok.ensures.value ∙ c.in_ok-text.ensures.text) c.in-Ok.field-0 c.in-Ok.is)
-    (λ none. absurd none) c.put_answer.ensures.comes
+pub returns : goal.returns
+returns g c =
+    comes _ _ _ _ c.put_audit.result _ _
+    (says c.args.history.now c.args.files.now (map (λ t. t.now) c.in_ok-tables.tables.items) (map (λ t. t.now) c.deref-3.result.now) c.deref.result.now c.deref-2.result.now
+    c.audit-outcome.result c.deref.ensures.value c.deref-2.ensures.value (ap (map (λ t. t.now)) c.deref-3.ensures.value) c.in_ok-tables.ensures.tables c.audit-outcome.ensures.audits)
+    (λ none. absurd none) c.put_audit.ensures

@@ -1,13 +1,12 @@
 //! Workers whose turns are drawn: many seeds, and whose turn each word makes it.
 
 use super::{Done, Turns, are_outcomes, are_reported, do_jobs, is_serial, is_told, jobs_of};
-use crate::tests::stores;
 use crate::tests::stores::scripts::{Happened, store_of};
+use crate::tests::stores::{objects_of, objects_over, types_of};
 use object_trait::{Event, EventKind};
-use objects::Object;
 use rand_core::utils::NextWord;
 use rand_pcg::Lcg64Xsh32;
-use reference_store::checked_types::checked_of;
+use reference_store::checked_types::Sort;
 use serial_order::Refusal;
 use std::process::Abort;
 use std::sync::{Arc, Wait};
@@ -56,31 +55,16 @@ end
 ";
 
 /// The types of the objects.
-#[derive(Drop)]
-struct Types {
-    undo: Arc<CheckedType>,
-    intentions: Arc<CheckedType>,
-}
-
-/// New objects of these types.
-fn objects_of(rt: &(impl Abort + AllocGlobal), types: &Types) -> Vec<Object> {
-    let mut objects = Vec::new(rt.alloc());
-    for checked in [&types.undo, &types.intentions] {
-        let copy = Arc::try_clone(checked).expect(rt, "too many");
-        let object = Object::new(rt.alloc(), copy);
-        objects.push(object).ok().expect(rt, "no room");
-    }
-    objects
-}
+static SORTS: [Sort; 2] = [(Kind::Undo, COUNTER), (Kind::Intentions, COUNTER)];
 
 /// What comes of the jobs by turns from a seed, each job tried at most three times.
 fn done_by<R: Abort + AllocGlobal + Threads + Wait + Sync>(
     rt: &R,
-    types: &Types,
+    types: &[Arc<CheckedType>],
     seed: u64,
 ) -> Done {
     let jobs = jobs_of(rt, TEXT, WORKERS);
-    let store = store_of(rt, objects_of(rt, types), 1000);
+    let store = store_of(rt, objects_over(rt, types), 1000);
     do_jobs(rt, store, jobs, 3, Turns::Drawn(seed))
 }
 
@@ -195,7 +179,10 @@ fn is_done(rt: &(impl Abort + AllocGlobal), done: &Done, seed: u64) {
 }
 
 /// That the jobs are done by turns from each of a thousand seeds, and how many events of each kind there are.
-fn counted<R: Abort + AllocGlobal + Threads + Wait + Sync>(rt: &R, types: &Types) -> Tally {
+fn counted<R: Abort + AllocGlobal + Threads + Wait + Sync>(
+    rt: &R,
+    types: &[Arc<CheckedType>],
+) -> Tally {
     let mut tally = Tally::default();
     for seed in 0..1000 {
         let done = done_by(rt, types, seed);
@@ -207,11 +194,7 @@ fn counted<R: Abort + AllocGlobal + Threads + Wait + Sync>(rt: &R, types: &Types
 
 #[test]
 fn turns_are_drawn(rt: HostRuntime) {
-    let alloc = rt.alloc();
-    let types = Types {
-        undo: checked_of(alloc, COUNTER, Kind::Undo).expect(&rt, "no type"),
-        intentions: checked_of(alloc, COUNTER, Kind::Intentions).expect(&rt, "no type"),
-    };
+    let types = types_of(&rt, &SORTS);
     assert!(rt; counted(&rt, &types) == ALL);
 }
 
@@ -272,7 +255,7 @@ static OUTCOMES: [&[Outcome]; 3] = [
 #[test]
 fn refused_calls_take_turns(rt: HostRuntime) {
     let jobs = jobs_of(&rt, REFUSED, 3);
-    let objects = stores::objects_of(&rt, &[(Kind::Undo, COUNTER)]);
+    let objects = objects_of(&rt, &[(Kind::Undo, COUNTER)]);
     let store = store_of(&rt, objects, 40);
     let done = do_jobs(&rt, store, jobs, 2, Turns::Drawn(6));
     is_told(&rt, &done, &HAPPENED);

@@ -111,9 +111,9 @@ fn is_usual(outcome: Outcome, usual: Outcome, is_started: bool) -> bool {
     if !is_started {
         return outcome == Outcome::NotRun;
     }
-    match (outcome, usual) {
-        (Outcome::Committed(_), Outcome::Committed(_)) => true,
-        (Outcome::Refused(Refusal::NoMemory), _) => true,
+    match outcome {
+        Outcome::Committed(_) => matches!(usual, Outcome::Committed(_)),
+        Outcome::Refused(Refusal::NoMemory) => true,
         _ => outcome == usual,
     }
 }

@@ -1,16 +1,16 @@
 //! Of which objects a store is made, and in which order they come back.
 
 use super::scripts::{is_closed, store_of};
+use super::types_of;
 use crate::tests::managers::driven::apply_next;
 use object_trait::{Recovery, Renew};
 use objects::Object;
-use reference_store::checked_types::checked_of;
+use reference_store::checked_types::Sort;
 use std::alloc::Global;
 use std::process::Abort;
 use std::sync::Arc;
 use std::test::Fail;
 use store::{NewRefusal, Store};
-use table_checker::CheckedType;
 use test_support::printed::{are_debugged, are_printed};
 use test_support::type_texts::COUNTER;
 use type_table::Kind;
@@ -29,27 +29,21 @@ fn refusals_are_printed(rt: HostRuntime) -> Result<(), Fail> {
     are_debugged(rt.alloc(), &REFUSALS)
 }
 
-/// The kinds of objects, in turn.
-static KINDS: [Kind; 3] = [Kind::Undo, Kind::Intentions, Kind::Escrow];
+/// The counter for each kind of object, in turn.
+static COUNTERS: [Sort; 3] = [
+    (Kind::Undo, COUNTER),
+    (Kind::Intentions, COUNTER),
+    (Kind::Escrow, COUNTER),
+];
 
 /// The kind of the object at this place.
 fn kind_at(x: usize) -> Kind {
-    KINDS[x % 3]
-}
-
-/// The counter, checked for each kind.
-fn counters(rt: &(impl Abort + AllocGlobal)) -> Vec<Arc<CheckedType>> {
-    let mut types = Vec::new(rt.alloc());
-    for kind in &KINDS {
-        let checked = checked_of(rt.alloc(), COUNTER, *kind).expect(rt, "no type");
-        types.push(checked).ok().expect(rt, "no room");
-    }
-    types
+    COUNTERS[x % 3].0
 }
 
 /// This many new objects.
 fn made(rt: &(impl Abort + AllocGlobal), count: usize) -> Vec<Object> {
-    let types = counters(rt);
+    let types = types_of(rt, &COUNTERS);
     let mut objects = Vec::new(rt.alloc());
     for x in 0..count {
         let checked = types.get(x % 3).expect(rt, "no type");

@@ -1,6 +1,7 @@
 //! Many commands from a generator, at stores and at lists of what happened.
 
 use super::scripts::{are_closed, called, outcome, store_of};
+use super::{objects_over, tables_of};
 use history_audit::audit;
 use object_trait::{Event, EventKind, Recovery};
 use objects::Object;
@@ -9,7 +10,6 @@ use rand_pcg::Lcg64Xsh32;
 use reference_store::asked::{Ask, Told};
 use reference_store::checked_types::checked_of;
 use reference_store::reference::Reference;
-use std::alloc::{AllocError, Global};
 use std::process::Abort;
 use std::sync::Arc;
 use store::{Store, replay};
@@ -17,7 +17,7 @@ use table_checker::CheckedType;
 use test_support::type_texts::{
     ACCOUNT, COUNTER_FROM_ONE, COUNTER_OF_FOUR, NUMBER_OF_FIVE, ONE_WAY, SEMIQUEUE, TWIN,
 };
-use type_table::{Kind, TypeTable};
+use type_table::Kind;
 
 /// How many seeds there are.
 const SEEDS: u64 = 6;
@@ -199,17 +199,6 @@ fn copies(rt: &(impl Abort + AllocGlobal), types: &[Arc<CheckedType>]) -> Vec<Ar
     more
 }
 
-/// A new object of each type.
-fn objects_of(rt: &(impl Abort + AllocGlobal), types: &[Arc<CheckedType>]) -> Vec<Object> {
-    let mut objects = Vec::new(rt.alloc());
-    for checked in types {
-        let copy = Arc::try_clone(checked).expect(rt, "too many");
-        let object = Object::new(rt.alloc(), copy);
-        objects.push(object).ok().expect(rt, "no room");
-    }
-    objects
-}
-
 /// That objects with update in place and in escrow keep what the lists say.
 fn keep_alike<R: Recovery>(rt: &impl Abort, store: &Store<R>, reference: &Reference) {
     for x in [0, 2, 4, 5, 6] {
@@ -245,14 +234,6 @@ fn answer_alike<R: Recovery>(
             keep_alike(rt, store, reference);
         }
     }
-}
-
-/// The tables of these types.
-fn tables_of<'a>(
-    alloc: Global,
-    types: &'a [Arc<CheckedType>],
-) -> Result<Vec<&'a TypeTable>, AllocError> {
-    types.iter().map(|checked| checked.table()).collect(alloc)
 }
 
 /// That these are the commits among the events, in their order.
@@ -302,7 +283,7 @@ fn is_followed(
     events: &[Event],
     max_events: u32,
 ) {
-    let mut store = store_of(rt, objects_of(rt, types), max_events);
+    let mut store = store_of(rt, objects_over(rt, types), max_events);
     let told = replay(&mut store, events);
     let (history, again) = store.close();
     assert!(rt; told == Ok(()));
@@ -318,7 +299,7 @@ fn live_beside(
     dice: &mut Dice,
     max_events: u32,
 ) -> Vec<Object> {
-    let mut store = store_of(rt, objects_of(rt, types), max_events);
+    let mut store = store_of(rt, objects_over(rt, types), max_events);
     answer_alike(rt, &mut store, reference, dice);
     let (history, objects) = store.close();
     reference.close().expect(rt, "no memory");

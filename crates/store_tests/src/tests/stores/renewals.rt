@@ -1,7 +1,7 @@
 //! Epochs: stores that begin anew at the states that they kept.
 
-use super::objects_of;
 use super::scripts::{Row, answers, outcome, store_of};
+use super::{Renewed, next_of, objects_of, tables_of, types_of};
 use crate::tests::reports::are_at;
 use history_audit::{Audit, audit_epochs};
 use object_trait::{Event, Recovery};
@@ -9,21 +9,16 @@ use objects::Object;
 use rand_core::utils::NextWord;
 use rand_pcg::Lcg64Xsh32;
 use reference_store::asked::{Ask, Told};
-use reference_store::checked_types::{Sort, checked_of};
+use reference_store::checked_types::Sort;
 use std::alloc::{AllocError, Global};
 use std::process::Abort;
-use std::sync::Arc;
 use store::{RenewRefusal, Store};
-use table_checker::CheckedType;
 use test_support::type_texts::{COUNTER, COUNTER_OF_FOUR, SEMIQUEUE, TWIN};
-use type_table::{Kind, TypeTable};
+use type_table::Kind;
 
 /// A store of one object that begins anew, and the events of its epoch; else why not. Where one allocation
 /// is refused, it is as it was, and the next try has its memory.
-fn renewed(
-    rt: &(impl Abort + AllocGlobal),
-    store: Store<Object>,
-) -> Result<(Store<Object>, Vec<Event>), (Store<Object>, RenewRefusal)> {
+fn renewed(rt: &(impl Abort + AllocGlobal), store: Store<Object>) -> Renewed<Object> {
     let before = (store.event_count(), store.kept(0));
     match store.renew(rt.alloc()) {
         Err((back, RenewRefusal::NoMemory)) => {
@@ -83,16 +78,9 @@ fn goes_on(rt: &impl Abort, mut store: Store<Object>) {
 fn an_epoch_begins_at_the_kept_state(rt: HostRuntime) {
     let mut store = full_counter(&rt);
     store.forget(2);
-    match renewed(&rt, store) {
-        Ok((store, events)) => {
-            assert!(rt; events.len() == 4);
-            goes_on(&rt, store);
-        }
-        Err((store, _)) => {
-            let _ = store.close();
-            panic!(rt; "no epoch began")
-        }
-    }
+    let (store, events) = next_of(&rt, renewed(&rt, store));
+    goes_on(&rt, store);
+    assert!(rt; events.len() == 4);
 }
 
 /// A counter of each kind is counted up by one transaction.
@@ -115,17 +103,10 @@ fn new_epochs_are_refused_memory(rt: HostRuntime) {
     let sorts = [(Kind::Undo, COUNTER), (Kind::Intentions, COUNTER)];
     let mut store = store_of(&rt, objects_of(&rt, &sorts), 8);
     answers(&rt, &mut store, &BOTH);
-    match renewed(&rt, store) {
-        Ok((mut store, events)) => {
-            assert!(rt; events.len() == 4);
-            answers(&rt, &mut store, &BOTH_NEXT);
-            let _ = store.close();
-        }
-        Err((store, _)) => {
-            let _ = store.close();
-            panic!(rt; "no epoch began")
-        }
-    }
+    let (mut store, events) = next_of(&rt, renewed(&rt, store));
+    answers(&rt, &mut store, &BOTH_NEXT);
+    let _ = store.close();
+    assert!(rt; events.len() == 4);
 }
 
 /// How many epochs follow one another.
@@ -171,13 +152,7 @@ fn next_epoch(
     words: &mut Lcg64Xsh32,
 ) -> (Store<Object>, Vec<Event>) {
     live(&mut store, words);
-    match store.renew(rt.alloc()) {
-        Ok(next) => next,
-        Err((store, _)) => {
-            let _ = store.close();
-            panic!(rt; "no epoch began")
-        }
-    }
+    next_of(rt, store.renew(rt.alloc()))
 }
 
 /// This many epochs, one after another: their events, and the states that were kept at last.
@@ -195,21 +170,6 @@ fn live_on(
     }
     let (_, objects) = store.close();
     (histories, objects)
-}
-
-/// The checked types of these sorts, of which an audit reads the tables.
-fn types_of(rt: &(impl Abort + AllocGlobal), sorts: &[Sort]) -> Vec<Arc<CheckedType>> {
-    let mut types = Vec::new(rt.alloc());
-    for (kind, text) in sorts {
-        let checked = checked_of(rt.alloc(), text, *kind).expect(rt, "no checked type");
-        types.push(checked).ok().expect(rt, "no room");
-    }
-    types
-}
-
-/// The tables of these types.
-fn tables_of(alloc: Global, types: &[Arc<CheckedType>]) -> Result<Vec<&TypeTable>, AllocError> {
-    types.iter().map(|checked| checked.table()).collect(alloc)
 }
 
 /// The events of each epoch.

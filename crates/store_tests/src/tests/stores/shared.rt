@@ -1,5 +1,6 @@
 //! Objects that begin anew, and share their types.
 
+use super::next_of;
 use super::scripts::outcome;
 use object_trait::{Recovery, Renew};
 use objects::Object;
@@ -115,13 +116,7 @@ fn at_every_second(rt: &impl Abort, store: &mut Store<Counted>, call: &'static s
 
 /// The next epoch of the store.
 fn next_epoch(rt: &(impl Abort + AllocGlobal), store: Store<Counted>) -> Store<Counted> {
-    match store.renew(rt.alloc()) {
-        Ok((store, _)) => store,
-        Err((store, _)) => {
-            let _ = store.close();
-            panic!(rt; "no epoch began")
-        }
-    }
+    next_of(rt, store.renew(rt.alloc())).0
 }
 
 /// How many owners the type of the first counter had, and those of the last two, when they were made of

@@ -1,5 +1,0 @@
-//! Tests of objects in escrow.
-#![tactic(auto)]
-
-#[cfg(test)]
-mod tests;

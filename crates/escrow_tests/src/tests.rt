@@ -1,5 +1,0 @@
-//! The tests of numeric types and of objects in escrow.
-
-mod numbers;
-mod steps;
-mod types;

@@ -1,0 +1,10 @@
+pub mod FirstLegal
+pub mod Order
+pub mod Search
+pub mod Parting
+pub mod Places
+pub mod Needing
+pub mod Gathered
+pub mod Writing
+pub mod Outside
+pub mod Said

@@ -1,0 +1,253 @@
+//! Escrow: the bounds of operations, and why a type isn't numeric.
+
+ghost use Rattle.std.specs.Prelude.{◌≡◌, ◌++◌, ◌∷◌, [], ◌<◌, ◌≤◌, ℕ, All, None, Some, length, MatchOption};
+ghost use Rattle.std.specs.Fmt.{decimal};
+ghost use Rattle.outputs.specs.Out.{Puts};
+ghost use Rattle.type_table.specs.Table.{next};
+ghost use Rattle.escrow_laws.specs.Bounds.{bounded_at, bounds_of};
+ghost use Rattle.escrow_laws.specs.Faults.{HasGap, IsNumericFault};
+ghost use Rattle.explaining.specs.Numeric.{IsFirstLegalFrom, IsLegalFrom, IsWhyNot, bounds_line, bounds_text, bounds_words, fault_line, move_word, spaced_numbers, why_not_line};
+
+use crate::write::write_ops;
+use escrow_laws::Bounded;
+use itoa::Buffer;
+use outputs::{Out, OutFault, items_in_turn, put, put_all, texts_in_turn};
+use type_table::{TypeTable, steps_within};
+
+/// The states that show that an operation isn't one of a number, at a state.
+#[derive(Clone, Copy)]
+pub enum WhyNot {
+    /// It is illegal in the state, and legal in these two, the least of all and the next one above.
+    Gap { low: u16, high: u16 },
+    /// It leads from the state to `end`, and from the least in which it is legal elsewhere.
+    Move { low: u16, low_end: u16, end: u16 },
+}
+
+/// Writes the bounds of operations, a line for each.
+///
+/// # Errors
+///
+/// The fault that stopped the output, which then took a beginning of the text.
+pub fn write_bounds<W: Out>(
+    table: &TypeTable,
+    bounds: &[Bounded],
+    ops: &[u8],
+    out: &mut W,
+) -> Result<(), OutFault>
+    requires no_fault { W.fault out.old ≡ None }
+    requires bounds { bounds.now ≡ bounds_of table.now }
+    requires ops { All (λ k. k < length table.now.ops) ops.now }
+    ensures { Puts (W.taken out.old) (W.taken out.new) (W.fault out.new) (bounds_text table.now ops.now) result }
+{
+    texts_in_turn();
+    items_in_turn::<u8>();
+    for k in ops {
+        write_bounds_line(table, bounds, *k, out)?;
+    }
+    Ok(())
+}
+
+fn write_bounds_line<W: Out>(
+    table: &TypeTable,
+    bounds: &[Bounded],
+    k: u8,
+    out: &mut W,
+) -> Result<(), OutFault>
+    requires no_fault { W.fault out.old ≡ None }
+    requires bounds { bounds.now ≡ bounds_of table.now }
+    requires operation { k < length table.now.ops }
+    ensures { Puts (W.taken out.old) (W.taken out.new) (W.fault out.new) (bounds_line table.now k) result }
+{
+    texts_in_turn();
+    put(out, b"bounds")?;
+    write_ops(table, &[k], out)?;
+    write_bounds_at(table, bounds, k, out)?;
+    put(out, b"\n")
+}
+
+fn write_bounds_at<W: Out>(
+    table: &TypeTable,
+    bounds: &[Bounded],
+    k: u8,
+    out: &mut W,
+) -> Result<(), OutFault>
+    requires no_fault { W.fault out.old ≡ None }
+    requires bounds { bounds.now ≡ bounds_of table.now }
+    requires operation { k < length table.now.ops }
+    ensures { Puts (W.taken out.old) (W.taken out.new) (W.fault out.new) (bounds_words (bounded_at table.now k)) result }
+{
+    write_bounds_words(bounds_at(table, bounds, k), out)
+}
+
+/// The bounds of an operation.
+fn bounds_at(table: &TypeTable, bounds: &[Bounded], k: u8) -> Bounded
+    requires bounds { bounds.now ≡ bounds_of table.now }
+    requires operation { k < length table.now.ops }
+    ensures { result ≡ bounded_at table.now k }
+{
+    bounds[usize::from(k)]
+}
+
+/// Writes from where to where an operation is legal, and how far it moves.
+fn write_bounds_words<W: Out>(bounds: Bounded, out: &mut W) -> Result<(), OutFault>
+    requires { W.fault out.old ≡ None }
+    ensures { Puts (W.taken out.old) (W.taken out.new) (W.fault out.new) (bounds_words bounds) result }
+{
+    if bounds.high < bounds.low {
+        put(out, b" never")
+    } else {
+        write_range(bounds, out)
+    }
+}
+
+fn write_range<W: Out>(bounds: Bounded, out: &mut W) -> Result<(), OutFault>
+    requires { W.fault out.old ≡ None }
+    ensures { Puts (W.taken out.old) (W.taken out.new) (W.fault out.new) (spaced_numbers (bounds.low ∷ bounds.high ∷ []) ++ (32 ∷ move_word bounds)) result }
+{
+    texts_in_turn();
+    write_numbers(&[bounds.low, bounds.high], out)?;
+    write_move(bounds, out)
+}
+
+/// Writes how far an operation moves a number, after a space.
+fn write_move<W: Out>(bounds: Bounded, out: &mut W) -> Result<(), OutFault>
+    requires { W.fault out.old ≡ None }
+    ensures { Puts (W.taken out.old) (W.taken out.new) (W.fault out.new) (32 ∷ move_word bounds) result }
+{
+    let mut digits = Buffer::new();
+    if 0 < bounds.gives {
+        put_all(out, &[b" +", digits.format(bounds.gives).as_bytes()])
+    } else if 0 < bounds.takes {
+        put_all(out, &[b" -", digits.format(bounds.takes).as_bytes()])
+    } else {
+        put(out, b" 0")
+    }
+}
+
+/// Writes numbers, each after a space.
+fn write_numbers<W: Out>(numbers: &[u32], out: &mut W) -> Result<(), OutFault>
+    requires { W.fault out.old ≡ None }
+    ensures { Puts (W.taken out.old) (W.taken out.new) (W.fault out.new) (spaced_numbers numbers.now) result }
+{
+    texts_in_turn();
+    items_in_turn::<u32>();
+    for n in numbers {
+        write_number(*n, out)?;
+    }
+    Ok(())
+}
+
+fn write_number<W: Out>(n: u32, out: &mut W) -> Result<(), OutFault>
+    requires { W.fault out.old ≡ None }
+    ensures { Puts (W.taken out.old) (W.taken out.new) (W.fault out.new) (32 ∷ decimal n) result }
+{
+    let mut digits = Buffer::new();
+    put_all(out, &[b" ", digits.format(n).as_bytes()])
+}
+
+/// Writes why an operation isn't one of a number, at a state.
+///
+/// # Errors
+///
+/// The fault that stopped the output, which then took a beginning of the line.
+pub fn write_why_not<W: Out>(
+    table: &TypeTable,
+    k: u8,
+    s: u16,
+    why: WhyNot,
+    out: &mut W,
+) -> Result<(), OutFault>
+    requires { W.fault out.old ≡ None }
+    ensures { Puts (W.taken out.old) (W.taken out.new) (W.fault out.new) (why_not_line table.now k s why) result }
+{
+    let state = u32::from(s);
+    match why {
+        WhyNot::Gap { low, high } => {
+            let states = [u32::from(low), state, u32::from(high)];
+            write_fault(table, b"gap", k, &states, out)
+        }
+        WhyNot::Move { low, low_end, end } => {
+            let states = [u32::from(low), u32::from(low_end), state, u32::from(end)];
+            write_fault(table, b"moves", k, &states, out)
+        }
+    }
+}
+
+/// Writes a line of a keyword, an operation and numbers.
+fn write_fault<W: Out>(
+    table: &TypeTable,
+    keyword: &[u8],
+    k: u8,
+    numbers: &[u32],
+    out: &mut W,
+) -> Result<(), OutFault>
+    requires { W.fault out.old ≡ None }
+    ensures { Puts (W.taken out.old) (W.taken out.new) (W.fault out.new) (fault_line keyword.now table.now k numbers.now) result }
+{
+    texts_in_turn();
+    put(out, keyword)?;
+    write_ops(table, &[k], out)?;
+    write_numbers(numbers, out)?;
+    put(out, b"\n")
+}
+
+/// The states that show why a type isn't numeric, at an operation and a state that are at fault.
+pub fn why_not(table: &TypeTable, k: u8, s: u16) -> WhyNot
+    requires operation { k < length table.now.ops }
+    requires state { s < table.now.states }
+    requires fault { IsNumericFault table.now k s }
+    ensures { IsWhyNot table.now k s result }
+{
+    match table.next(s, k) {
+        None => gap_at(table, k, s),
+        Some(end) => move_at(table, k, s, end),
+    }
+}
+
+/// The states on both sides of one in which an operation is illegal.
+fn gap_at(table: &TypeTable, k: u8, s: u16) -> WhyNot
+    requires operation { k < length table.now.ops }
+    requires gap { HasGap table.now k s }
+    ensures { IsWhyNot table.now k s result }
+{
+    let low = least_from(table, k, 0);
+    let high = least_from(table, k, s);
+    WhyNot::Gap { low, high }
+}
+
+/// Where an operation leads from a state, and where from the least in which it is legal.
+fn move_at(table: &TypeTable, k: u8, s: u16, end: u16) -> WhyNot
+    requires operation { k < length table.now.ops }
+    requires leads { next table.now s k ≡ Some end }
+    ensures { IsWhyNot table.now k s result }
+{
+    let low = least_from(table, k, 0);
+    let low_end = table.next(low, k).unwrap_or(low);
+    WhyNot::Move { low, low_end, end }
+}
+
+/// The least state from one on, where there is any.
+fn least_from(table: &TypeTable, k: u8, start: u16) -> u16
+    requires operation { k < length table.now.ops }
+    requires some { IsLegalFrom table.now k start }
+    ensures first { IsFirstLegalFrom table.now k start result }
+    ensures inside { result < table.now.states }
+{
+    first_legal(table, k, start).unwrap_or(start)
+}
+
+/// The least state in which an operation is legal, from a state on.
+fn first_legal(table: &TypeTable, k: u8, start: u16) -> Option<u16>
+    requires { k < length table.now.ops }
+    ensures { MatchOption result
+        ((s : ℕ) → start ≤ s → next table.now s k ≡ None)
+        (λ s. IsFirstLegalFrom table.now k start s × (s < table.now.states)) }
+{
+    steps_within();
+    for s in start..table.states() {
+        if table.next(s, k).is_some() {
+            return Some(s);
+        }
+    }
+    None
+}

@@ -1,0 +1,11 @@
+-- The events so far were judged, and these are the transactions that they commit.
+use Rattle.std.proofs.Common.{map, take}
+use Rattle.history_audit.specs.Commits.{AreCommits}
+use Rattle.history_audit.specs.Judged.{IsJudged}
+use Rattle.history_audit.proofs.commits.gather.Given as goal
+
+abbrev pub invariant-loop-at : goal.invariant-loop-at
+invariant-loop-at l = record {
+  judged : IsJudged (map (λ t. t.now) l.tables) (take l.at l.events) l.judge;
+  gathered : AreCommits (map (λ t. t.now) l.tables) (take l.at l.events) l.commits.items;
+}

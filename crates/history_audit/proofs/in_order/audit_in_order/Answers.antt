@@ -1,0 +1,6 @@
+use Rattle.std.proofs.Common.{map}
+use Rattle.history_audit.proofs.Gathered.{each-there}
+use Rattle.history_audit.proofs.in_order.audit_in_order.Goals as goal
+
+pub run_in_order-requires-clause-there : goal.run_in_order-requires-clause-there
+run_in_order-requires-clause-there c = each-there (map (λ t. t.now) c.args.tables.now) c.args.events.now c.in-Ok.committed c.in-Ok.ensures.all

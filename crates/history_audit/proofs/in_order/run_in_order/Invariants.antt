@@ -1,0 +1,13 @@
+-- Those so far were run.
+use Rattle.std.proofs.Common.{List, map, take}
+use Rattle.object_trait.specs.declared.event.Event.{Event}
+use Rattle.history_audit.specs.Commits.{AreCommits}
+use Rattle.history_audit.specs.Replay.{AreStates}
+use Rattle.history_audit.specs.SerialRun.{IsRunOf}
+use Rattle.history_audit.proofs.in_order.run_in_order.Given as goal
+
+abbrev pub invariant-loop-t : goal.invariant-loop-t
+invariant-loop-t l = record {
+  ready : AreStates (map (λ t. t.now) l.tables) l.run.states.items;
+  runs : (H : List Event) → AreCommits (map (λ t. t.now) l.tables) H l.committed → IsRunOf (map (λ t. t.now) l.tables) H (take l.t-index l.order) l.run;
+}

@@ -1,0 +1,97 @@
+-- The text that explains says what the answer does.
+use Rattle.std.proofs.Common.{◌≡◌, ◌∙◌, ℕ, ◌++◌, List, [], Option, None, Some, refl, sym, ap, subst, inl, inr}
+use Rattle.std.specs.Prelude.{IfSome}
+use Rattle.std.proofs.KnownBytes.{Appends-trans}
+use Rattle.std.specs.Io.KnownBytes.{Appends}
+use Rattle.command_files.specs.Answers.{IsThis}
+use Rattle.command_files.specs.Files.{IsFaulty, IsFileAt}
+use Rattle.command_files.specs.Refusals.{no_line}
+use Rattle.command_files.specs.declared.status.Verdict.{Verdict}
+use Rattle.command_files.specs.declared.status.Verdict.TheVariants.{Yes, No}
+use Rattle.table_checker.specs.Checked.{Checked}
+use Rattle.table_checker.specs.Laws.{CoversType}
+use Rattle.table_checker.specs.Refusal.{IsFirstOfNumeric, IsFirstReason}
+use Rattle.table_checker.specs.declared.refusal.CheckRefusal.{CheckRefusal}
+use Rattle.type_table.specs.Kind.{table_kind}
+use Rattle.type_table.specs.declared.kind.Kind.{Kind}
+use Rattle.type_table.specs.declared.kind.Kind.TheVariants.{Undo, Intentions, Escrow}
+use Rattle.type_table.specs.declared.table_kind.TableKind.{TableKind}
+use Rattle.type_table.specs.declared.table_kind.TableKind.TheVariants as tabled
+use Rattle.type_text.specs.declared.type_file.TypeFile.{TypeFile}
+use Rattle.type_commands.specs.Explain.{Adds, CannotBeExplained, Explains, ExplainsBy, ExplainsNumber, ExplainsPairs, IsYesLine, SaysThen, asked_of}
+
+-- ---- texts that are added
+
+-- a line, and a text after it
+pub adds_both : (a b c : Option (List ℕ)) (first rest : List ℕ → Type 0) (line : List ℕ) → first line → Appends a b line → Adds b c rest → Adds a c (SaysThen first rest)
+adds_both a b c first rest line says here more =
+    (line ++ more.0, (line, more.0, says, more.1, refl), Appends-trans a b c line more.0 here more.2)
+
+-- a text that says something says what follows from it
+pub adds_weaker : (a b : Option (List ℕ)) (P Q : List ℕ → Type 0) → ((text : List ℕ) → P text → Q text) → Adds a b P → Adds a b Q
+adds_weaker a b P Q leads adds = (adds.0, leads adds.0 adds.1, adds.2)
+
+-- what is added to no byte is all that is there
+pub added_alone : (P : List ℕ → Type 0) (start all : List ℕ) → start ≡ [] → Adds (Some start) (Some all) P → P all
+added_alone P start all empty adds = subst P (sym (adds.2 ∙ ap (λ l. l ++ adds.0) empty)) adds.1
+
+-- ---- kinds
+
+module _ (file : TypeFile) (asked : Option (ℕ × ℕ)) (verdict : Verdict) (text : List ℕ) where
+  -- one with a conflict table
+  pub by_table : (kind : Kind) (tk : TableKind) → table_kind kind ≡ Some tk → ExplainsPairs tk file asked text → ExplainsBy kind file asked verdict text
+  by_table Undo tk is says = let same : tabled.Undo ≡ tk = cc in subst (λ (k : TableKind). ExplainsPairs k file asked text) (sym same) says
+  by_table Intentions tk is says = let same : tabled.Intentions ≡ tk = cc in subst (λ (k : TableKind). ExplainsPairs k file asked text) (sym same) says
+  by_table Escrow tk is says = absurd cc
+
+  -- and the one with none
+  pub by_number : (kind : Kind) → table_kind kind ≡ None → ExplainsNumber file.table asked verdict text → ExplainsBy kind file asked verdict text
+  by_number Undo is says = absurd cc
+  by_number Intentions is says = absurd cc
+  by_number Escrow is says = says
+
+-- whose reason is one of a number
+pub numeric_reason : (kind : Kind) (file : TypeFile) (refusal : CheckRefusal) → table_kind kind ≡ None → IsFirstReason kind file refusal → IsFirstOfNumeric file.table refusal
+numeric_reason Undo file refusal is first = absurd cc
+numeric_reason Intentions file refusal is first = absurd cc
+numeric_reason Escrow file refusal is first = first
+
+-- ---- answers
+
+-- the text of a yes
+pub yes_explains : (c : Checked) (asked : Option (ℕ × ℕ)) (all : List ℕ) → CoversType c.kind c.file → SaysThen (IsYesLine c) (ExplainsBy c.kind c.file asked Yes) all
+    → (v : Verdict) (text : List ℕ) → IsThis Yes all v text → Explains c.kind c.file asked v text
+yes_explains c asked all covers says Yes text this = record {
+  first = says.0;
+  rest = says.1;
+  checked = record { strong = says.2.0; is_strong = says.2.1; covers = covers; line = says.2.2 };
+  explained = says.3;
+  whole = this.1 ∙ says.4;
+}
+yes_explains c asked all covers says No text this = absurd (let clash = this.0 in cc)
+
+-- and that of a no
+pub no_explains : (kind : Kind) (file : TypeFile) (refusal : CheckRefusal) (asked : Option (ℕ × ℕ)) (all : List ℕ) → IsFirstReason kind file refusal
+    → SaysThen (λ line. line ≡ no_line refusal) (ExplainsBy kind file asked No) all
+    → (v : Verdict) (text : List ℕ) → IsThis No all v text → Explains kind file asked v text
+no_explains kind file refusal asked all first says No text this = record {
+  first = says.0;
+  rest = says.1;
+  checked = record { refusal = refusal; first = first; line = says.2 };
+  explained = says.3;
+  whole = this.1 ∙ says.4;
+}
+no_explains kind file refusal asked all first says Yes text this = absurd (let clash = this.0 in cc)
+
+-- ---- what can't be explained
+
+-- words that name no operations
+pub bad_words : (held : Option (List ℕ)) (words : Option (List ℕ × List ℕ)) (file : TypeFile) → IsFileAt held file → asked_of file.table words ≡ None
+    → IfSome held (CannotBeExplained words)
+bad_words None words file there none = there
+bad_words (Some text) words file there none = inr (file, there, none)
+
+-- a text with a fault
+pub bad_text : (held : Option (List ℕ)) (words : Option (List ℕ × List ℕ)) → IfSome held IsFaulty → IfSome held (CannotBeExplained words)
+bad_text None words faulty = faulty
+bad_text (Some text) words faulty = inl faulty

@@ -1,0 +1,130 @@
+-- What `explain KIND FILE [P Q]` answers.
+use Rattle.std.specs.Prelude.{◌≡◌, ◌⊎◌, ◌↔◌, ℕ, ◌<◌, Bool, true, ◌||◌, ◌++◌, ◌==◌, List, length, filter, nat_lt, Option, Some, None, if◌then◌else◌}
+use Rattle.std.specs.List.{position, range_with_len}
+use Rattle.std.specs.Option.{option_map, option_and_then}
+use Rattle.std.specs.Str.{bytes_eq}
+use Rattle.command_files.specs.Answers.{Answers}
+use Rattle.command_files.specs.Files.{Describes, IsFileAt, IsFaulty}
+use Rattle.command_files.specs.declared.status.Verdict.{Verdict}
+use Rattle.command_files.specs.declared.status.Verdict.TheVariants.{Yes, No}
+use Rattle.escrow_laws.specs.Faults.{IsFirstNumericFault}
+use Rattle.explaining.specs.Explained.{IsExplained, AreRows}
+use Rattle.explaining.specs.Leads.{IsLedSet}
+use Rattle.explaining.specs.Numeric.{IsWhyNot, bounds_text, why_not_line}
+use Rattle.explaining.specs.Text.{word_of, pair_text, explanation_text}
+use Rattle.explaining.specs.declared.explained.Explained.{Explained}
+use Rattle.explaining.specs.declared.explained.Row.{Row}
+use Rattle.explaining.specs.declared.numeric.WhyNot.{WhyNot}
+use Rattle.line_text.specs.Text.{number_of}
+use Rattle.type_table.specs.Table.{Table}
+use Rattle.type_table.specs.declared.kind.Kind.{Kind}
+use Rattle.type_table.specs.declared.kind.Kind.TheVariants.{Undo, Intentions, Escrow}
+use Rattle.type_table.specs.declared.op.Op.{Op}
+use Rattle.type_table.specs.declared.table_kind.TableKind.{TableKind}
+use Rattle.type_table.specs.declared.table_kind.TableKind.TheVariants as tabled
+use Rattle.type_text.specs.declared.type_file.TypeFile.{TypeFile}
+use Rattle.std.specs.Borrow.{Bor}
+use Rattle.std.specs.Io.KnownBytes.{Appends}
+use Rattle.table_checker.specs.Checked.{Checked, IsStrong}
+use Rattle.type_commands.specs.declared.explain.Asked.{Asked}
+use Rattle.type_commands.specs.Verdict.{SaysOf, yes_line}
+
+-- ---- which pair
+
+-- an operation of the table by its number
+abbrev pub numbered : Table → ℕ → Option ℕ
+numbered T n = if nat_lt n (length T.ops) then Some n else None
+
+-- or by its word, CALL/REPLY
+abbrev pub worded : List Op → List ℕ → Option ℕ
+worded ops word = position (λ (op : Op). bytes_eq (word_of op) word) ops
+
+abbrev pub named_by : Table → List ℕ → Option ℕ → Option ℕ
+named_by T word (Some n) = numbered T n
+named_by T word None = worded T.ops word
+
+-- the operation that a word names
+abbrev pub op_of : Table → List ℕ → Option ℕ
+op_of T word = named_by T word (number_of word)
+
+-- the pair of operations that two words name
+abbrev pub pair_of : Table → List ℕ → List ℕ → Option (ℕ × ℕ)
+pair_of T p q = option_and_then (λ first. option_map (λ second. (first, second)) (op_of T q)) (op_of T p)
+
+-- no words ask for all pairs, two for the pair that they name; None where they name none
+abbrev pub asked_of : Table → Option (List ℕ × List ℕ) → Option (Option (ℕ × ℕ))
+asked_of T None = Some None
+asked_of T (Some words) = option_map (λ pair. Some pair) (pair_of T words.0 words.1)
+
+-- two words behind references
+abbrev pub words_as : Option (Bor (List ℕ) × Bor (List ℕ)) → Option (List ℕ × List ℕ)
+words_as words = option_map (λ (w : Bor (List ℕ) × Bor (List ℕ)). (w.0.now, w.1.now)) words
+
+-- a pair of operations
+abbrev pub pair_as : Option Asked → Option (ℕ × ℕ)
+pair_as asked = option_map (λ (a : Asked). (a.p, a.q)) asked
+
+abbrev pub asked_as : Option (Option Asked) → Option (Option (ℕ × ℕ))
+asked_as asked = option_map pair_as asked
+
+-- both are of the table
+abbrev pub AreOps : Table → Asked → Type 0
+AreOps T asked = (asked.p < length T.ops) × (asked.q < length T.ops)
+
+-- ---- the lines after that of `check`
+
+-- with a conflict table: on all pairs, or on the one that is asked for
+abbrev pub ExplainsPairs : TableKind → TypeFile → Option (ℕ × ℕ) → List ℕ → Type 0
+ExplainsPairs kind file None text =
+    (led : List Bool) × (rows : List Row) × IsLedSet file.table led × AreRows kind file rows × (text ≡ explanation_text kind file led rows)
+ExplainsPairs kind file (Some pair) text =
+    (led : List Bool) × (e : Explained) × IsLedSet file.table led × IsExplained kind file pair.0 pair.1 e × (text ≡ pair_text kind file led e)
+
+-- an operation that is asked for
+abbrev pub is_asked : Option (ℕ × ℕ) → ℕ → Bool
+is_asked None k = true
+is_asked (Some pair) k = k == pair.0 || k == pair.1
+
+-- escrow: the bounds of the operations that are asked for, or why the type isn't numeric
+abbrev pub ExplainsNumber : Table → Option (ℕ × ℕ) → Verdict → List ℕ → Type 0
+ExplainsNumber T asked Yes text = text ≡ bounds_text T (filter (is_asked asked) (range_with_len 0 (length T.ops)))
+ExplainsNumber T asked No text =
+    (k : ℕ) × (s : ℕ) × (w : WhyNot) × IsFirstNumericFault T k s × IsWhyNot T k s w × (text ≡ why_not_line T k s w)
+
+abbrev pub ExplainsBy : Kind → TypeFile → Option (ℕ × ℕ) → Verdict → List ℕ → Type 0
+ExplainsBy Undo file asked verdict text = ExplainsPairs tabled.Undo file asked text
+ExplainsBy Intentions file asked verdict text = ExplainsPairs tabled.Intentions file asked text
+ExplainsBy Escrow file asked verdict text = ExplainsNumber file.table asked verdict text
+
+-- ---- the answer
+
+-- to what is asked of a file: the line of `check`, and the lines after it
+pub record Explains (kind : Kind) (file : TypeFile) (asked : Option (ℕ × ℕ)) (verdict : Verdict) (text : List ℕ) : Type 0 where
+  pub first : List ℕ
+  pub rest : List ℕ
+  pub checked : SaysOf kind file verdict first
+  pub explained : ExplainsBy kind file asked verdict rest
+  pub whole : text ≡ first ++ rest
+
+-- the answer to the file of a path, by what is held there
+abbrev pub ExplainsFile : Option (List ℕ) → Kind → Option (List ℕ × List ℕ) → Answers
+ExplainsFile held kind words verdict text =
+    (file : TypeFile) × (asked : Option (ℕ × ℕ)) × IsFileAt held file × (asked_of file.table words ≡ Some asked) × Explains kind file asked verdict text
+
+-- the text has a fault, or the words name no operations of its type
+abbrev pub CannotBeExplained : Option (List ℕ × List ℕ) → List ℕ → Type 0
+CannotBeExplained words text = IsFaulty text ⊎ ((file : TypeFile) × Describes text file × (asked_of file.table words ≡ None))
+
+-- ---- how it is put together
+
+-- known bytes grow by such a text
+abbrev pub Adds : Option (List ℕ) → Option (List ℕ) → (List ℕ → Type 0) → Type 0
+Adds old new says = (text : List ℕ) × says text × Appends old new text
+
+-- such a line, and such a text after it
+abbrev pub SaysThen : (List ℕ → Type 0) → (List ℕ → Type 0) → List ℕ → Type 0
+SaysThen first rest text = (line : List ℕ) × (after : List ℕ) × first line × rest after × (text ≡ line ++ after)
+
+-- the line of a yes for a type
+abbrev pub IsYesLine : Checked → List ℕ → Type 0
+IsYesLine c line = (strong : Bool) × ((strong ≡ true) ↔ IsStrong c) × (line ≡ yes_line strong)

@@ -1,0 +1,430 @@
+//! `explain`: why two operations of a type have to exclude each other.
+
+ghost use Rattle.std.specs.Prelude.{◌≡◌, ◌≤◌, ◌<◌, ◌∷◌, All, None, Some, IfOk, IfSome, OnOk, filter, if◌then◌else◌, length, nat_lt};
+ghost use Rattle.std.specs.List.{range_with_len};
+ghost use Rattle.std.specs.Str.{bytes_eq};
+ghost use Rattle.command_files.specs.Answers.{Comes};
+ghost use Rattle.command_files.specs.Refusals.{no_line};
+ghost use Rattle.command_files.specs.declared.status.Verdict.TheVariants as verdicts;
+ghost use Rattle.escrow_laws.specs.Faults.{IsFirstNumericFault};
+ghost use Rattle.explaining.specs.Explainers.{IsExplainer};
+ghost use Rattle.explaining.specs.Text.{word_of};
+ghost use Rattle.table_checker.specs.Laws.{CoversType};
+ghost use Rattle.table_checker.specs.Refusal.{IsFirstOfNumeric, IsFirstReason};
+ghost use Rattle.type_table.specs.Limits.{most_ops};
+ghost use Rattle.type_table.specs.declared.kind.Kind.TheVariants as kinds;
+ghost use Rattle.type_commands.specs.Explain.{Adds, AreOps, CannotBeExplained, Explains, ExplainsBy, ExplainsFile, ExplainsNumber, ExplainsPairs, IsYesLine, SaysThen, asked_as, asked_of, is_asked, op_of, pair_as, worded, words_as};
+
+use crate::check::yes_line;
+use command_files::{Fault, Source, TypeFormat, Verdict, no_line, put_answer, read_file};
+use explaining::{Explainer, why_not, write_bounds, write_pair, write_rows, write_why_not};
+use line_text::number_of;
+use std::alloc::{AllocError, Global};
+use std::thread::Threads;
+use table_checker::{CheckRefusal, CheckedType, check_parallel};
+use type_table::{Kind, Op, TableKind, TypeTable};
+use type_text::{Out, OutFault, Sink, TypeFile, put};
+
+/// A requested operation and a held one.
+#[derive(Clone, Copy)]
+pub struct Asked {
+    pub p: u8,
+    pub q: u8,
+}
+
+/// No text: memory was refused.
+#[derive(Clone, Copy, Debug)]
+pub struct NoText;
+
+impl From<AllocError> for NoText {
+    fn from(_: AllocError) -> NoText {
+        NoText
+    }
+}
+
+impl From<OutFault> for NoText {
+    fn from(_: OutFault) -> NoText {
+        NoText
+    }
+}
+
+/// `explain KIND FILE [P Q]`: the line of `check`, and why each pair of operations has to be in the
+/// file's conflict table for the kind; with two words, P requested and Q held, the lines on this pair.
+/// A word is an operation's number, or CALL/REPLY. For escrow, the bounds of the operations.
+///
+/// # Errors
+///
+/// The file can't be read or its text has a fault, a word names no operation, memory was refused, or the
+/// output failed.
+pub fn explain_file<'a, R: AllocGlobal + Threads + Sync, S: Source, W: Out>(
+    rt: &R,
+    kind: Kind,
+    path: &'a str,
+    words: Option<(&str, &str)>,
+    source: &mut S,
+    out: &mut W,
+) -> Result<Verdict, Fault<'a>>
+    requires { W.fault out.old ≡ None }
+    ensures { let held = S.holds source.old path.now in
+        Comes (ExplainsFile held kind (words_as words.entry)) (IfSome held (CannotBeExplained (words_as words.entry))) result (W.taken out.old) (W.taken out.new) }
+{
+    let file = read_file(rt.alloc(), &TypeFormat, path, source)?;
+    match asked_of(&file.table, words) {
+        None => Err(Fault::BadParameter),
+        Some(asked) => explain_read(rt, kind, file, asked, out),
+    }
+}
+
+/// The pair that two words ask for, or all where there are none; None where they name no operations.
+fn asked_of(table: &TypeTable, words: Option<(&str, &str)>) -> Option<Option<Asked>>
+    ensures exact { asked_of table.now (words_as words.entry) ≡ asked_as result }
+    ensures inside { IfSome result (λ asked. IfSome asked (AreOps table.now)) }
+{
+    match words {
+        None => Some(None),
+        Some((p, q)) => {
+            let p = op_of(table, p)?;
+            let q = op_of(table, q)?;
+            Some(Some(Asked { p, q }))
+        }
+    }
+}
+
+/// The operation that a word names.
+fn op_of(table: &TypeTable, word: &str) -> Option<u8>
+    ensures exact { result ≡ op_of table.now word.now }
+    ensures inside { IfSome result (λ k. k < length table.now.ops) }
+{
+    let count = table.op_count();
+    match number_of(word.as_bytes()) {
+        Some(n) => below(n, count),
+        None => worded(table.ops(), word.as_bytes()),
+    }
+}
+
+/// A number, where it is below a count.
+fn below(n: u32, count: u8) -> Option<u8>
+    ensures { result ≡ if nat_lt n count then Some n else None }
+{
+    if n < u32::from(count) {
+        Some(n as u8)
+    } else {
+        None
+    }
+}
+
+/// The operation of a word CALL/REPLY.
+fn worded(ops: &[Op], word: &[u8]) -> Option<u8>
+    requires { length ops.now ≤ most_ops }
+    ensures exact { result ≡ worded ops.now word.now }
+    ensures inside { IfSome result (λ k. k < length ops.now) }
+{
+    let place = place_of_word(ops, word)?;
+    Some(place as u8)
+}
+
+/// Its place.
+fn place_of_word(ops: &[Op], word: &[u8]) -> Option<usize>
+    ensures exact { result ≡ worded ops.now word.now }
+    ensures inside { IfSome result (λ place. place < length ops.now) }
+{
+    ops.iter().position(|op| is_word(op, word))
+}
+
+/// Whether a word is an operation's: its call, a slash, its reply.
+fn is_word(op: &Op, word: &[u8]) -> bool
+    ensures { result ≡ bytes_eq (word_of op.now) word.now }
+{
+    match word.strip_prefix(op.call.as_bytes()) {
+        None => false,
+        Some(rest) => is_reply(op, rest),
+    }
+}
+
+/// Whether the rest of a word is a slash and an operation's reply.
+fn is_reply(op: &Op, rest: &[u8]) -> bool
+    ensures { result ≡ bytes_eq (47 ∷ op.now.reply) rest.now }
+{
+    match rest.strip_prefix(b"/".as_slice()) {
+        None => false,
+        Some(reply) => op.reply.as_bytes() == reply,
+    }
+}
+
+/// The answer to a file that was read.
+fn explain_read<'a, R: AllocGlobal + Threads + Sync, W: Out>(
+    rt: &R,
+    kind: Kind,
+    file: TypeFile,
+    asked: Option<Asked>,
+    out: &mut W,
+) -> Result<Verdict, Fault<'a>>
+    requires no_fault { W.fault out.old ≡ None }
+    requires asked { IfSome asked (AreOps file.table) }
+    ensures { Comes (Explains kind file (pair_as asked)) ⊥ result (W.taken out.old) (W.taken out.new) }
+{
+    match check_parallel(rt, file, kind) {
+        Ok(checked) => explain_yes(rt.alloc(), &checked, asked, out),
+        Err((file, refusal)) => explain_no(rt.alloc(), kind, &file, refusal, asked, out),
+    }
+}
+
+/// The answer where the checker says yes.
+fn explain_yes<'a, W: Out>(
+    alloc: Global,
+    checked: &CheckedType,
+    asked: Option<Asked>,
+    out: &mut W,
+) -> Result<Verdict, Fault<'a>>
+    requires no_fault { W.fault out.old ≡ None }
+    requires asked { IfSome asked (AreOps checked.now.file.table) }
+    requires covers { CoversType checked.now.kind checked.now.file }
+    ensures { Comes (Explains checked.now.kind checked.now.file (pair_as asked)) ⊥ result (W.taken out.old) (W.taken out.new) }
+{
+    match yes_text(alloc, checked, asked) {
+        Ok(text) => put_answer(Verdict::Yes, &text, out),
+        Err(NoText) => Err(Fault::NoMemory),
+    }
+}
+
+/// The answer where it says no.
+fn explain_no<'a, W: Out>(
+    alloc: Global,
+    kind: Kind,
+    file: &TypeFile,
+    refusal: CheckRefusal,
+    asked: Option<Asked>,
+    out: &mut W,
+) -> Result<Verdict, Fault<'a>>
+    requires no_fault { W.fault out.old ≡ None }
+    requires asked { IfSome asked (AreOps file.now.table) }
+    requires first { IsFirstReason kind file.now refusal }
+    ensures { Comes (Explains kind file.now (pair_as asked)) ⊥ result (W.taken out.old) (W.taken out.new) }
+{
+    match no_text(alloc, kind, file, refusal, asked) {
+        Ok(text) => put_answer(Verdict::No, &text, out),
+        Err(NoText) => Err(Fault::NoMemory),
+    }
+}
+
+/// The text of a yes.
+fn yes_text(alloc: Global, checked: &CheckedType, asked: Option<Asked>) -> Result<Vec<u8>, NoText>
+    requires { IfSome asked (AreOps checked.now.file.table) }
+    ensures { IfOk result (λ text. SaysThen (IsYesLine checked.now) (ExplainsBy checked.now.kind checked.now.file (pair_as asked) verdicts.Yes) text.items) }
+{
+    let mut text = Sink::new(Vec::new(alloc));
+    put_yes(alloc, checked, asked, &mut text)?;
+    Ok(text.into_inner())
+}
+
+/// Writes the line of a yes, and what comes after it.
+fn put_yes<W: Out>(
+    alloc: Global,
+    checked: &CheckedType,
+    asked: Option<Asked>,
+    out: &mut W,
+) -> Result<(), NoText>
+    requires no_fault { W.fault out.old ≡ None }
+    requires asked { IfSome asked (AreOps checked.now.file.table) }
+    ensures { OnOk result (Adds (W.taken out.old) (W.taken out.new)
+        (SaysThen (IsYesLine checked.now) (ExplainsBy checked.now.kind checked.now.file (pair_as asked) verdicts.Yes))) }
+{
+    put(out, yes_line(checked.is_strong()).as_bytes())?;
+    put_after_yes(alloc, checked, asked, out)
+}
+
+/// Writes what comes after the line of a yes.
+fn put_after_yes<W: Out>(
+    alloc: Global,
+    checked: &CheckedType,
+    asked: Option<Asked>,
+    out: &mut W,
+) -> Result<(), NoText>
+    requires no_fault { W.fault out.old ≡ None }
+    requires asked { IfSome asked (AreOps checked.now.file.table) }
+    ensures { OnOk result (Adds (W.taken out.old) (W.taken out.new) (ExplainsBy checked.now.kind checked.now.file (pair_as asked) verdicts.Yes)) }
+{
+    match checked.kind().table_kind() {
+        Some(kind) => put_pairs(alloc, kind, checked.file(), asked, out),
+        None => put_bounds(alloc, checked, asked, out),
+    }
+}
+
+/// The text of a no.
+fn no_text(
+    alloc: Global,
+    kind: Kind,
+    file: &TypeFile,
+    refusal: CheckRefusal,
+    asked: Option<Asked>,
+) -> Result<Vec<u8>, NoText>
+    requires asked { IfSome asked (AreOps file.now.table) }
+    requires first { IsFirstReason kind file.now refusal }
+    ensures { IfOk result (λ text. SaysThen (λ line. line ≡ no_line refusal) (ExplainsBy kind file.now (pair_as asked) verdicts.No) text.items) }
+{
+    let mut text = Sink::new(Vec::new(alloc));
+    put_no(alloc, kind, file, refusal, asked, &mut text)?;
+    Ok(text.into_inner())
+}
+
+/// Writes the line of a no, and what comes after it.
+fn put_no<W: Out>(
+    alloc: Global,
+    kind: Kind,
+    file: &TypeFile,
+    refusal: CheckRefusal,
+    asked: Option<Asked>,
+    out: &mut W,
+) -> Result<(), NoText>
+    requires no_fault { W.fault out.old ≡ None }
+    requires asked { IfSome asked (AreOps file.now.table) }
+    requires first { IsFirstReason kind file.now refusal }
+    ensures { OnOk result (Adds (W.taken out.old) (W.taken out.new)
+        (SaysThen (λ line. line ≡ no_line refusal) (ExplainsBy kind file.now (pair_as asked) verdicts.No))) }
+{
+    let line = no_line(alloc, refusal)?;
+    put(out, line.as_bytes())?;
+    put_after_no(alloc, kind, file, refusal, asked, out)
+}
+
+/// Writes what comes after the line of a no.
+fn put_after_no<W: Out>(
+    alloc: Global,
+    kind: Kind,
+    file: &TypeFile,
+    refusal: CheckRefusal,
+    asked: Option<Asked>,
+    out: &mut W,
+) -> Result<(), NoText>
+    requires no_fault { W.fault out.old ≡ None }
+    requires asked { IfSome asked (AreOps file.now.table) }
+    requires first { IsFirstReason kind file.now refusal }
+    ensures { OnOk result (Adds (W.taken out.old) (W.taken out.new) (ExplainsBy kind file.now (pair_as asked) verdicts.No)) }
+{
+    match kind.table_kind() {
+        Some(kind) => put_pairs(alloc, kind, file, asked, out),
+        None => put_why_not(&file.table, refusal, out),
+    }
+}
+
+/// Writes the lines on all pairs, or on the one that is asked for.
+fn put_pairs<W: Out>(
+    alloc: Global,
+    kind: TableKind,
+    file: &TypeFile,
+    asked: Option<Asked>,
+    out: &mut W,
+) -> Result<(), NoText>
+    requires no_fault { W.fault out.old ≡ None }
+    requires asked { IfSome asked (AreOps file.now.table) }
+    ensures { OnOk result (Adds (W.taken out.old) (W.taken out.new) (ExplainsPairs kind file.now (pair_as asked))) }
+{
+    let explainer = Explainer::new(alloc, file)?;
+    match asked {
+        None => put_rows(alloc, kind, file, &explainer, out),
+        Some(asked) => put_pair(alloc, kind, file, &explainer, asked, out),
+    }
+}
+
+/// Writes the lines on all pairs.
+fn put_rows<W: Out>(
+    alloc: Global,
+    kind: TableKind,
+    file: &TypeFile,
+    explainer: &Explainer,
+    out: &mut W,
+) -> Result<(), NoText>
+    requires no_fault { W.fault out.old ≡ None }
+    requires known { IsExplainer file.now explainer.now }
+    ensures { OnOk result (Adds (W.taken out.old) (W.taken out.new) (ExplainsPairs kind file.now None)) }
+{
+    let led = explainer.led();
+    let rows = explainer.rows(alloc, kind, file)?;
+    write_rows(kind, file, &led, &rows, out)?;
+    Ok(())
+}
+
+/// Writes the lines on a pair.
+fn put_pair<W: Out>(
+    alloc: Global,
+    kind: TableKind,
+    file: &TypeFile,
+    explainer: &Explainer,
+    asked: Asked,
+    out: &mut W,
+) -> Result<(), NoText>
+    requires no_fault { W.fault out.old ≡ None }
+    requires known { IsExplainer file.now explainer.now }
+    requires asked { AreOps file.now.table asked }
+    ensures { OnOk result (Adds (W.taken out.old) (W.taken out.new) (ExplainsPairs kind file.now (Some (asked.p, asked.q)))) }
+{
+    let led = explainer.led();
+    let pair = explainer.pair(alloc, kind, file, asked.p, asked.q)?;
+    write_pair(kind, file, &led, &pair, out)?;
+    Ok(())
+}
+
+/// Writes the bounds of the operations that are asked for.
+fn put_bounds<W: Out>(
+    alloc: Global,
+    checked: &CheckedType,
+    asked: Option<Asked>,
+    out: &mut W,
+) -> Result<(), NoText>
+    requires no_fault { W.fault out.old ≡ None }
+    requires numeric { checked.now.kind ≡ kinds.Escrow }
+    ensures { OnOk result (Adds (W.taken out.old) (W.taken out.new) (ExplainsNumber checked.now.file.table (pair_as asked) verdicts.Yes)) }
+{
+    let table = checked.table();
+    let ops = asked_ops(alloc, table, asked)?;
+    write_bounds(table, checked.bounds().as_slice(), &ops, out)?;
+    Ok(())
+}
+
+/// The operations that are asked for.
+fn asked_ops(alloc: Global, table: &TypeTable, asked: Option<Asked>) -> Result<Vec<u8>, AllocError>
+    ensures exact { IfOk result (λ ops. ops.items ≡ filter (is_asked (pair_as asked)) (range_with_len 0 (length table.now.ops))) }
+    ensures inside { IfOk result (λ ops. All (λ k. k < length table.now.ops) ops.items) }
+{
+    let mut ops = Vec::new(alloc);
+    for k in 0..table.op_count() {
+        if is_asked(asked, k) {
+            ops.push(k)?;
+        }
+    }
+    Ok(ops)
+}
+
+/// Whether an operation is asked for.
+fn is_asked(asked: Option<Asked>, k: u8) -> bool
+    ensures { result ≡ is_asked (pair_as asked) k }
+{
+    match asked {
+        None => true,
+        Some(asked) => k == asked.p || k == asked.q,
+    }
+}
+
+/// Writes why a type isn't numeric.
+fn put_why_not<W: Out>(table: &TypeTable, refusal: CheckRefusal, out: &mut W) -> Result<(), NoText>
+    requires no_fault { W.fault out.old ≡ None }
+    requires first { IsFirstOfNumeric table.now refusal }
+    ensures { OnOk result (Adds (W.taken out.old) (W.taken out.new) (ExplainsNumber table.now None verdicts.No)) }
+{
+    match refusal {
+        CheckRefusal::NotNumeric { k, s } => put_fault(table, k, s, out),
+        // another reason is none of a number
+        _ => Ok(()),
+    }
+}
+
+/// Writes what shows that an operation isn't one of a number, at a state.
+fn put_fault<W: Out>(table: &TypeTable, k: u8, s: u16, out: &mut W) -> Result<(), NoText>
+    requires no_fault { W.fault out.old ≡ None }
+    requires first { IsFirstNumericFault table.now k s }
+    ensures { OnOk result (Adds (W.taken out.old) (W.taken out.new) (ExplainsNumber table.now None verdicts.No)) }
+{
+    let why = why_not(table, k, s);
+    write_why_not(table, k, s, why, out)?;
+    Ok(())
+}
