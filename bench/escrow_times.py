@@ -1,4 +1,5 @@
-"""Times of numbers in escrow beside other ways to share a number, as rows of markdown tables."""
+"""Times of numbers in escrow beside other ways to share a number, and of a number without a table beside a table, as
+rows of markdown tables."""
 import os
 import subprocess
 import sys
@@ -32,15 +33,50 @@ MILLIONS = 30
 
 PROGRAMS = ("escrow", "undo", "intentions", "plain", "object")
 
+# The largest table and the largest number, by their greatest states. Both have these amounts, each taken and given, with
+# the refusals `short` and `full`, and begin in the middle or near their lower bound.
+DECLARED = {"table": 1023, "number": 2**32 - 1}
+AMOUNTS = (1, 9)
+
+# What goes on without end takes 1 and gives 1.
+LASTING = (1,)
+
+
+def made(family, greatest, amounts):
+    """The text of a family's type."""
+    colock = os.environ.get("COLOCK") or store_times.built("colock")
+    return subprocess.run([colock, "make", family, str(greatest), *map(str, amounts)], check=True, capture_output=True,
+                          text=True).stdout
+
+
+def write(folder, name, text, initial):
+    """The file of a type, beginning at a state."""
+    with open(os.path.join(folder, name + ".type"), "w", encoding="ascii") as file:
+        file.write(text.replace("\ninitial 0\n", f"\ninitial {initial}\n"))
+
 
 def write_types(folder):
     """The same table, beginning at each number."""
-    colock = os.environ.get("COLOCK") or store_times.built("colock")
-    made = subprocess.run([colock, "make", "counter", str(GREATEST), "1", "9"], check=True, capture_output=True,
-                          text=True).stdout
+    text = made("counter", GREATEST, AMOUNTS)
     for initial in (FAR, NEAR):
-        with open(os.path.join(folder, f"{initial}.type"), "w", encoding="ascii") as file:
-            file.write(made.replace("\ninitial 0\n", f"\ninitial {initial}\n"))
+        write(folder, str(initial), text, initial)
+
+
+def declared_text(name, amounts):
+    """The text of the table or of the number."""
+    if name == "table":
+        return made("stock", DECLARED[name], amounts)
+    lines = ["number number", f"max {DECLARED[name]}", "initial 0"]
+    lines += [f"{word} {amount}" for word in ("take", "give") for amount in amounts]
+    return "\n".join([*lines, "end", ""])
+
+
+def write_declared(folder):
+    """The table and the number, beginning in the middle and near a bound, and those that go on without end."""
+    for name, greatest in DECLARED.items():
+        write(folder, f"{name}-far", declared_text(name, AMOUNTS), greatest // 2)
+        write(folder, f"{name}-near", declared_text(name, AMOUNTS), NEAR)
+        write(folder, f"{name}-lasting", declared_text(name, LASTING), greatest // 2)
 
 
 def programs(folder):
@@ -84,6 +120,38 @@ def row(started, folder, title, pace, initial, calls, rounds):
     return "| " + " | ".join(cells) + " |"
 
 
+def declared_row(started, folder, title, pace, place, calls, rounds):
+    """A row: of the table and of the number the best of its rounds, with its commits and the most busy calls."""
+    name, think, jobs, tries = pace
+    calls = [call.replace("dec:", "take:").replace("inc:", "give:") for call in calls]
+    seen = {declared: [] for declared in DECLARED}
+    for _ in range(rounds):
+        for declared in DECLARED:
+            path = os.path.join(folder, f"{declared}-{place}.type")
+            seen[declared].append(told(started["escrow"], path, jobs, tries, think, calls))
+    best = {declared: max(runs, key=rate) for declared, runs in seen.items()}
+    cells = [title, name, *(f"{rate(run) * 1e3:,.0f}" for run in best.values()), *(f"{run[1]:,}" for run in best.values())]
+    cells += [f"{max(run[2] for run in runs):,}" for runs in seen.values()]
+    return "| " + " | ".join([*cells, f"{rate(best['table']) / rate(best['number']):.2f}"]) + " |"
+
+
+def show_declared(started, folder, rounds):
+    """The number beside the table: the jobs of workers, and what goes on without end, with the most memory."""
+    write_declared(folder)
+    print(DECLARED_HEAD.format(WORKERS))
+    for title, initial, calls in WORK:
+        for pace in PACES:
+            print(declared_row(started, folder, title, pace, "far" if initial == FAR else "near", calls, rounds), flush=True)
+    benches = store_times.built("benches")
+    for declared in DECLARED:
+        print(f"\n{declared}: one call a transaction, 16 of them open, that goes on")
+        store_times.show_lasting(folder, [benches, "lasting"], "escrow", str(MILLIONS), f"{declared}-lasting")
+
+
+DECLARED_HEAD = """
+| jobs of {} workers | | table: commits a second | number: commits a second | table: commits | number: commits | busy at the table | busy at the number | time of the number to the table's |
+|---|---|---|---|---|---|---|---|---|"""
+
 HEAD = """
 | jobs of {} workers | | {} | {} | busy in escrow | time to plain | to object |
 |---|---|{}---|---|---|"""
@@ -104,6 +172,7 @@ def main(rounds):
         store_times.write_types(folder)
         benches = store_times.built("benches")
         store_times.show_lasting(folder, [benches, "lasting"], "escrow", str(MILLIONS))
+        show_declared(started, folder, int(rounds))
 
 
 if __name__ == "__main__":

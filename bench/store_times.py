@@ -205,9 +205,9 @@ def show_following(folder, program, rounds):
             print(f"{title(kind, workload):44} {run / COMMANDS:8.1f} {follow / COMMANDS:8.1f} {follow / run:6.2f}", flush=True)
 
 
-def show_lasting(folder, program, kind, millions):
+def show_lasting(folder, program, kind, millions, name="counter"):
     """The first and the last of this many million events, and the most memory of the run."""
-    words = [*program, kind, os.path.join(folder, "counter.type"), millions]
+    words = [*program, kind, os.path.join(folder, name + ".type"), millions]
     with subprocess.Popen(words, stdout=subprocess.PIPE, text=True) as run:
         lines = [line.split() for line in run.stdout]
         _, status, used = os.wait4(run.pid, 0)

@@ -76,10 +76,14 @@ class Type:
         self.conflicts = {(kind, int(p), int(q)) for kind, p, q in of("conflict")}
         self.text = "".join(" ".join(line) + "\n" for line in lines)
 
+    def step(self, state, k):
+        """The state after an operation, or none."""
+        return self.next.get((state, k))
+
     def run(self, state, operations):
         """The state after these operations, or none."""
         for k in operations:
-            state = self.next.get((state, k))
+            state = None if state is None else self.step(state, k)
         return state
 
     def operations(self, call):
@@ -88,6 +92,10 @@ class Type:
     def moves(self, k):
         """How far an operation moves each state in which it is legal."""
         return {s: self.next[s, k] - s for s in range(self.states) if (s, k) in self.next}
+
+    def move(self, k):
+        """How far an operation of a numeric type moves each of them."""
+        return min(self.moves(k).values(), default=0)
 
     def fault(self):
         """The first operation, and its first state, by which the type isn't numeric; or none."""
@@ -100,6 +108,34 @@ class Type:
         return None
 
 
+class NumberType(Type):
+    """A number file, by the lines of its text: a number from 0 to a greatest one, and calls of listed amounts. It has no
+    table, and is for escrow alone. Each call is two operations: there is enough, or room for so much; or there isn't."""
+
+    REPLIES = {"take": ("ok", "short"), "give": ("ok", "full"), "atleast": ("yes", "no")}
+    SIGNS = {"take": -1, "give": 1, "atleast": 0}
+
+    def __init__(self, text):
+        self.lines = [line.split() for line in text.splitlines()]
+        given = {word: int(value) for word, value in self.lines[1:-1] if word in ("max", "initial")}
+        self.most, self.initial, self.conflicts, self.text = given["max"], given["initial"], set(), text
+        self.calls = [(word, int(amount)) for word, amount in self.lines[1:-1] if word in self.REPLIES]
+        self.ops = [(f"{word}:{amount}", reply) for word, amount in self.calls for reply in self.REPLIES[word]]
+
+    def step(self, state, k):
+        word, amount = self.calls[k // 2]
+        is_there = amount <= (self.most - state if word == "give" else state)
+        is_legal = 0 <= state <= self.most and is_there == (k % 2 == 0)
+        return state + self.move(k) if is_legal else None
+
+    def move(self, k):
+        word, amount = self.calls[k // 2]
+        return self.SIGNS[word] * amount if k % 2 == 0 else 0
+
+    def fault(self):
+        return None
+
+
 class Number:
     """A number in escrow: what is committed, and what each open transaction did there."""
 
@@ -108,7 +144,7 @@ class Number:
 
     def fronts(self, t):
         """How far each front of what a transaction did moves the number: a rollback may leave any."""
-        moves = [min(self.type.moves(k).values(), default=0) for k in self.own[t]]
+        moves = [self.type.move(k) for k in self.own[t]]
         return {sum(moves[:count]) for count in range(len(moves) + 1)}
 
     def left_by_others(self, t):
@@ -228,7 +264,7 @@ class Model:
     def event_of_call(self, s, t, x, call):
         of_call = self.type_of(x).operations(call)
         state = self.type_of(x).run(self.starts[x], self.view(s, x, t))
-        legal = [k for k in of_call if (state, k) in self.type_of(x).next]
+        legal = [k for k in of_call if self.type_of(x).step(state, k) is not None]
         free = [k for k in legal if self.blocker(s, x, t, k) is None]
         if free:
             return "op", t, x, free[0]

@@ -43,7 +43,7 @@ extern "C" {
 #endif
 
 /* The version of this header's calls, and that of the library's: they have to be the same. */
-#define COLOCK_VERSION 1
+#define COLOCK_VERSION 2
 uint32_t colock_version(void);
 
 /* What a handle holds is a type, the objects of a store that is being made, or a store. */
@@ -76,11 +76,12 @@ typedef enum colock_code {
     COLOCK_NOT_MADE = 18,         /* no command makes this event now */
     COLOCK_FORGOTTEN = 19,        /* these events were forgotten, or some of them */
     COLOCK_BAD_PARAMETER = 20,    /* a parameter of a family is out of its range or in a wrong order */
-    COLOCK_TOO_LARGE = 21,        /* the family would have more than 64 operations or 1,024 states */
+    COLOCK_TOO_LARGE = 21,        /* the family's table would have more than 64 operations or 1,024 states */
     COLOCK_NO_STATE = 22,         /* the type has no state of this number */
     COLOCK_NO_OPERATION = 23,     /* the type has no operation of this number */
     COLOCK_NOT_LEGAL = 24,        /* the operation isn't legal in the state */
-    COLOCK_NO_ROOM = 25           /* the room is too small */
+    COLOCK_NO_ROOM = 25,          /* the room is too small */
+    COLOCK_NEEDS_ESCROW = 26      /* the type is a number, which is for COLOCK_ESCROW alone */
 } colock_code;
 
 /* How an object recovers from aborts. */
@@ -135,7 +136,8 @@ typedef enum colock_refusal {
     COLOCK_NOT_NUMERIC = 5      /* state `second` shows that operation `first` isn't one of numbers */
 } colock_refusal;
 
-/* A type: its states are 0 to states - 1, its operations 0 to ops - 1, and `kind` a colock_kind. */
+/* A type: its states are 0 to states - 1, its operations 0 to ops - 1, and `kind` a colock_kind. A table has at most
+ * 1,024 states, a number 4,294,967,296. */
 typedef struct colock_shape {
     uint64_t states;
     uint64_t initial;
@@ -172,10 +174,12 @@ typedef struct colock_event {
  * to a highest one and moves all of these as far. A counter, a stock and an account are, a set isn't, a semiqueue
  * and a queue are where they have one element, or a capacity of 1, and seats are where there is one. */
 
-/* The type of a text, with its own tables, which for COLOCK_ESCROW aren't looked at. COLOCK_BAD_TEXT. */
+/* The type of a text, with its own tables, which for COLOCK_ESCROW aren't looked at. Where the text's first word is
+ * `number` and not `type`, it is a number up to 4,294,967,295 with listed amounts (docs/formats.md), which has no table
+ * and is for COLOCK_ESCROW alone. COLOCK_BAD_TEXT, COLOCK_NEEDS_ESCROW. */
 uint32_t colock_type_read(colock_handle *type, uint32_t kind, const char *text, size_t text_count,
                           colock_fault *fault);
-/* The type of a text with made tables in place of its own: which operations conflict is found out.
+/* The type of a text with made tables in place of its own: which operations conflict is found out. It isn't a number's.
  * COLOCK_BAD_TEXT. */
 uint32_t colock_type_tables(colock_handle *type, uint32_t kind, const char *text, size_t text_count,
                             colock_fault *fault);
@@ -205,6 +209,11 @@ uint32_t colock_type_queue(colock_handle *type, uint32_t kind, const char *eleme
 /* `count` seats, 1 to 6, each free, held or booked: calls hold:I, release:I, book:I and cancel:I for each I from 1
  * to `count`, and free, whose reply is how many are free. COLOCK_BAD_PARAMETER, COLOCK_TOO_LARGE. */
 uint32_t colock_type_seats(colock_handle *type, uint32_t kind, uint64_t count, colock_fault *fault);
+/* A number of 0 to `max`, which has no table and is for COLOCK_ESCROW alone: calls take:A and give:A for each amount A,
+ * whose refusals, short and full, are replies. Amounts are 1 to max, ascending, at most 16. COLOCK_BAD_PARAMETER,
+ * COLOCK_TOO_LARGE, COLOCK_NEEDS_ESCROW. */
+uint32_t colock_type_number(colock_handle *type, uint32_t kind, uint32_t max, const uint32_t *amounts,
+                            size_t amounts_count, colock_fault *fault);
 
 /* What is read of a type. COLOCK_NOT_HELD where the handle holds no type. */
 uint32_t colock_type_shape(colock_handle *type, colock_shape *shape);

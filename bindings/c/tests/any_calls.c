@@ -9,7 +9,7 @@ typedef enum sort { NOTHING, A_TYPE, OBJECTS, A_STORE } sort;
 static colock_handle handles[HANDLES];
 static sort holds[HANDLES];
 static uint64_t drawn;
-static long by_code[COLOCK_NO_ROOM + 1];
+static long by_code[COLOCK_NEEDS_ESCROW + 1];
 
 static uint64_t draw(uint64_t below) {
     drawn = drawn * 6364136223846793005u + 1442695040888963407u;
@@ -23,7 +23,7 @@ static uint64_t number(void) {
 }
 
 static void counted(uint32_t code) {
-    WANT(code <= COLOCK_NO_ROOM && code != COLOCK_NO_MEMORY && code != COLOCK_NOT_FRESH);
+    WANT(code <= COLOCK_NEEDS_ESCROW && code != COLOCK_NO_MEMORY && code != COLOCK_NOT_FRESH);
     by_code[code]++;
 }
 
@@ -35,13 +35,14 @@ static uint32_t meant_for(int h, sort meant, uint32_t code) {
 }
 
 static void make_type(int h) {
-    static const char *const texts[] = {CTR2, "type counter\nstates x\n", "type c\nstates 1\ninitial 0\nop a b\nreach 0\nend\n", "", FIVE};
+    static const char *const texts[] = {CTR2, "type counter\nstates x\n", "type c\nstates 1\ninitial 0\nop a b\nreach 0\nend\n", "", FIVE, CENTS};
     static const char *const elements[] = {"a b", "a a", "A", "", "a b c d e f g h i j k"};
     uint64_t amounts[3] = {number(), number(), number()};
-    const char *text = texts[draw(5)], *words = elements[draw(5)];
+    uint32_t small[3] = {(uint32_t)amounts[0], (uint32_t)amounts[1], (uint32_t)amounts[2]};
+    const char *text = texts[draw(6)], *words = elements[draw(5)];
     colock_fault fault = {UNTOUCHED, UNTOUCHED, UNTOUCHED, UNTOUCHED, UNTOUCHED};
     uint32_t kind = (uint32_t)(draw(9) ? draw(3) : number()), code = 0;
-    switch (draw(9)) {
+    switch (draw(10)) {
     case 0: code = colock_type_read(&handles[h], kind, TEXT(text), &fault); break;
     case 1: code = colock_type_tables(&handles[h], kind, TEXT(text), &fault); break;
     case 2: code = colock_type_account(&handles[h], kind, number(), amounts, draw(4), &fault); break;
@@ -51,6 +52,7 @@ static void make_type(int h) {
     case 6: code = colock_type_stock(&handles[h], kind, number(), amounts, draw(4), &fault); break;
     case 7: code = colock_type_queue(&handles[h], kind, TEXT(words), number(), &fault); break;
     case 8: code = colock_type_seats(&handles[h], kind, number(), &fault); break;
+    case 9: code = colock_type_number(&handles[h], kind, (uint32_t)number(), small, draw(4), &fault); break;
     }
     WANT((code == COLOCK_IN_USE) == (holds[h] != NOTHING));
     WANT((code == COLOCK_BAD_TEXT || code == COLOCK_REFUSED) == (fault.line != UNTOUCHED));
@@ -170,7 +172,7 @@ int main(int argc, char **argv) {
         }
     }
     for (int h = 0; h < HANDLES; h++) WANT(colock_close(&handles[h]) == (holds[h] == NOTHING ? COLOCK_NOT_HELD : COLOCK_OK));
-    for (int code = 0; code <= COLOCK_NO_ROOM; code++) codes += by_code[code] > 0;
+    for (int code = 0; code <= COLOCK_NEEDS_ESCROW; code++) codes += by_code[code] > 0;
     printf("%ld random calls at handles that hold anything: %ld codes, each where it has to be\n", calls, codes);
     return 0;
 }

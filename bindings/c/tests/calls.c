@@ -59,9 +59,31 @@ static void types_are_refused(void) {
     a_type_is_refused(text, COLOCK_NOT_COMMUTING, 1, 0, 2);
 }
 
+/* A number is for escrow alone, which is said of a text without a fault. No table is made of it. */
+static void a_number_needs_escrow(void) {
+    colock_handle type = COLOCK_HANDLE;
+    colock_fault f = NO_FAULT;
+    WANT(colock_type_read(&type, COLOCK_UNDO, TEXT(CENTS), &f) == COLOCK_NEEDS_ESCROW);
+    WANT(colock_type_read(&type, COLOCK_INTENTIONS, TEXT(CENTS), &f) == COLOCK_NEEDS_ESCROW);
+    WANT(colock_type_read(&type, 3, TEXT(CENTS), &f) == COLOCK_BAD_KIND);
+    WANT(is(&f, UNTOUCHED, UNTOUCHED, UNTOUCHED, UNTOUCHED, UNTOUCHED));
+    WANT(colock_close(&type) == COLOCK_NOT_HELD);
+    WANT(colock_type_read(&type, COLOCK_UNDO, TEXT("number cents\nmax 0\n"), &f) == COLOCK_BAD_TEXT);
+    WANT(is(&f, 2, COLOCK_OUT_OF_RANGE, 0, 0, 0));
+    WANT(colock_type_read(&type, COLOCK_ESCROW, TEXT("number cents\nmax 5\ninitial 0\nop take ok\n"), &f) == COLOCK_BAD_TEXT);
+    WANT(is(&f, 4, COLOCK_UNKNOWN_WORD, 0, 0, 0));
+    WANT(colock_type_tables(&type, COLOCK_ESCROW, TEXT(CENTS), &f) == COLOCK_BAD_TEXT);
+    WANT(is(&f, 1, COLOCK_UNKNOWN_WORD, 0, 0, 0));
+    WANT(colock_type_read(&type, COLOCK_ESCROW, TEXT(CENTS), &f) == COLOCK_OK);
+    WANT(is(&f, 1, COLOCK_UNKNOWN_WORD, 0, 0, 0));
+    WANT(colock_type_read(&type, COLOCK_UNDO, TEXT(CENTS), &f) == COLOCK_IN_USE);
+    WANT(colock_close(&type) == COLOCK_OK);
+}
+
 /* Each maker refuses a kind that isn't, and a handle that holds something, of whatever sort. */
 static void makers_refuse(colock_handle *held) {
     static const uint64_t one[] = {1};
+    static const uint32_t small[] = {1};
     colock_handle type = COLOCK_HANDLE;
     colock_fault f = NO_FAULT;
     WANT(colock_type_read(&type, 3, TEXT(CTR2), &f) == COLOCK_BAD_KIND);
@@ -73,6 +95,7 @@ static void makers_refuse(colock_handle *held) {
     WANT(colock_type_stock(&type, 3, 5, one, 1, &f) == COLOCK_BAD_KIND);
     WANT(colock_type_queue(&type, 3, TEXT("a"), 2, &f) == COLOCK_BAD_KIND);
     WANT(colock_type_seats(&type, 3, 2, &f) == COLOCK_BAD_KIND);
+    WANT(colock_type_number(&type, 3, 5, small, 1, &f) == COLOCK_BAD_KIND);
     WANT(colock_close(&type) == COLOCK_NOT_HELD);
     WANT(colock_type_read(held, 3, TEXT(CTR2), &f) == COLOCK_IN_USE);
     WANT(colock_type_tables(held, 0, TEXT(CTR2), &f) == COLOCK_IN_USE);
@@ -83,14 +106,18 @@ static void makers_refuse(colock_handle *held) {
     WANT(colock_type_stock(held, 0, 5, one, 1, &f) == COLOCK_IN_USE);
     WANT(colock_type_queue(held, 0, TEXT("a"), 2, &f) == COLOCK_IN_USE);
     WANT(colock_type_seats(held, 0, 2, &f) == COLOCK_IN_USE);
+    WANT(colock_type_number(held, COLOCK_ESCROW, 5, small, 1, &f) == COLOCK_IN_USE);
     WANT(colock_store_new(held) == COLOCK_IN_USE);
     WANT(is(&f, UNTOUCHED, UNTOUCHED, UNTOUCHED, UNTOUCHED, UNTOUCHED));
 }
 
 static void families_have_ranges(void) {
     static const uint64_t down[] = {2, 1}, large[] = {(uint64_t)1 << 40}, one[] = {1};
+    static const uint32_t falling[] = {2, 1}, small[] = {1};
     uint64_t many[40];
+    uint32_t few[17];
     for (int i = 0; i < 40; i++) many[i] = (uint64_t)i + 1;
+    for (int i = 0; i < 17; i++) few[i] = (uint32_t)i + 1;
     colock_handle type = COLOCK_HANDLE;
     colock_fault f = NO_FAULT;
     WANT(colock_type_account(&type, 0, 5, down, 2, &f) == COLOCK_BAD_PARAMETER);
@@ -116,6 +143,14 @@ static void families_have_ranges(void) {
     WANT(colock_type_seats(&type, 0, 0, &f) == COLOCK_BAD_PARAMETER);
     WANT(colock_type_seats(&type, 0, UINT64_MAX, &f) == COLOCK_BAD_PARAMETER);
     WANT(colock_type_seats(&type, 0, 7, &f) == COLOCK_TOO_LARGE);
+    WANT(colock_type_number(&type, COLOCK_ESCROW, 5, falling, 2, &f) == COLOCK_BAD_PARAMETER);
+    WANT(colock_type_number(&type, COLOCK_ESCROW, 5, small, 0, &f) == COLOCK_BAD_PARAMETER);
+    WANT(colock_type_number(&type, COLOCK_ESCROW, 0, small, 1, &f) == COLOCK_BAD_PARAMETER);
+    WANT(colock_type_number(&type, COLOCK_ESCROW, 16, few, 17, &f) == COLOCK_BAD_PARAMETER);
+    WANT(colock_type_number(&type, COLOCK_ESCROW, UINT32_MAX, few, 17, &f) == COLOCK_TOO_LARGE);
+    WANT(colock_type_number(&type, COLOCK_UNDO, 5, falling, 2, &f) == COLOCK_BAD_PARAMETER);
+    WANT(colock_type_number(&type, COLOCK_UNDO, 5, small, 1, &f) == COLOCK_NEEDS_ESCROW);
+    WANT(colock_type_number(&type, COLOCK_INTENTIONS, 5, small, 1, &f) == COLOCK_NEEDS_ESCROW);
     WANT(is(&f, UNTOUCHED, UNTOUCHED, UNTOUCHED, UNTOUCHED, UNTOUCHED));
     WANT(colock_close(&type) == COLOCK_NOT_HELD);
 }
@@ -407,6 +442,7 @@ int main(void) {
     WANT(colock_version() == COLOCK_VERSION);
     texts_have_faults();
     types_are_refused();
+    a_number_needs_escrow();
     families_have_ranges();
     a_type_is_read();
     tables_are_made();

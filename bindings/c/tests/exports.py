@@ -317,14 +317,14 @@ def binary_differences(wanted):
 PLANTS = [
     ("header", "uint64_t max_events", "uint32_t max_events"),
     ("header", "uint32_t colock_renew(colock_handle *store);", ""),
-    ("header", "COLOCK_NO_ROOM = 25", "COLOCK_NO_ROOM = 26"),
+    ("header", "COLOCK_NEEDS_ESCROW = 26", "COLOCK_NEEDS_ESCROW = 27"),
     ("header", "COLOCK_MISSING = 8", "COLOCK_MISSING = 18"),
     ("header", "COLOCK_ESCROW = 2", "COLOCK_ESCROW = 3"),
     ("header", "COLOCK_NOT_NUMERIC = 5", "COLOCK_NOT_NUMERIC = 6"),
     ("header", "uint32_t object;\n    uint32_t op;", "uint32_t op;\n    uint32_t object;"),
     ("header", "    uint32_t worker;\n", "    uint8_t worker;\n"),
     ("header", "bool live_;", "uint64_t live_;"),
-    ("header", "COLOCK_VERSION 1", "COLOCK_VERSION 2"),
+    ("header", "COLOCK_VERSION 2", "COLOCK_VERSION 3"),
     ("header", "colock_abort(colock_handle *store, uint8_t worker, uint64_t transaction)", "colock_abort(colock_handle *store, uint64_t transaction, uint8_t worker)"),
     ("header", "const colock_event *events", "colock_event *events"),
     ("rust", "pub fn colock_kept(slot: *mut Handle, object: u32, state: *mut u64)", "pub fn colock_kept(slot: *mut Handle, object: u32, state: *mut u16)"),
@@ -340,7 +340,7 @@ PLANTS = [
     ("errors", '5: ("NotNumeric", 2)', '6: ("NotNumeric", 2)'),
     ("errors", "    17: StillOpen,", "    17: NotMade,"),
     ("errors", "    Missing = 8", "    Missing = 9"),
-    ("make", "ABI = 1", "ABI = 2"),
+    ("make", "ABI = 2", "ABI = 3"),
 ]
 
 

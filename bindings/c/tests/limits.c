@@ -1,4 +1,4 @@
-/* The limits: 1,024 open transactions, 256 objects, a full history, the largest type, the bounds of a number; a
+/* The limits: 1,024 open transactions, 256 objects, a full history, the largest type, the bounds of numbers; a
  * store that forgets goes on. */
 #include "want.h"
 
@@ -128,9 +128,56 @@ static void only_so_many_count_up(void) {
     WANT(colock_close(&store) == COLOCK_OK);
 }
 
+/* A number of 32 bits, which has no table, from its greatest value to 0 and up again by one. */
+static void a_number_has_32_bits(void) {
+    static const char text[] = "number large\nmax 4294967295\ninitial 4294967295\ntake 4294967295\ngive 1\nend\n";
+    colock_handle store = COLOCK_HANDLE, type = COLOCK_HANDLE;
+    colock_fault fault;
+    colock_answer answer;
+    colock_shape shape;
+    uint64_t to = UNTOUCHED, kept, t;
+    WANT(colock_type_read(&type, COLOCK_ESCROW, TEXT(text), &fault) == COLOCK_OK);
+    WANT(colock_type_shape(&type, &shape) == COLOCK_OK && shape.states == (uint64_t)1 << 32 && shape.initial == UINT32_MAX);
+    WANT(shape.ops == 4 && shape.kind == COLOCK_ESCROW);
+    WANT(colock_type_step(&type, UINT32_MAX, 2, &to) == COLOCK_NOT_LEGAL);
+    WANT(colock_type_step(&type, (uint64_t)1 << 32, 0, &to) == COLOCK_NO_STATE && to == UNTOUCHED);
+    WANT(colock_type_step(&type, UINT32_MAX, 0, &to) == COLOCK_OK && to == 0);
+    WANT(colock_type_step(&type, UINT32_MAX - 1, 2, &to) == COLOCK_OK && to == UINT32_MAX);
+    WANT(colock_store_new(&store) == COLOCK_OK && colock_store_add(&store, &type) == COLOCK_OK);
+    WANT(colock_store_open(&store, 100) == COLOCK_OK && colock_close(&type) == COLOCK_OK);
+    WANT(colock_kept(&store, 0, &kept) == COLOCK_OK && kept == UINT32_MAX);
+    t = begin(&store, 0);
+    WANT(colock_call(&store, 0, t, 0, TEXT("give:1"), &answer) == COLOCK_OK && answer.number == 3); /* full */
+    WANT(colock_call(&store, 0, t, 0, TEXT("take:4294967295"), &answer) == COLOCK_OK && answer.number == 0);
+    WANT(colock_call(&store, 0, t, 0, TEXT("give:1"), &answer) == COLOCK_OK && answer.number == 2);
+    WANT(colock_commit(&store, 0, t) == COLOCK_OK && colock_kept(&store, 0, &kept) == COLOCK_OK && kept == 1);
+    WANT(colock_close(&store) == COLOCK_OK);
+}
+
+/* Sixteen amounts, the greatest of which is as large as may be. */
+static void a_number_is_made_of_amounts(void) {
+    colock_handle type = COLOCK_HANDLE;
+    colock_fault fault;
+    colock_shape shape;
+    uint32_t amounts[16] = {[15] = UINT32_MAX};
+    uint64_t to = UNTOUCHED, count;
+    char name[COLOCK_LONGEST_NAME];
+    for (uint32_t i = 0; i < 15; i++) amounts[i] = i + 1;
+    WANT(colock_type_number(&type, COLOCK_ESCROW, UINT32_MAX, amounts, 16, &fault) == COLOCK_OK);
+    WANT(colock_type_shape(&type, &shape) == COLOCK_OK && shape.states == (uint64_t)1 << 32 && shape.initial == 0);
+    WANT(shape.ops == 64 && shape.kind == COLOCK_ESCROW);
+    WANT(colock_type_call(&type, 62, name, sizeof name, &count) == COLOCK_OK && count == 15 && !memcmp(name, "give:4294967295", 15));
+    WANT(colock_type_step(&type, 0, 62, &to) == COLOCK_OK && to == UINT32_MAX);
+    WANT(colock_type_step(&type, UINT32_MAX, 30, &to) == COLOCK_OK && to == 0);
+    WANT(colock_type_step(&type, 5, 2, &to) == COLOCK_OK && to == 3);
+    WANT(colock_close(&type) == COLOCK_OK);
+}
+
 int main(void) {
     the_largest_type_is_read();
     only_so_many_count_up();
+    a_number_has_32_bits();
+    a_number_is_made_of_amounts();
     only_so_many_are_open();
     only_so_many_objects_are_there();
     a_history_is_full();

@@ -33,7 +33,7 @@ void __wrap_free(void *p) {
 /* Does a call. Memory that is refused is the one code but that of success, and the same call is done then. */
 static long refusals = 0;
 static bool is_met[400]; /* the lines whose call was refused memory in some run */
-enum { TYPES = 8 };
+enum { TYPES = 10 };
 #define DO(e) \
     do { \
         uint32_t code = (e); \
@@ -44,6 +44,7 @@ enum { TYPES = 8 };
 
 static void make_types(colock_handle types[TYPES]) {
     static const uint64_t amounts[] = {1, 2};
+    static const uint32_t small[] = {1, 2};
     colock_fault f;
     DO(colock_type_read(&types[0], COLOCK_UNDO, TEXT(CTR2), &f));
     DO(colock_type_tables(&types[1], COLOCK_INTENTIONS, TEXT(CTR2), &f));
@@ -52,7 +53,9 @@ static void make_types(colock_handle types[TYPES]) {
     DO(colock_type_set(&types[4], COLOCK_UNDO, TEXT("a b"), &f));
     DO(colock_type_counter(&types[5], COLOCK_ESCROW, 50, amounts, 2, &f));
     DO(colock_type_read(&types[6], COLOCK_ESCROW, TEXT(FIVE), &f));
-    DO(colock_type_semiqueue(&types[7], COLOCK_INTENTIONS, TEXT("a b"), 2, &f));
+    DO(colock_type_read(&types[7], COLOCK_ESCROW, TEXT(CENTS), &f));
+    DO(colock_type_number(&types[8], COLOCK_ESCROW, UINT32_MAX, small, 2, &f));
+    DO(colock_type_semiqueue(&types[9], COLOCK_INTENTIONS, TEXT("a b"), 2, &f));
 }
 
 static void make_store(colock_handle *store, colock_handle types[TYPES]) {
@@ -63,7 +66,7 @@ static void make_store(colock_handle *store, colock_handle types[TYPES]) {
 
 /* Transactions that are all open before the first of them ends. */
 static void use(colock_handle *store, uint64_t transactions) {
-    static const char *const calls[TYPES] = {"inc:1", "dec:1", "deposit:2", "inc:2", "insert:a", "inc:1", "give:1", "enq:b"};
+    static const char *const calls[TYPES] = {"inc:1", "dec:1", "deposit:2", "inc:2", "insert:a", "inc:1", "give:1", "give:250", "give:1", "enq:b"};
     colock_answer answer;
     uint64_t t;
     for (uint64_t i = 0; i < transactions; i++) {
@@ -132,7 +135,7 @@ int main(int argc, char **argv) {
         WANT(refusals <= 1);
     }
     for (int line = 0; line < 400; line++) met += is_met[line];
-    WANT(met == 16); /* each call that may take memory, and no other */
+    WANT(met == 18); /* each call that may take memory, and no other */
     printf("%ld allocations, each refused in turn, at %ld calls: one code, the same call is done then, no leak\n", n, met);
     return 0;
 }

@@ -36,6 +36,9 @@ static const char FIVE[] =
     "step 0 0 1\nstep 0 2 0\nstep 1 0 2\nstep 1 2 1\nstep 2 0 3\nstep 2 1 0\nstep 3 0 4\nstep 3 1 1\nstep 4 0 5\n"
     "step 4 1 2\nstep 5 1 3\nreach 0\nequi 0 1\nconflict undo 0 0\nend\n";
 
+/* A balance in cents, which has no table. */
+static const char CENTS[] = "number cents\nmax 100000\ninitial 0\ntake 250\ngive 250\nend\n";
+
 /* A store of this many objects of the type of CTR2, updated in place. */
 static inline void open_counters(colock_handle *store, int objects, uint64_t max_events) {
     colock_handle type = COLOCK_HANDLE;

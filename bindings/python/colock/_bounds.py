@@ -1,5 +1,6 @@
 """Between which states the operations of a numeric type are legal, and which of them may block one another."""
-from typing import Callable, Iterable, NamedTuple, Optional
+from itertools import chain
+from typing import Callable, NamedTuple, Optional
 
 
 class Bounds(NamedTuple):
@@ -19,14 +20,31 @@ class Bounds(NamedTuple):
 
 
 def bounds_of(states: int, step: Callable[[int], Optional[int]]) -> Optional[Bounds]:
-    """Those of the operation that has these steps; None where it is legal nowhere."""
-    low, high = _first_legal(range(states), step), _first_legal(reversed(range(states)), step)
-    to = None if low is None else step(low)
-    return None if low is None or high is None or to is None else Bounds(low, high, to - low)
+    """Those of the operation that has these steps; None where it is legal nowhere.
+
+    Each operation of a number without a table is legal at 0 or at its greatest state, so only a table's states, of which
+    there are few, are gone through.
+    """
+    greatest = states - 1
+    for state in chain((0, greatest), range(1, greatest)):
+        to = step(state)
+        if to is not None:
+            return Bounds(_farthest(state, 0, step), _farthest(state, greatest, step), to - state)
+    return None
 
 
-def _first_legal(states: Iterable[int], step: Callable[[int], Optional[int]]) -> Optional[int]:
-    return next((state for state in states if step(state) is not None), None)
+def _farthest(legal: int, end: int, step: Callable[[int], Optional[int]]) -> int:
+    """The last state, from a legal one towards an end, that is legal: all between two such are."""
+    if step(end) is not None:
+        return end
+    illegal = end
+    while abs(legal - illegal) > 1:
+        middle = (legal + illegal) // 2
+        if step(middle) is None:
+            illegal = middle
+        else:
+            legal = middle
+    return legal
 
 
 def may_block(one: Optional[Bounds], other: Optional[Bounds]) -> bool:

@@ -171,6 +171,10 @@ class NoOperation(ColockError):
     """The type has no operation of this number."""
 
 
+class NeedsEscrow(ColockError, ValueError):
+    """The text declares a number, which is for `Kind.ESCROW` alone."""
+
+
 class FaultKind(enum.IntEnum):
     """What is wrong with a line of the text of a type."""
 
@@ -247,6 +251,7 @@ CODES: Dict[int, Type[ColockError]] = {
     21: TooLarge,
     22: NoState,
     23: NoOperation,
+    26: NeedsEscrow,
 }
 
 # The checker's refusals, with how many numbers each names.

@@ -5,7 +5,7 @@ import os
 from typing import Any, Callable, Dict
 
 # The version of these calls, which the library has to have too.
-VERSION = 1
+VERSION = 2
 
 OK = 0
 NOT_OPEN = 1
@@ -71,6 +71,7 @@ SIGNATURES: Dict[str, Any] = {
     "type_semiqueue": (_H, _32, _TEXT, _SIZE, _64, _P(Fault)),
     "type_queue": (_H, _32, _TEXT, _SIZE, _64, _P(Fault)),
     "type_seats": (_H, _32, _64, _P(Fault)),
+    "type_number": (_H, _32, _32, _P(_32), _SIZE, _P(Fault)),
     "type_shape": (_H, _P(Shape)),
     "type_name": (_H, _TEXT, _SIZE, _P(_64)),
     "type_call": (_H, _64, _TEXT, _SIZE, _P(_64)),

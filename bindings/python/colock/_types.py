@@ -69,7 +69,8 @@ class Type:
     def __init__(self, text: Union[str, bytes], kind: Kind = Kind.UNDO) -> None:
         """The type of a text, with its own conflicts, which for `Kind.ESCROW` aren't looked at.
 
-        Raises `BadText`, `Refused` or `NoMemory`.
+        A text whose first word is `number` is of a number up to 4,294,967,295 with listed amounts, which has no table and
+        is for `Kind.ESCROW` alone. Raises `BadText`, `NeedsEscrow`, `Refused` or `NoMemory`.
         """
         content = _bytes(text)
         self._make(Source(content), "type_read", kind, content, len(content))
@@ -160,13 +161,26 @@ class Type:
         return cls._made(_family("seats", most, []), "type_seats", kind, most)
 
     @classmethod
+    def number(cls, most: int, amounts: Iterable[int]) -> "Type":
+        """A number of 0 to `most`, at 0, of `Kind.ESCROW`, which has no table: `take:A` and `give:A` for each amount A, whose
+        refusals, `short` and `full`, are replies.
+
+        `most` is up to 4,294,967,295, and amounts are 1 to `most`, ascending, at most 16. Raises `BadParameter`, `TooLarge`
+        or `NoMemory`.
+        """
+        numbers = list(amounts)
+        room, count = _words(numbers, ctypes.c_uint32)  # it raises where an amount is none
+        source = _family("number", unsigned("the greatest value", most, 32), numbers)
+        return cls._made(source, "type_number", Kind.ESCROW, most, room, count)
+
+    @classmethod
     def _of_elements(cls, family: str, names: List[str], capacity: int, kind: Kind) -> "Type":
         content, most = _spaced(names), unsigned("the capacity", capacity, 64)
         return cls._made(_family(family, most, names), "type_" + family, kind, content, len(content), most)
 
     @classmethod
     def _of_amounts(cls, family: str, cap: int, amounts: List[int], kind: Kind) -> "Type":
-        room, count = _words(amounts)  # it raises where an amount is none
+        room, count = _words(amounts, ctypes.c_uint64)  # it raises where an amount is none
         most = unsigned("the cap", cap, 64)
         return cls._made(_family(family, most, amounts), "type_" + family, kind, most, room, count)
 
@@ -264,6 +278,12 @@ class Type:
         """Between which states an operation of a numeric type is legal."""
         return bounds_of(self.states, lambda state: self.step(state, operation))
 
+    def _steps(self, operation: int) -> Any:
+        """The states to which an operation leads from each state. Of a number it is the bounds, which say as much."""
+        if self.kind is Kind.ESCROW:
+            return self._bounds(operation)
+        return tuple(self.step(s, operation) for s in range(self.states))
+
     def _compared(self) -> Tuple[Any, ...]:
         """What two types are compared by: name, kind, states, initial state, operations, steps and conflicts.
 
@@ -271,7 +291,7 @@ class Type:
         """
         if self._all is None:
             numbers = range(len(self.operations))
-            steps = tuple(self.step(s, k) for s in range(self.states) for k in numbers)
+            steps = tuple(map(self._steps, numbers))
             conflicts = tuple(self._conflicts(p, q) for p in numbers for q in numbers)
             self._all = (self.name, self.kind, self.states, self.initial, self.operations, steps, conflicts)
         return self._all
@@ -302,10 +322,10 @@ def _bytes(text: Union[str, bytes]) -> bytes:
     return text.encode("utf-8", "surrogatepass") if isinstance(text, str) else bytes(text)
 
 
-def _words(numbers: Iterable[int]) -> Tuple[Any, int]:
-    """Numbers as they go over, and their count. There is always an address."""
-    words = [unsigned("an amount", number, 64) for number in numbers]
-    return (ctypes.c_uint64 * max(len(words), 1))(*words), len(words)
+def _words(numbers: Iterable[int], word: Any) -> Tuple[Any, int]:
+    """Numbers as they go over, each a word, and their count. There is always an address."""
+    words = [unsigned("an amount", number, 8 * ctypes.sizeof(word)) for number in numbers]
+    return (word * max(len(words), 1))(*words), len(words)
 
 
 def _family(family: str, size: int, items: Sequence[object]) -> Source:

@@ -176,7 +176,7 @@ def requests():
         yield tag, words
 
 
-def opened(greeting="colock 1 5\\n"):
+def opened(greeting="colock 2 5\\n"):
     '''Greets, and answers what a client asks as it opens; then the requests that follow.'''
     say(greeting)
     for tag, words in requests():

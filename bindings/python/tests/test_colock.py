@@ -82,6 +82,22 @@ class Types(unittest.TestCase):
             self.assertEqual((raised.exception.reason, raised.exception.numbers), ("NotNumeric", numbers))
         self.assertEqual(str(raised.exception), "NotNumeric 1 1")
 
+    def test_a_number_needs_escrow(self):
+        text = "number cents\nmax 100000\ninitial 0\ntake 250\ngive 250\nend\n"
+        for kind in Kind.UNDO, Kind.INTENTIONS:
+            with self.assertRaises(colock.NeedsEscrow) as raised:
+                Type(text, kind)
+            self.assertIsInstance(raised.exception, ValueError)
+        # the fault of a text is told first, and tables are made of type files alone
+        with self.assertRaises(colock.BadText) as raised:
+            Type("number cents\nmax 0\n")
+        self.assertEqual((raised.exception.line, raised.exception.kind), (2, colock.FaultKind.OutOfRange))
+        with self.assertRaises(colock.BadText) as raised:
+            Type.with_made_tables(text, Kind.ESCROW)
+        self.assertEqual((raised.exception.line, raised.exception.kind), (1, colock.FaultKind.UnknownWord))
+        cents = Type(text, Kind.ESCROW)
+        self.assertEqual((cents.name, cents.states, len(cents.operations)), ("cents", 100001, 4))
+
     def test_families(self):
         for make in [
             lambda: Type.account(5, [2, 1]),
@@ -102,6 +118,10 @@ class Types(unittest.TestCase):
             lambda: Type.queue(["a"], (1 << 64) - 1),
             lambda: Type.seats(0),
             lambda: Type.seats((1 << 64) - 1),
+            lambda: Type.number(5, [2, 1]),
+            lambda: Type.number(5, [6]),
+            lambda: Type.number(0, [1]),
+            lambda: Type.number(5, []),
         ]:
             self.assertRaises(colock.BadParameter, make)
         self.assertRaises(colock.TooLarge, Type.account, 1000, [1])
@@ -110,10 +130,16 @@ class Types(unittest.TestCase):
         self.assertRaises(colock.TooLarge, Type.stock, 1023, range(1, 41))
         self.assertRaises(colock.TooLarge, Type.queue, ["a", "b"], 10)
         self.assertRaises(colock.TooLarge, Type.seats, 7)
+        self.assertRaises(colock.TooLarge, Type.number, (1 << 32) - 1, range(1, 18))
+        self.assertRaises(OverflowError, Type.number, 1 << 32, [1])
+        self.assertRaises(OverflowError, Type.number, 5, [1 << 32])
         self.assertEqual(Type.set(["mon", "tue"]).operations[0], ("insert:mon", "ok"))
         self.assertEqual(Type.semiqueue(["a"], 2, Kind.INTENTIONS).kind, Kind.INTENTIONS)
         self.assertEqual(Type.stock(1000, [1, 10]).operations[3], ("take:1", "short"))
         self.assertEqual((Type.queue(["a", "b"], 2).states, Type.queue(["a", "b"], 2).operations[3]), (7, ("deq", "b")))
+        cents = Type.number((1 << 32) - 1, [250, 1000])
+        self.assertEqual((cents.kind, cents.states, cents.initial), (Kind.ESCROW, 1 << 32, 0))
+        self.assertEqual((cents.operations[1], cents.operations[6], cents.step(5, 6)), (("take:250", "short"), ("give:1000", "ok"), 1005))
         self.assertEqual((Type.seats(3).states, Type.seats(3).operations[1]), (27, ("hold:1", "taken")))
 
     def test_what_is_read(self):

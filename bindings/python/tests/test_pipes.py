@@ -18,7 +18,7 @@ class Pipes(support.Fakes):
     def test_no_greeting(self):
         for body, words in [
             ("time.sleep(60)", "no answer within 0.4 seconds"),
-            ("say('colock 1 5'); time.sleep(60)", "no answer within 0.4 seconds"),
+            ("say('colock 2 5'); time.sleep(60)", "no answer within 0.4 seconds"),
         ]:
             with Timed() as timed:
                 with self.assertRaises(colock.CannotOpen) as raised:
@@ -28,8 +28,8 @@ class Pipes(support.Fakes):
 
     def test_wrong_greetings(self):
         for greeting, words in [
-            ("colock 2 5", "speaks version 2"), ("colock 1.1 5", "speaks version 1.1"), ("hello", "no greeting"), ("", "no greeting"),
-            ("colock 1 05", "no greeting"), ("colock 1 5 ", "no greeting"), ("colock 1 \\xff", "no greeting"), ("t ok", "no greeting"),
+            ("colock 1 5", "speaks version 1"), ("colock 2.1 5", "speaks version 2.1"), ("hello", "no greeting"), ("", "no greeting"),
+            ("colock 2 05", "no greeting"), ("colock 2 5 ", "no greeting"), ("colock 2 \\xff", "no greeting"), ("t ok", "no greeting"),
         ]:
             with self.assertRaises(colock.CannotOpen) as raised:
                 self.open(f"list(opened('{greeting}\\n'))")
@@ -38,7 +38,7 @@ class Pipes(support.Fakes):
     def test_it_ends_at_once(self):
         for body, words in [
             ("sys.exit('it has no wish')", "it has no wish"), ("sys.exit(3)", "status 3"), ("os.kill(os.getpid(), 9)", "SIGKILL"),
-            ("say('colock 1 5\\n'); sys.exit('then it ended')", "then it ended"),
+            ("say('colock 2 5\\n'); sys.exit('then it ended')", "then it ended"),
         ]:
             with self.assertRaises(colock.CannotOpen) as raised:
                 self.open(body)
@@ -53,7 +53,7 @@ class Pipes(support.Fakes):
             ("{0} object escrow 0|{0} ok", "".join(f"{{0}} {line}|" for line in ("type t", "states 2", "initial 0", "op a b", "step 0 0 1", "step 1 0 1", "end", "")) + "{0} ok"),
         ]:
             answers = {"objects": objects + "|", "types": types + "|"}
-            body = f"say('colock 1 5\\n')\nfor tag, words in requests():\n    say({answers!r}[words[0]].format(tag).replace('|', '\\n'))"
+            body = f"say('colock 2 5\\n')\nfor tag, words in requests():\n    say({answers!r}[words[0]].format(tag).replace('|', '\\n'))"
             with self.assertRaises(colock.CannotOpen):
                 self.open(body)
 

@@ -123,6 +123,26 @@ class Numbers(unittest.TestCase):
         never = Type("type never\nstates 2\ninitial 0\nop a b\nop c d\nstep 0 1 1\nend\n", Kind.ESCROW)
         self.assertEqual([never._bounds(k) for k in range(2)], [None, (0, 0, 1)])
         self.assertEqual(never._blocks(), {(1, 1)})
+        steps = "".join(f"step {s} 0 {s - 2}\n" for s in (3, 4, 5))
+        middle = Type(f"type middle\nstates 9\ninitial 0\nop a b\n{steps}end\n", Kind.ESCROW)
+        self.assertEqual(middle._bounds(0), (3, 5, -2))
+
+    def test_a_number_of_32_bits(self):
+        most = (1 << 32) - 1
+        text = f"number large\nmax {most}\ninitial 7\ntake 1\ntake {most}\ngive 5\natleast 1000000\nend\n"
+        large = Type(text, Kind.ESCROW)
+        self.assertEqual((large.name, large.states, large.initial, len(large.operations)), ("large", most + 1, 7, 8))
+        self.assertEqual((large.operations[3], large.operations[4]), ((f"take:{most}", "short"), ("give:5", "ok")))
+        self.assertEqual((large.step(most, 2), large.step(most - 1, 2), large.step(most - 5, 4)), (0, None, most))
+        bounds = [large._bounds(k) for k in range(8)]
+        self.assertEqual(bounds[:4], [(1, most, -1), (0, 0, 0), (most, most, -most), (0, most - 1, 0)])
+        self.assertEqual(bounds[4:], [(0, most - 5, 5), (most - 4, most, 0), (1_000_000, most, 0), (0, 999_999, 0)])
+        self.assertEqual(Type(text, Kind.ESCROW)._compared(), large._compared())
+        self.assertNotEqual(Type(text.replace("give 5", "give 6"), Kind.ESCROW)._compared(), large._compared())
+        with colock.Store([large], 100) as store:
+            with store.begin() as t:
+                self.assertEqual((t.call(0, f"take:{most}").reply, t.call(0, "give:5").reply), ("short", "ok"))
+            self.assertEqual(store.kept(0), 12)
 
     def test_what_may_be_in_the_way(self):
         # two ups may take the last place, and two downs the last piece; an up and a down never block one another

@@ -1,5 +1,5 @@
 //! A store that goes on without end: `lasting KIND FILE MILLIONS` makes MILLIONS million events at one object
-//! of a type, whose calls 0 and 1 take turns, with 16 transactions open, and forgets each 65,536 of them. It
+//! of a type, whose first two calls take turns, with 16 transactions open, and forgets each 65,536 of them. It
 //! prints the nanoseconds of the first and of the last million.
 
 use crate::parts::{checked_at, number, show, since};
@@ -14,6 +14,7 @@ use std::sync::Arc;
 use std::time::Instant;
 use store::Store;
 use table_checker::{CheckedType, Kind};
+use type_table::Op;
 use undo_manager::UndoManager;
 
 const USAGE: &str = "usage: benches lasting undo|intentions|escrow FILE MILLIONS";
@@ -77,22 +78,34 @@ fn measure_type<R: Clock + Print + AllocGlobal, M: Fresh>(
     millions: u32,
 ) -> Result<()> {
     let mut store = store_of::<M>(rt.alloc(), checked, 1, u32::MAX)?;
-    let measured = measure_store(rt, &mut store, millions);
+    let measured = measure_store(rt, &mut store, second_call(checked.ops()), millions);
     let events = u128::from(store.event_count());
     let _ = store.close();
     measured?;
     show(rt, &[("events", events)])
 }
 
+/// The number of a type's second call, whose operations come after those of its first; 0 where it has one call.
+fn second_call(ops: &[Op]) -> u8 {
+    match ops {
+        [first, ..] => match ops.iter().position(|op| op.call != first.call) {
+            Some(place) => u8::try_from(place).unwrap_or(0),
+            None => 0,
+        },
+        [] => 0,
+    }
+}
+
 /// Makes the events, and prints how long the first and the last million took.
 fn measure_store<R: Clock + Print, M: Recovery>(
     rt: &R,
     store: &mut Store<M>,
+    second: u8,
     millions: u32,
 ) -> Result<()> {
     let mut open = begin_all(store)?;
     for million in 0..millions {
-        let time = million_time(rt, store, &mut open)?;
+        let time = million_time(rt, store, &mut open, second)?;
         show_time(rt, time, million == 0 || million == millions - 1)?;
     }
     Ok(())
@@ -120,18 +133,23 @@ fn million_time<R: Clock, M: Recovery>(
     rt: &R,
     store: &mut Store<M>,
     open: &mut [u32; OPEN],
+    second: u8,
 ) -> Result<u128> {
     let start = Instant::now(rt);
-    make_million(store, open)?;
+    make_million(store, open, second)?;
     since(rt, start)
 }
 
 /// Makes a million events, and forgets them as they come.
 #[inline(never)]
-fn make_million<M: Recovery>(store: &mut Store<M>, open: &mut [u32; OPEN]) -> Result<(), Refusal> {
+fn make_million<M: Recovery>(
+    store: &mut Store<M>,
+    open: &mut [u32; OPEN],
+    second: u8,
+) -> Result<(), Refusal> {
     for turn in 0..TURNS {
         let slot = &mut open[turn as usize % OPEN];
-        take_turn(store, slot, (turn / CALLS % 2) as u8)?;
+        take_turn(store, slot, if turn / CALLS % 2 == 0 { 0 } else { second })?;
         if store.history().len() >= FORGOTTEN {
             store.forget(FORGOTTEN);
         }

@@ -1,13 +1,15 @@
 //! What several measurements need: their words, their types, the clock, and what they print.
 
 use anyhow::{Result, bail};
+use declared_text::read_declared;
+use object_types::accept_types;
 use std::alloc::Global;
 use std::rt::{Clock, Files};
 use std::sync::Arc;
 use std::time::Instant;
 use std::{fs, io};
-use table_checker::{CheckedType, Kind, check};
-use type_text::read_type;
+use store_text::ObjectLine;
+use table_checker::{CheckedType, Kind};
 
 /// The number of a word, where it is one.
 pub fn number(word: &String) -> Option<u32> {
@@ -24,10 +26,15 @@ pub fn checked_at<R: Files + AllocGlobal>(
     checked_of(rt.alloc(), kind, &text)
 }
 
-/// The type of a text, where it is accepted for a kind.
+/// The type that a text declares, where it is accepted for a kind.
 fn checked_of(alloc: Global, kind: Kind, text: &[u8]) -> Result<Arc<CheckedType>> {
-    match check(read_type(alloc, text)?, kind) {
-        Ok(checked) => Ok(Arc::new(alloc, checked)?),
+    let declared = read_declared(alloc, text)?;
+    let object = ObjectLine { kind, file: 0 };
+    match accept_types(alloc, &[declared], &[object]) {
+        Ok(types) => match types.first() {
+            Some(checked) => Ok(Arc::clone(checked)?),
+            None => bail!("no type"),
+        },
         Err(_) => bail!("the type isn't accepted"),
     }
 }

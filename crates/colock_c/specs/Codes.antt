@@ -11,7 +11,7 @@ use Rattle.store.specs.declared.stray.Stray.TheVariants as stray
 use Rattle.table_maker.specs.declared.make_error.MakeError.{MakeError}
 use Rattle.table_maker.specs.declared.make_error.MakeError.TheVariants as make
 use Rattle.colock_c.specs.declared.code.Code.{Code}
-use Rattle.colock_c.specs.declared.code.Code.TheVariants.{Done, NotOpen, NoObject, NoCall, TooManyOpen, HistoryFull, NoMemory, BadRollback, NotHeld, InUse, BadText, Refused, BadKind, NoObjects, TooManyObjects, NotFresh, BadMax, StillOpen, NotMade, Forgotten, BadParameter, TooLarge, NoState, NoOperation, NotLegal, NoRoom}
+use Rattle.colock_c.specs.declared.code.Code.TheVariants.{Done, NotOpen, NoObject, NoCall, TooManyOpen, HistoryFull, NoMemory, BadRollback, NotHeld, InUse, BadText, Refused, BadKind, NoObjects, TooManyObjects, NotFresh, BadMax, StillOpen, NotMade, Forgotten, BadParameter, TooLarge, NoState, NoOperation, NotLegal, NoRoom, NeedsEscrow}
 
 abbrev pub number : Code → ℕ
 number Done = 0
@@ -40,6 +40,7 @@ number NoState = 22
 number NoOperation = 23
 number NotLegal = 24
 number NoRoom = 25
+number NeedsEscrow = 26
 
 -- of a call of a store, which may be refused. A refusal has the number that the text of a run gives it
 abbrev pub code_of : Option Refusal → Code

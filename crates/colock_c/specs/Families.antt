@@ -3,12 +3,18 @@ use Rattle.std.specs.Prelude.{◌≡◌, ℕ, true, List, Option, Some, None, if
 use Rattle.std.specs.List.{list_all}
 use Rattle.type_table.specs.Name.{is_name}
 use Rattle.line_text.specs.Text.{words_of}
+use Rattle.type_table.specs.declared.kind.Kind.{Kind}
 use Rattle.type_text.specs.declared.type_file.TypeFile.{TypeFile}
+use Rattle.table_checker.specs.declared.declared_type.Declaration.{Declaration}
+use Rattle.table_checker.specs.declared.declared_type.Declaration.TheVariants.{Number as Numbers}
+use Rattle.table_families.specs.Number.{amounts_number, AreNumberAmounts, NumberFits}
 use Rattle.table_maker.specs.Elements.{AreElements}
 use Rattle.table_maker.specs.Made.{Family, IsFileOfFamily}
 use Rattle.table_maker.specs.Semiqueue.{AreSemiqueueParameters}
 use Rattle.colock_c.specs.Codes.{number}
+use Rattle.colock_c.specs.Types.{IsFileFor, IsNotFor}
 use Rattle.colock_c.specs.declared.code.Code.TheVariants.{BadParameter, TooLarge}
+use Rattle.colock_c.specs.declared.words.ColockFault.{ColockFault}
 
 -- the parameters are good, the family isn't too large at them, and the file is the family's
 pub record IsOfFamily (IsGood Fits : Type 0) (f : Family) (file : TypeFile) : Type 0 where
@@ -20,6 +26,25 @@ pub record IsOfFamily (IsGood Fits : Type 0) (f : Family) (file : TypeFile) : Ty
 pub data HasNone (IsGood Fits : Type 0) (n : ℕ) : Type 0 where
   bad : (IsGood → ⊥) → n ≡ number BadParameter → HasNone IsGood Fits n
   large : IsGood → (Fits → ⊥) → n ≡ number TooLarge → HasNone IsGood Fits n
+
+-- ---- numbers
+
+-- the parameters are good, there aren't too many amounts, and this is the number of them
+pub record IsOfAmounts (max : ℕ) (amounts : List ℕ) (declaration : Declaration) : Type 0 where
+  pub good : AreNumberAmounts max amounts
+  pub fits : NumberFits amounts
+  pub is_number : declaration ≡ Numbers (amounts_number max amounts)
+
+-- the file of this number, for the kind
+abbrev pub IsOfNumber : ℕ → List ℕ → Kind → TypeFile → Type 0
+IsOfNumber max amounts kind file = (declaration : Declaration) × IsOfAmounts max amounts declaration × IsFileFor kind declaration file
+
+-- why there is none: the parameters have no number, or it isn't for the kind. Nothing is written
+pub data HasNoNumber (max : ℕ) (amounts : List ℕ) (kind : Kind) (was : ColockFault) (n : ℕ) (words : ColockFault) : Type 0 where
+  none : HasNone (AreNumberAmounts max amounts) (NumberFits amounts) n → words ≡ was → HasNoNumber max amounts kind was n words
+  not_for : (declaration : Declaration) → IsOfAmounts max amounts declaration → IsNotFor kind declaration was n words → HasNoNumber max amounts kind was n words
+
+-- ---- elements
 
 -- the name that a word is
 abbrev pub name_of : List ℕ → Option (List ℕ)

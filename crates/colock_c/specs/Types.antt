@@ -4,16 +4,19 @@ use Rattle.type_table.specs.declared.kind.Kind.{Kind}
 use Rattle.line_text.specs.declared.fault.TextFault.{TextFault}
 use Rattle.line_text.specs.declared.fault.FaultKind.TheVariants as fault
 use Rattle.type_text.specs.declared.type_file.TypeFile.{TypeFile}
-use Rattle.type_text.specs.TypeFile.{Reads}
+use Rattle.type_text.specs.TypeFile as tables
+use Rattle.declared_text.specs.Declared.{Declares, Reads}
 use Rattle.table_checker.specs.Checked.{Checked, IsChecked}
+use Rattle.table_checker.specs.Declarations.{file_of, IsDeclaredFor}
 use Rattle.table_checker.specs.Refusal.{IsFirstReason}
+use Rattle.table_checker.specs.declared.declared_type.Declaration.{Declaration}
 use Rattle.table_checker.specs.declared.condition.Condition.TheVariants.{Forward, Backward}
 use Rattle.table_checker.specs.declared.refusal.CheckRefusal.{CheckRefusal}
 use Rattle.table_maker.specs.MadeConflicts.{AreMadeConflicts}
 use Rattle.colock_c.specs.Codes.{number}
 use Rattle.colock_c.specs.Holding.{type_at}
 use Rattle.colock_c.specs.Words.{fault_words, refusal_words}
-use Rattle.colock_c.specs.declared.code.Code.TheVariants.{Done, NoMemory, BadText, Refused}
+use Rattle.colock_c.specs.declared.code.Code.TheVariants.{Done, NoMemory, BadText, Refused, NeedsEscrow}
 use Rattle.colock_c.specs.declared.held.Held.{Held}
 use Rattle.colock_c.specs.declared.words.ColockFault.{ColockFault}
 
@@ -42,17 +45,37 @@ pub data IsMade (IsSuch : TypeFile → Type 0) (IsAmiss : ℕ → ColockFault �
 
 -- ---- of a text
 
--- the file is the text's
-abbrev pub IsFileOf : List ℕ → TypeFile → Type 0
-IsFileOf text file = Reads (Ok file) text
+-- the file of what is declared, which is declared for the kind too
+pub record IsFileFor (kind : Kind) (declaration : Declaration) (file : TypeFile) : Type 0 where
+  pub for_kind : IsDeclaredFor kind declaration
+  pub is : file ≡ file_of declaration
 
--- the text has a fault, which isn't that memory was refused
-pub record IsFaulty (text : List ℕ) (n : ℕ) (words : ColockFault) : Type 0 where
+-- what is declared isn't declared for the kind: it is a number, and needs escrow
+pub record IsNotFor (kind : Kind) (declaration : Declaration) (was : ColockFault) (n : ℕ) (words : ColockFault) : Type 0 where
+  pub needs : IsDeclaredFor kind declaration → ⊥
+  pub told : n ≡ number NeedsEscrow
+  pub stay : words ≡ was
+
+-- such a fault of a text is told, which isn't that memory was refused
+pub record TellsFault (IsSuch : TextFault → Type 0) (n : ℕ) (words : ColockFault) : Type 0 where
   pub why : TextFault
-  pub reads : Reads (Err why) text
+  pub such : IsSuch why
   pub of_text : why.kind ≡ fault.NoMemory → ⊥
   pub told : n ≡ number BadText
   pub words_are : words ≡ fault_words why
+
+-- the fault of a text that declares no type
+abbrev pub IsFaulty : List ℕ → ℕ → ColockFault → Type 0
+IsFaulty text n words = TellsFault (λ why. Reads (Err why) text) n words
+
+-- the file of what the text declares, for the kind
+abbrev pub IsFileOf : List ℕ → Kind → TypeFile → Type 0
+IsFileOf text kind file = (declaration : Declaration) × Declares text declaration × IsFileFor kind declaration file
+
+-- why there is none: the text has a fault, or what it declares isn't for the kind
+pub data HasNoFile (text : List ℕ) (kind : Kind) (was : ColockFault) (n : ℕ) (words : ColockFault) : Type 0 where
+  faulty : IsFaulty text n words → HasNoFile text kind was n words
+  not_for : (declaration : Declaration) → Declares text declaration → IsNotFor kind declaration was n words → HasNoFile text kind was n words
 
 -- ---- of a table whose relation and conflicts are made
 
@@ -63,6 +86,10 @@ pub record HasMadeTables (given file : TypeFile) : Type 0 where
   pub undo : AreMadeConflicts Backward file file.undo
   pub intentions : AreMadeConflicts Forward file file.intentions
 
--- the file has made tables in place of those of the text's file
+-- the file has made tables in place of those of the type file that the text is
 abbrev pub IsTabledOf : List ℕ → TypeFile → Type 0
-IsTabledOf text file = (given : TypeFile) × IsFileOf text given × HasMadeTables given file
+IsTabledOf text file = (given : TypeFile) × tables.Reads (Ok given) text × HasMadeTables given file
+
+-- the fault of a text that is no type file
+abbrev pub IsNoTypeFile : List ℕ → ℕ → ColockFault → Type 0
+IsNoTypeFile text n words = TellsFault (λ why. tables.Reads (Err why) text) n words

@@ -33,7 +33,7 @@ pub(crate) fn name(held: &Held, room: &mut [u8], count: &mut u64) -> Code
     ensures rest { number result ≢ 0 → (room.new ≡ room.old) × (count.new ≡ count.old) }
 {
     match held {
-        Held::OfType(checked) => put_name(checked.table().name(), room, count),
+        Held::OfType(checked) => put_name(checked.declared().name(), room, count),
         Held::OfObjects(_) => Code::NotHeld,
         Held::OfStore(_) => Code::NotHeld,
     }
@@ -72,7 +72,7 @@ pub(crate) fn leads(held: &Held, s: u64, k: u64, to: &mut u64) -> Code
     ensures rest { number result ≢ 0 → to.new ≡ to.old }
 {
     match held {
-        Held::OfType(checked) => step(checked.table(), s, k, to),
+        Held::OfType(checked) => step(checked.declared(), s, k, to),
         Held::OfObjects(_) => Code::NotHeld,
         Held::OfStore(_) => Code::NotHeld,
     }

@@ -63,6 +63,8 @@ pub enum Code {
     NotLegal = 24,
     /// The room is too small.
     NoRoom = 25,
+    /// The type is a number, which is for escrow alone.
+    NeedsEscrow = 26,
 }
 
 impl Code {

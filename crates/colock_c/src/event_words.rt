@@ -10,7 +10,7 @@ use object_trait::{Event, EventKind};
 /// the transaction that a busy call waits for, or the number of operations that were rolled back. What
 /// its kind doesn't have is 0, and isn't read.
 #[repr(C)]
-#[derive(Clone, Copy, Debug, PartialEq, Eq)]
+#[derive(Clone, Copy)]
 pub struct ColockEvent {
     pub transaction: u64,
     pub other: u64,

@@ -1,6 +1,7 @@
-//! Type files of families, at parameters as they cross.
+//! What families declare, at parameters as they cross.
 
 ghost use Rattle.std.specs.Prelude.{◌≡◌, ◌⊎◌, IfErr, IfOk};
+ghost use Rattle.table_families.specs.Number.{AreNumberAmounts, NumberFits};
 ghost use Rattle.table_maker.specs.Account.{account, AccountFits};
 ghost use Rattle.table_maker.specs.Amounts.{AreAmounts};
 ghost use Rattle.table_maker.specs.Counter.{counter, CounterFits};
@@ -11,12 +12,14 @@ ghost use Rattle.table_families.specs.Seats.{seats, AreSeats, SeatsFit};
 ghost use Rattle.table_families.specs.Stock.{stock, StockFits};
 ghost use Rattle.line_text.specs.Text.{words_of};
 ghost use Rattle.colock_c.specs.Codes.{number};
-ghost use Rattle.colock_c.specs.Families.{AreSemiqueueWords, AreSetWords, HasNone, IsOfFamily};
+ghost use Rattle.colock_c.specs.Families.{AreSemiqueueWords, AreSetWords, HasNone, IsOfAmounts, IsOfFamily};
 
 use crate::code::{Code, made_code};
 use crate::parameters::{capacity_of, names_of, narrowed};
+use number_text::numbers_are_listed;
 use std::alloc::Global;
-use table_families::{make_queue, make_seats, make_stock};
+use table_checker::DeclaredType;
+use table_families::{make_number, make_queue, make_seats, make_stock};
 use table_maker::{make_account, make_counter, make_semiqueue, make_set};
 use type_text::TypeFile;
 
@@ -158,6 +161,26 @@ pub(crate) fn seats_file(alloc: Global, count: u64) -> Result<TypeFile, Code>
     };
     match make_seats(alloc, count) {
         Ok(file) => Ok(file),
+        Err(error) => Err(made_code(error)),
+    }
+}
+
+/// The number of 0 to a greatest value, of which these amounts are taken and given.
+///
+/// # Errors
+///
+/// As `account_file`.
+pub(crate) fn number_of(alloc: Global, max: u32, amounts: &[u32]) -> Result<DeclaredType, Code>
+    ensures made { IfOk result (IsOfAmounts max amounts.now) }
+    ensures refused { IfErr result (λ code. (code ≡ Code.NoMemory) ⊎ HasNone (AreNumberAmounts max amounts.now) (NumberFits amounts.now) (number code)) }
+{
+    numbers_are_listed();
+    match make_number(alloc, max, amounts) {
+        Ok(made) => {
+            // (read for its clause on what is known of a number)
+            let _calls = made.calls();
+            Ok(DeclaredType::number(made))
+        }
         Err(error) => Err(made_code(error)),
     }
 }

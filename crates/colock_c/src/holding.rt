@@ -1,17 +1,21 @@
 //! What is put behind a handle that holds nothing.
 
-ghost use Rattle.std.specs.Prelude.{◌≡◌, ◌⊎◌, Some, None, IfErr, IfOk};
+ghost use Rattle.std.specs.Prelude.{◌≡◌, ◌⊎◌, true, Some, None, IfErr, IfOk};
+ghost use Rattle.number_text.specs.Operations.{is_listed};
+ghost use Rattle.table_checker.specs.Declarations.{number_file};
 ghost use Rattle.colock_c.specs.Codes.{number};
 ghost use Rattle.colock_c.specs.Types.{IsMade, IsRefused, IsTypeOf};
 ghost use Rattle.colock_c.specs.Words.{refusal_words};
+ghost use Rattle.colock_c.specs.declared.words.ColockFault.{ColockFault as FaultWords};
 
 use crate::code::Code;
 use crate::held::Held;
 use crate::slot::Slot;
 use crate::words::{ColockFault, refusal_words};
+use number_text::NumberFile;
 use std::alloc::Global;
 use std::sync::Arc;
-use table_checker::{CheckedType, Kind, check};
+use table_checker::{CheckedType, Kind, check, check_number};
 use type_text::TypeFile;
 
 /// Puts something behind a handle that holds nothing.
@@ -42,6 +46,21 @@ pub(crate) fn hold_type(
     match checked_type(alloc, kind, file, fault) {
         Ok(checked) => hold(alloc, slot, Held::OfType(checked)),
         Err(code) => code,
+    }
+}
+
+/// Puts a number, each of whose calls lists its amount, behind a handle that holds nothing.
+pub(crate) fn hold_number(alloc: Global, slot: &mut Slot, file: NumberFile) -> Code
+    requires empty { slot.old.handle.held ≡ None }
+    requires listed { is_listed file ≡ true }
+    ensures { (was : FaultWords) → IsMade (λ f. f ≡ number_file file) (λ n words. ⊥) Kind.Escrow was (number result) was slot.new.handle.held }
+{
+    let checked = check_number(file);
+    // (read for its clause on what was checked)
+    let _ops = checked.ops();
+    match Arc::new(alloc, checked) {
+        Ok(checked) => hold(alloc, slot, Held::OfType(checked)),
+        Err(_) => Code::NoMemory,
     }
 }
 

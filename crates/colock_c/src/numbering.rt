@@ -1,9 +1,8 @@
 //! The number of a call, and what a call would be answered.
 
-ghost use Rattle.std.specs.Prelude.{◌≡◌, ◌≢◌};
+ghost use Rattle.std.specs.Prelude.{◌≡◌, ◌≢◌, ◌≤◌, length};
 ghost use Rattle.std.specs.List.{position};
 ghost use Rattle.std.specs.Str.{bytes_eq};
-ghost use Rattle.type_table.specs.Table.{first_op};
 ghost use Rattle.type_table.specs.declared.op.Op.{Op as OpValue};
 ghost use Rattle.colock_c.specs.Calls.{IsNumberOf};
 ghost use Rattle.colock_c.specs.Codes.{number};
@@ -14,7 +13,7 @@ use crate::on_store::begun_at;
 use crate::words::{ColockAnswer, answer_words};
 use objects::Object;
 use store::Store;
-use type_table::{Op, TypeTable};
+use type_table::Op;
 
 /// Gives the number of the call with this name at an object.
 pub(crate) fn call_number(store: &Store<Object>, x: u32, name: &[u8], call: &mut u8) -> Code
@@ -24,7 +23,7 @@ pub(crate) fn call_number(store: &Store<Object>, x: u32, name: &[u8], call: &mut
     let Some(checked) = store.checked(x) else {
         return Code::NoObject;
     };
-    match first_op(checked.table(), name) {
+    match first_op(checked.ops(), name) {
         Some(c) => {
             *call = c;
             Code::Done
@@ -33,13 +32,12 @@ pub(crate) fn call_number(store: &Store<Object>, x: u32, name: &[u8], call: &mut
     }
 }
 
-/// The least operation whose call has the name of these bytes.
-fn first_op(table: &TypeTable, name: &[u8]) -> Option<u8>
-    ensures { result ≡ first_op table.now name.now }
+/// The least operation whose call has the name of these bytes, among at most 64.
+fn first_op(ops: &[Op], name: &[u8]) -> Option<u8>
+    requires { length ops.now ≤ 64 }
+    ensures { result ≡ position (λ (o : OpValue). bytes_eq o.call name.now) ops.now }
 {
-    // for its clause that the operations are few
-    table.op_count();
-    let place = place_of_call(table.ops(), name)?;
+    let place = place_of_call(ops, name)?;
     Some(place as u8)
 }
 

@@ -4,12 +4,13 @@ ghost use Rattle.std.specs.Prelude.{◌≡◌, ◌≢◌, ◌<◌, length, optio
 ghost use Rattle.type_table.specs.ConflictTable.{conflicts};
 ghost use Rattle.type_table.specs.declared.op.Op.{Op as OpValue};
 ghost use Rattle.object_trait.specs.Object.{conflicts_by};
+ghost use Rattle.table_checker.specs.Declarations.{table_of};
 ghost use Rattle.colock_c.specs.Codes.{number};
 ghost use Rattle.colock_c.specs.Named.{call_of, IsConflict, IsFoundPut, IsPut, IsStep, reply_of};
 
 use crate::code::Code;
-use table_checker::CheckedType;
-use type_table::{Name, Op, TypeTable};
+use table_checker::{CheckedType, DeclaredType};
+use type_table::{Name, Op};
 
 /// Puts a name at the front of a room, and says how many bytes it has.
 pub(crate) fn put_name(name: Name, room: &mut [u8], count: &mut u64) -> Code
@@ -51,7 +52,7 @@ fn op_at(ops: &[Op], k: u64) -> Option<Op>
 fn call_of(checked: &CheckedType, k: u64) -> Option<Name>
     ensures { result ≡ call_of checked.now k }
 {
-    let op = op_at(checked.table().ops(), k)?;
+    let op = op_at(checked.ops(), k)?;
     Some(op.call)
 }
 
@@ -59,7 +60,7 @@ fn call_of(checked: &CheckedType, k: u64) -> Option<Name>
 fn reply_of(checked: &CheckedType, k: u64) -> Option<Name>
     ensures { result ≡ reply_of checked.now k }
 {
-    let op = op_at(checked.table().ops(), k)?;
+    let op = op_at(checked.ops(), k)?;
     Some(op.reply)
 }
 
@@ -80,17 +81,17 @@ pub(crate) fn put_reply(checked: &CheckedType, k: u64, room: &mut [u8], count: &
 }
 
 /// Gives the state to which an operation leads from a state.
-pub(crate) fn step(table: &TypeTable, s: u64, k: u64, to: &mut u64) -> Code
-    ensures step { IsStep table.now s k (number result) to.new }
+pub(crate) fn step(declared: &DeclaredType, s: u64, k: u64, to: &mut u64) -> Code
+    ensures step { IsStep (table_of declared.now) s k (number result) to.new }
     ensures rest { number result ≢ 0 → to.new ≡ to.old }
 {
-    if s >= u64::from(table.states()) {
+    if s > u64::from(declared.greatest()) {
         return Code::NoState;
     }
-    if k >= u64::from(table.op_count()) {
+    if k >= u64::from(declared.op_count()) {
         return Code::NoOperation;
     }
-    match table.next(s as u16, k as u8) {
+    match declared.next(s as u32, k as u8) {
         Some(next) => {
             *to = u64::from(next);
             Code::Done
@@ -104,7 +105,7 @@ pub(crate) fn conflict(checked: &CheckedType, requested: u64, other: u64, told: 
     ensures conflict { IsConflict checked.now requested other (number result) told.new }
     ensures rest { number result ≢ 0 → told.new ≡ told.old }
 {
-    let ops = u64::from(checked.table().op_count());
+    let ops = checked.ops().len() as u64;
     if requested >= ops {
         return Code::NoOperation;
     }

@@ -1,25 +1,48 @@
-//! Type files: of texts, and with made tables.
+//! What texts declare, and type files with made tables.
 
-ghost use Rattle.std.specs.Prelude.{◌≡◌, ◌⊎◌, IfErr, IfOk, MatchResult};
+ghost use Rattle.std.specs.Prelude.{◌≡◌, ◌⊎◌, IfErr, IfOk, MatchResult, Ok};
+ghost use Rattle.type_text.specs.TypeFile.{Reads as ReadsTable};
+ghost use Rattle.declared_text.specs.Declared.{Declares};
 ghost use Rattle.colock_c.specs.Codes.{number};
-ghost use Rattle.colock_c.specs.Types.{HasMadeTables, IsFaulty, IsFileOf, IsTabledOf};
+ghost use Rattle.colock_c.specs.Types.{HasMadeTables, IsFaulty, IsNoTypeFile, IsTabledOf};
 ghost use Rattle.colock_c.specs.Words.{fault_words};
 
 use crate::code::Code;
 use crate::words::{ColockFault, fault_words};
+use declared_text::read_declared;
 use line_text::{FaultKind, TextFault};
 use std::alloc::Global;
+use table_checker::DeclaredType;
 use table_maker::make_tables;
 use type_text::{TypeFile, read_type};
 
-/// The file of a text.
+/// What a text declares.
 ///
 /// # Errors
 ///
 /// `BadText` and the fault, or `NoMemory`.
-pub(crate) fn file_of(alloc: Global, text: &[u8], fault: &mut ColockFault) -> Result<TypeFile, Code>
-    ensures read { IfOk result (λ file. IsFileOf text.now file × (fault.new ≡ fault.old)) }
+pub(crate) fn declared_of(
+    alloc: Global,
+    text: &[u8],
+    fault: &mut ColockFault,
+) -> Result<DeclaredType, Code>
+    ensures read { IfOk result (λ declared. Declares text.now declared × (fault.new ≡ fault.old)) }
     ensures refused { IfErr result (λ code. ((code ≡ Code.NoMemory) × (fault.new ≡ fault.old)) ⊎ IsFaulty text.now (number code) fault.new) }
+{
+    match read_declared(alloc, text) {
+        Ok(declared) => Ok(declared),
+        Err(why) => Err(fault_code(why, fault)),
+    }
+}
+
+/// The type file that a text is.
+///
+/// # Errors
+///
+/// As `declared_of`.
+fn file_of(alloc: Global, text: &[u8], fault: &mut ColockFault) -> Result<TypeFile, Code>
+    ensures read { IfOk result (λ file. ReadsTable (Ok file) text.now × (fault.new ≡ fault.old)) }
+    ensures refused { IfErr result (λ code. ((code ≡ Code.NoMemory) × (fault.new ≡ fault.old)) ⊎ IsNoTypeFile text.now (number code) fault.new) }
 {
     match read_type(alloc, text) {
         Ok(file) => Ok(file),
@@ -40,14 +63,14 @@ fn fault_code(why: TextFault, fault: &mut ColockFault) -> Code
     }
 }
 
-/// The file of a text, with made tables in place of its own.
+/// The type file that a text is, with made tables in place of its own.
 ///
 /// # Errors
 ///
-/// As `file_of`.
+/// As `declared_of`.
 pub(crate) fn tabled(alloc: Global, text: &[u8], fault: &mut ColockFault) -> Result<TypeFile, Code>
     ensures made { IfOk result (λ file. IsTabledOf text.now file × (fault.new ≡ fault.old)) }
-    ensures refused { IfErr result (λ code. ((code ≡ Code.NoMemory) × (fault.new ≡ fault.old)) ⊎ IsFaulty text.now (number code) fault.new) }
+    ensures refused { IfErr result (λ code. ((code ≡ Code.NoMemory) × (fault.new ≡ fault.old)) ⊎ IsNoTypeFile text.now (number code) fault.new) }
 {
     let given = match file_of(alloc, text, fault) {
         Ok(given) => given,

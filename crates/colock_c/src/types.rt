@@ -1,9 +1,9 @@
 //! Exports: types that are made.
 //!
 //! Each puts a type behind a handle that holds nothing, made for a kind of recovery: 0 is update in place,
-//! 1 deferred update. Each may answer `InUse`, `BadKind`, `Refused` or `NoMemory`, and the handle holds what
-//! it held. `fault` is written where the text has a fault (`BadText`) or the checker refuses the type
-//! (`Refused`).
+//! 1 deferred update, 2 escrow. Each may answer `InUse`, `BadKind`, `Refused` or `NoMemory`, and the handle
+//! holds what it held. `fault` is written where the text has a fault (`BadText`) or the checker refuses the
+//! type (`Refused`).
 
 ghost use Rattle.std.specs.Prelude.{◌≡◌, IsSome, None, Some};
 ghost use Rattle.line_text.specs.Text.{words_of};
@@ -17,20 +17,21 @@ ghost use Rattle.table_families.specs.Seats.{seats, AreSeats, SeatsFit};
 ghost use Rattle.table_families.specs.Stock.{stock, StockFits};
 ghost use Rattle.type_table.specs.declared.kind.Kind.{Kind};
 ghost use Rattle.colock_c.specs.Codes.{number};
-ghost use Rattle.colock_c.specs.Families.{AreSemiqueueWords, AreSetWords, HasNone, IsOfFamily};
-ghost use Rattle.colock_c.specs.Types.{IsFaulty, IsFileOf, IsMade, IsTabledOf};
+ghost use Rattle.colock_c.specs.Families.{AreSemiqueueWords, AreSetWords, HasNoNumber, HasNone, IsOfFamily, IsOfNumber};
+ghost use Rattle.colock_c.specs.Types.{HasNoFile, IsFileOf, IsMade, IsNoTypeFile, IsTabledOf};
 ghost use Rattle.colock_c.specs.Words.{kind_at};
 
 use crate::code::Code;
 use crate::slot::Slot;
 use crate::typing::{
-    hold_account, hold_counter, hold_queue, hold_seats, hold_semiqueue, hold_set, hold_stock,
-    hold_tabled, hold_text,
+    hold_account, hold_amounts, hold_counter, hold_queue, hold_seats, hold_semiqueue, hold_set,
+    hold_stock, hold_tabled, hold_text,
 };
 use crate::words::{ColockFault, kind_at};
 use std::alloc::Global;
 
-/// The type of a text (docs/formats.md): `BadText`.
+/// The type that a text declares (docs/formats.md), of which a number is for escrow alone: `BadText` or
+/// `NeedsEscrow`.
 #[unsafe(no_mangle)]
 pub extern "C" fn colock_type_read(
     alloc: Global,
@@ -42,7 +43,7 @@ pub extern "C" fn colock_type_read(
     ensures in_use { IsSome slot.old.handle.held → (result ≡ number Code.InUse) × (slot.new.handle.held ≡ slot.old.handle.held) × (fault.new ≡ fault.old) }
     ensures no_kind { slot.old.handle.held ≡ None → kind_at kind ≡ None → (result ≡ number Code.BadKind) × (slot.new.handle.held ≡ None) × (fault.new ≡ fault.old) }
     ensures made { (k : Kind) → slot.old.handle.held ≡ None → kind_at kind ≡ Some k
-        → IsMade (IsFileOf text.now) (IsFaulty text.now) k fault.old result fault.new slot.new.handle.held }
+        → IsMade (IsFileOf text.now k) (HasNoFile text.now k fault.old) k fault.old result fault.new slot.new.handle.held }
 {
     if slot.is_open() {
         return Code::InUse.number();
@@ -53,7 +54,7 @@ pub extern "C" fn colock_type_read(
     hold_text(alloc, slot, kind, text, fault).number()
 }
 
-/// The type of a text with made tables in place of its own, which states look like which and which pairs of
+/// The type of a type file with made tables in place of its own, which states look like which and which pairs of
 /// operations have to conflict: `BadText`.
 #[unsafe(no_mangle)]
 pub extern "C" fn colock_type_tables(
@@ -66,7 +67,7 @@ pub extern "C" fn colock_type_tables(
     ensures in_use { IsSome slot.old.handle.held → (result ≡ number Code.InUse) × (slot.new.handle.held ≡ slot.old.handle.held) × (fault.new ≡ fault.old) }
     ensures no_kind { slot.old.handle.held ≡ None → kind_at kind ≡ None → (result ≡ number Code.BadKind) × (slot.new.handle.held ≡ None) × (fault.new ≡ fault.old) }
     ensures made { (k : Kind) → slot.old.handle.held ≡ None → kind_at kind ≡ Some k
-        → IsMade (IsTabledOf text.now) (IsFaulty text.now) k fault.old result fault.new slot.new.handle.held }
+        → IsMade (IsTabledOf text.now) (IsNoTypeFile text.now) k fault.old result fault.new slot.new.handle.held }
 {
     if slot.is_open() {
         return Code::InUse.number();
@@ -246,4 +247,29 @@ pub extern "C" fn colock_type_seats(
         return Code::BadKind.number();
     };
     hold_seats(alloc, slot, kind, count, fault).number()
+}
+
+/// A number from 0 to `max`, which has no table and is for escrow alone: these amounts are taken and given.
+/// `BadParameter`, `TooLarge` or `NeedsEscrow`.
+#[unsafe(no_mangle)]
+pub extern "C" fn colock_type_number(
+    alloc: Global,
+    slot: &mut Slot,
+    kind: u32,
+    max: u32,
+    amounts: &[u32],
+    fault: &mut ColockFault,
+) -> u32
+    ensures in_use { IsSome slot.old.handle.held → (result ≡ number Code.InUse) × (slot.new.handle.held ≡ slot.old.handle.held) × (fault.new ≡ fault.old) }
+    ensures no_kind { slot.old.handle.held ≡ None → kind_at kind ≡ None → (result ≡ number Code.BadKind) × (slot.new.handle.held ≡ None) × (fault.new ≡ fault.old) }
+    ensures made { (k : Kind) → slot.old.handle.held ≡ None → kind_at kind ≡ Some k
+        → IsMade (IsOfNumber max amounts.now k) (HasNoNumber max amounts.now k fault.old) k fault.old result fault.new slot.new.handle.held }
+{
+    if slot.is_open() {
+        return Code::InUse.number();
+    }
+    let Some(kind) = kind_at(kind) else {
+        return Code::BadKind.number();
+    };
+    hold_amounts(alloc, slot, kind, max, amounts, fault).number()
 }

@@ -11,21 +11,23 @@ ghost use Rattle.table_families.specs.Queue.{queue, QueueFits};
 ghost use Rattle.table_families.specs.Seats.{seats, AreSeats, SeatsFit};
 ghost use Rattle.table_families.specs.Stock.{stock, StockFits};
 ghost use Rattle.colock_c.specs.Codes.{number};
-ghost use Rattle.colock_c.specs.Families.{AreSemiqueueWords, AreSetWords, HasNone, IsOfFamily};
-ghost use Rattle.colock_c.specs.Types.{IsFaulty, IsFileOf, IsMade, IsTabledOf};
+ghost use Rattle.colock_c.specs.Families.{AreSemiqueueWords, AreSetWords, HasNoNumber, HasNone, IsOfFamily, IsOfNumber};
+ghost use Rattle.colock_c.specs.Types.{HasNoFile, IsFileOf, IsMade, IsNoTypeFile, IsTabledOf};
 
 use crate::code::Code;
+use crate::declared::hold_declared;
 use crate::families::{
-    account_file, counter_file, queue_file, seats_file, semiqueue_file, set_file, stock_file,
+    account_file, counter_file, number_of, queue_file, seats_file, semiqueue_file, set_file,
+    stock_file,
 };
 use crate::holding::hold_type;
-use crate::reading::{file_of, tabled};
+use crate::reading::{declared_of, tabled};
 use crate::slot::Slot;
 use crate::words::ColockFault;
 use std::alloc::Global;
 use table_checker::Kind;
 
-/// The type of a text.
+/// The type that a text declares.
 pub(crate) fn hold_text(
     alloc: Global,
     slot: &mut Slot,
@@ -34,15 +36,15 @@ pub(crate) fn hold_text(
     fault: &mut ColockFault,
 ) -> Code
     requires { slot.old.handle.held ≡ None }
-    ensures { IsMade (IsFileOf text.now) (IsFaulty text.now) kind fault.old (number result) fault.new slot.new.handle.held }
+    ensures { IsMade (IsFileOf text.now kind) (HasNoFile text.now kind fault.old) kind fault.old (number result) fault.new slot.new.handle.held }
 {
-    match file_of(alloc, text, fault) {
-        Ok(file) => hold_type(alloc, slot, kind, file, fault),
+    match declared_of(alloc, text, fault) {
+        Ok(declared) => hold_declared(alloc, slot, kind, &declared, fault),
         Err(code) => code,
     }
 }
 
-/// The type of a text, with made tables in place of its own.
+/// The type of a type file, with made tables in place of its own.
 pub(crate) fn hold_tabled(
     alloc: Global,
     slot: &mut Slot,
@@ -51,7 +53,7 @@ pub(crate) fn hold_tabled(
     fault: &mut ColockFault,
 ) -> Code
     requires { slot.old.handle.held ≡ None }
-    ensures { IsMade (IsTabledOf text.now) (IsFaulty text.now) kind fault.old (number result) fault.new slot.new.handle.held }
+    ensures { IsMade (IsTabledOf text.now) (IsNoTypeFile text.now) kind fault.old (number result) fault.new slot.new.handle.held }
 {
     match tabled(alloc, text, fault) {
         Ok(file) => hold_type(alloc, slot, kind, file, fault),
@@ -186,6 +188,24 @@ pub(crate) fn hold_seats(
 {
     match seats_file(alloc, count) {
         Ok(file) => hold_type(alloc, slot, kind, file, fault),
+        Err(code) => code,
+    }
+}
+
+/// The type of a number with these amounts.
+pub(crate) fn hold_amounts(
+    alloc: Global,
+    slot: &mut Slot,
+    kind: Kind,
+    max: u32,
+    amounts: &[u32],
+    fault: &mut ColockFault,
+) -> Code
+    requires { slot.old.handle.held ≡ None }
+    ensures { IsMade (IsOfNumber max amounts.now kind) (HasNoNumber max amounts.now kind fault.old) kind fault.old (number result) fault.new slot.new.handle.held }
+{
+    match number_of(alloc, max, amounts) {
+        Ok(declared) => hold_declared(alloc, slot, kind, &declared, fault),
         Err(code) => code,
     }
 }

@@ -10,7 +10,7 @@ use table_checker::{CheckRefusal, CheckedType, Kind};
 /// What a call is answered: `kind` is 0, and `number` the operation that was executed; or 1, and the
 /// transaction that holds what it conflicts with; or 2, and 0, where no operation is legal.
 #[repr(C)]
-#[derive(Clone, Copy, Debug, PartialEq, Eq)]
+#[derive(Clone, Copy)]
 pub struct ColockAnswer {
     pub kind: u64,
     pub number: u64,
@@ -19,7 +19,7 @@ pub struct ColockAnswer {
 /// The first refused line of a text and the number of its kind of fault; or 0 and the number of the
 /// checker's refusal, with what that names.
 #[repr(C)]
-#[derive(Clone, Copy, Debug, PartialEq, Eq)]
+#[derive(Clone, Copy)]
 pub struct ColockFault {
     pub line: u64,
     pub kind: u64,
@@ -31,7 +31,7 @@ pub struct ColockFault {
 /// A type: its number of states, the initial one, its number of operations, and the kind of recovery for
 /// which it was checked.
 #[repr(C)]
-#[derive(Clone, Copy, Debug, PartialEq, Eq)]
+#[derive(Clone, Copy)]
 pub struct ColockShape {
     pub states: u64,
     pub initial: u64,
@@ -118,11 +118,10 @@ fn kind_number(kind: Kind) -> u64
 pub(crate) fn shape_of(checked: &CheckedType) -> ColockShape
     ensures { result ≡ shape_of checked.now }
 {
-    let table = checked.table();
     ColockShape {
-        states: u64::from(table.states()),
-        initial: u64::from(table.initial()),
-        ops: u64::from(table.op_count()),
+        states: u64::from(checked.greatest()) + 1,
+        initial: u64::from(checked.initial()),
+        ops: checked.ops().len() as u64,
         kind: kind_number(checked.kind()),
     }
 }

@@ -1,8 +1,8 @@
 -- What comes of a part of a command comes of the whole.
-use Rattle.std.proofs.Common.{◌≡◌, ℕ, List, Option, Result, Ok, Err, refl, inl, inr, ⊎_elim}
+use Rattle.std.proofs.Common.{ℕ, List, Option, Result, Ok, Err, refl, inl, inr, ⊎_elim}
 use Rattle.command_files.specs.Answers.{Answers, Comes, ComesOr, Faults, Refuses}
 use Rattle.command_files.specs.declared.fault.Fault.{Fault}
-use Rattle.command_files.specs.declared.fault.Fault.TheVariants.{Usage, Text, NoType, OtherObjects, Order, HasEvents, BadParameter, TooLarge, CannotRead, Database, NoStore, NoMemory, Output}
+use Rattle.command_files.specs.declared.fault.Fault.TheVariants.{Usage, Text, NoType, NeedsEscrow, ObjectNeedsEscrow, OtherObjects, Order, HasEvents, BadParameter, TooLarge, CannotRead, Database, NoStore, NoMemory, Output}
 use Rattle.command_files.specs.declared.status.Verdict.{Verdict}
 
 -- of texts that are written as a whole and that may be begun, and of what is amiss
@@ -11,6 +11,8 @@ pub faults : (whole whole' begun begun' : List ℕ → Type 0) (bad bad' : Type 
 faults whole whole' begun begun' bad bad' (Usage text) old new all more worse f = (worse f.0, f.1)
 faults whole whole' begun begun' bad bad' (Text path fault) old new all more worse f = (worse f.0, f.1)
 faults whole whole' begun begun' bad bad' (NoType path x place) old new all more worse f = (worse f.0, f.1)
+faults whole whole' begun begun' bad bad' (NeedsEscrow path) old new all more worse f = (worse f.0, f.1)
+faults whole whole' begun begun' bad bad' (ObjectNeedsEscrow path x) old new all more worse f = (worse f.0, f.1)
 faults whole whole' begun begun' bad bad' (OtherObjects path first) old new all more worse f = (worse f.0, f.1)
 faults whole whole' begun begun' bad bad' (Order path fault) old new all more worse f = (worse f.0, f.1)
 faults whole whole' begun begun' bad bad' (HasEvents path) old new all more worse f = (worse f.0, f.1)
@@ -47,6 +49,8 @@ pub refuses : (whole begun : List ℕ → Type 0) (bad bad' : Type 0) (old : Opt
 refuses whole begun bad bad' old (Usage text) worse refused = (worse refused, refl)
 refuses whole begun bad bad' old (Text path fault) worse refused = (worse refused, refl)
 refuses whole begun bad bad' old (NoType path x place) worse refused = (worse refused, refl)
+refuses whole begun bad bad' old (NeedsEscrow path) worse refused = (worse refused, refl)
+refuses whole begun bad bad' old (ObjectNeedsEscrow path x) worse refused = (worse refused, refl)
 refuses whole begun bad bad' old (OtherObjects path first) worse refused = (worse refused, refl)
 refuses whole begun bad bad' old (Order path fault) worse refused = (worse refused, refl)
 refuses whole begun bad bad' old (HasEvents path) worse refused = (worse refused, refl)
@@ -63,6 +67,8 @@ pub refused_more : (bad bad' : Type 0) (fault : Fault) → (bad → bad') → Re
 refused_more bad bad' (Usage text) worse refused = worse refused
 refused_more bad bad' (Text path fault) worse refused = worse refused
 refused_more bad bad' (NoType path x place) worse refused = worse refused
+refused_more bad bad' (NeedsEscrow path) worse refused = worse refused
+refused_more bad bad' (ObjectNeedsEscrow path x) worse refused = worse refused
 refused_more bad bad' (OtherObjects path first) worse refused = worse refused
 refused_more bad bad' (Order path fault) worse refused = worse refused
 refused_more bad bad' (HasEvents path) worse refused = worse refused

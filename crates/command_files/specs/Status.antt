@@ -1,7 +1,7 @@
 -- How the program ends.
 use Rattle.std.specs.Prelude.{ℕ, Bool, true, false}
 use Rattle.command_files.specs.declared.fault.Fault.{Fault}
-use Rattle.command_files.specs.declared.fault.Fault.TheVariants.{Usage, Text, NoType, OtherObjects, Order, HasEvents, BadParameter, TooLarge, CannotRead, Database, NoStore, NoMemory, Output}
+use Rattle.command_files.specs.declared.fault.Fault.TheVariants.{Usage, Text, NoType, NeedsEscrow, ObjectNeedsEscrow, OtherObjects, Order, HasEvents, BadParameter, TooLarge, CannotRead, Database, NoStore, NoMemory, Output}
 use Rattle.command_files.specs.declared.status.Status.{Status}
 use Rattle.command_files.specs.declared.status.Status.TheVariants.{Yes, No, BadInput, Failed}
 use Rattle.command_files.specs.declared.status.Verdict.{Verdict}
@@ -19,11 +19,13 @@ abbrev pub status_of_verdict : Verdict → Status
 status_of_verdict verdict.Yes = Yes
 status_of_verdict verdict.No = No
 
--- what the user gave has a fault: the words, a text, the objects of a history, an order of its transactions, events where there may be none, the parameters of a family, or a file that is no store's
+-- what the user gave has a fault: the words, a text, a number that is named without escrow, the objects of a history, an order of its transactions, events where there may be none, the parameters of a family, or a file that is no store's
 abbrev pub is_input : Fault → Bool
 is_input (Usage text) = true
 is_input (Text path fault) = true
 is_input (NoType path x place) = true
+is_input (NeedsEscrow path) = true
+is_input (ObjectNeedsEscrow path x) = true
 is_input (OtherObjects path first) = true
 is_input (Order path fault) = true
 is_input (HasEvents path) = true

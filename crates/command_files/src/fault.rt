@@ -31,6 +31,15 @@ pub enum Fault<'a> {
         x: usize,
         place: u8,
     },
+    /// The text at a path declares a number, where a table was asked for.
+    NeedsEscrow {
+        path: &'a str,
+    },
+    /// Object x of the text at a path names a number, and is of another kind than escrow.
+    ObjectNeedsEscrow {
+        path: &'a str,
+        x: usize,
+    },
     /// The history at a path isn't one of the objects of the first one.
     OtherObjects {
         path: &'a str,
@@ -87,6 +96,8 @@ impl<'a> Fault<'a> {
             Fault::Usage { .. }
             | Fault::Text { .. }
             | Fault::NoType { .. }
+            | Fault::NeedsEscrow { .. }
+            | Fault::ObjectNeedsEscrow { .. }
             | Fault::OtherObjects { .. }
             | Fault::Order { .. }
             | Fault::HasEvents { .. }
@@ -105,6 +116,12 @@ impl<'a> Fault<'a> {
             Fault::Text { path, fault } => format!(in alloc; "colock: {path}: {fault}\n"),
             Fault::NoType { path, x, place } => {
                 format!(in alloc; "colock: {path}: object {x}: no type {place}\n")
+            }
+            Fault::NeedsEscrow { path } => {
+                format!(in alloc; "colock: {path}: number needs escrow\n")
+            }
+            Fault::ObjectNeedsEscrow { path, x } => {
+                format!(in alloc; "colock: {path}: object {x}: number needs escrow\n")
             }
             Fault::OtherObjects { path, first } => {
                 format!(in alloc; "colock: {path}: not the objects of {first}\n")

@@ -20,6 +20,6 @@ pub use order_fault::OrderFault;
 pub use refusal_line::no_line;
 pub use source::{FileSource, Source, SourceFault};
 pub use status::{Status, Verdict};
-pub use type_format::TypeFormat;
+pub use type_format::{DeclaredFormat, TypeFormat};
 
 pub mod worked;

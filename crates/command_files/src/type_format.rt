@@ -1,11 +1,14 @@
-//! Type files.
+//! Type files, and texts that declare a type.
 
 ghost use Rattle.std.specs.Prelude.{⊤};
-ghost use Rattle.command_files.specs.Files.{Describes, IsFaulty};
+ghost use Rattle.declared_text.specs.Declared.{Declares};
+ghost use Rattle.command_files.specs.Files.{Describes, IsFaulty, IsFaultyDeclaration};
 
 use crate::format::Format;
+use declared_text::read_declared;
 use line_text::TextFault;
 use std::alloc::Global;
+use table_checker::DeclaredType;
 use type_text::{TypeFile, read_type};
 
 /// The format of type files.
@@ -23,5 +26,23 @@ impl Format for TypeFormat {
 
     fn read(&self, alloc: Global, text: &[u8]) -> Result<TypeFile, TextFault> {
         read_type(alloc, text)
+    }
+}
+
+/// The format of texts that declare a type, by a table or as a number.
+#[derive(Clone, Copy)]
+pub struct DeclaredFormat;
+
+impl Format for DeclaredFormat {
+    type Value = DeclaredType;
+
+    ghost describes = { λ _ text declared. Declares text declared };
+
+    ghost is_fit = { λ _ _. ⊤ };
+
+    ghost is_faulty = { λ _ text. IsFaultyDeclaration text };
+
+    fn read(&self, alloc: Global, text: &[u8]) -> Result<DeclaredType, TextFault> {
+        read_declared(alloc, text)
     }
 }

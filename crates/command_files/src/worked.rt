@@ -3,8 +3,9 @@
 
 ghost use Rattle.std.specs.Prelude.{◌≡◌, [], None, Some, Ok, Err, codes};
 ghost use Rattle.table_checker.specs.Examples.{counter_file};
+ghost use Rattle.table_checker.specs.declared.declared_type.Declaration.TheVariants.{Table};
 ghost use Rattle.command_files.specs.Answers.{Comes, IsThis};
-ghost use Rattle.command_files.specs.Files.{Describes, IsFaulty, IsFileAt};
+ghost use Rattle.command_files.specs.Files.{Describes, IsDeclaredAt, IsFaulty, IsFaultyDeclaration, IsFileAt};
 ghost use Rattle.command_files.specs.Refusals.{no_line};
 ghost use Rattle.command_files.specs.Source.{fault_of};
 ghost use Rattle.command_files.specs.Status.{code_of, status_of};
@@ -52,17 +53,19 @@ pub fn lines_of_a_no()
     ensures numeric { no_line (CheckRefusal.NotNumeric 63 1023) ≡ codes "no NotNumeric 63 1023\n" }
 {}
 
-/// The text of the counter describes its file, and has no fault.
+/// The text of the counter describes its file and declares it, and has no fault.
 pub fn a_text_describes_its_file()
     ensures described { Describes counter_bytes counter_file }
+    ensures declared { IsDeclaredAt (Some counter_bytes) (Table counter_file) }
     ensures faultless { IsFaulty counter_bytes → ⊥ }
 {
     canonical_is_read();
 }
 
-/// Without its `end` it describes no file.
+/// Without its `end` it describes no file, and declares no type.
 pub fn a_text_with_a_fault()
     ensures faulty { IsFaulty endless_bytes }
+    ensures undeclared { IsFaultyDeclaration endless_bytes }
     ensures told { IsFileAt (Some endless_bytes) counter_file → ⊥ }
     ensures untold { IsFileAt None counter_file }
 {

@@ -67,7 +67,8 @@ KIND is how objects of the type recover from aborts:
   escrow       Deferred update of a number. Conflicts look at how far it is
                from its bounds; the conflict tables aren't looked at.
 
-FILE is the path of a type file.
+FILE is the path of a type file, or of a number file. That has no table: it is
+for escrow alone, and the answer is yes strong.
 
 One line is written. States and operations have the numbers of the file, from 0
 in the order of its lines.
@@ -95,10 +96,12 @@ in the order of its lines.
       in a higher state; or it is legal in S, and moves it otherwise than the
       least state in which it is legal.
 
-Example: colock check undo examples/ctr2.type
+Examples: colock check undo examples/ctr2.type
+          colock check escrow examples/cents.type
 
-Status: 0 yes, 1 no, 2 a fault of the command line or of the file's text, 3 a
-file that can't be read, refused memory, or an output that failed.
+Status: 0 yes, 1 no, 2 a fault of the command line or of the file's text, or a
+number for another kind, 3 a file that can't be read, refused memory, or an
+output that failed.
 ";
 
 pub(crate) const EXPLAIN: &str = "\
@@ -173,6 +176,9 @@ Usage: colock make FAMILY SIZE ITEM...
       A number from 0 to CAP. Each AMOUNT can be given (ok, or full) and taken
       (ok, or short). It can't be asked. With more than 16 AMOUNTs it is too
       large.
+  number MAX AMOUNT...
+      The same from 0 to MAX, which is at most 4294967295, without a table and
+      for escrow alone. What is written is a number file, which begins at 0.
   set 0 ELEMENT...
       A set of these elements. Each can be inserted and deleted, and asked for
       (member: true or false). With more than 10 elements it is too large.
@@ -189,13 +195,14 @@ Usage: colock make FAMILY SIZE ITEM...
       while it is held, and cancelled once it is booked. How many are free can
       be asked. There is no ITEM, and with more than 6 seats it is too large.
 
-CAP, CAPACITY and COUNT are 1 to 1023. An AMOUNT is a number from 1 to CAP, and
-the AMOUNTs ascend. An ELEMENT is a name of a-z, 0-9 and _ : - alone, of at most
-25 bytes in a set and 28 in a semiqueue or a queue. Where there are AMOUNTs or
-ELEMENTs, there is at least one, and none comes twice. Those that begin with a
-hyphen follow the word --.
+CAP, CAPACITY and COUNT are 1 to 1023. An AMOUNT is a number from 1 to CAP or
+MAX, and the AMOUNTs ascend. An ELEMENT is a name of a-z, 0-9 and _ : - alone,
+of at most 25 bytes in a set and 28 in a semiqueue or a queue. Where there are
+AMOUNTs or ELEMENTs, there is at least one, and none comes twice. Those that
+begin with a hyphen follow the word --.
 
 Examples: colock make stock 1000 1 5
+          colock make number 1000000 1 144
           colock make semiqueue 2 mail report
           colock make seats 3
 
@@ -212,10 +219,11 @@ Write a type file with its relation and its conflict tables made anew.
 
 Usage: colock tables FILE
 
-FILE is the path of a type file. What is written has its operations, states and
-steps and its set of states. The relation is made from the steps, and each
-conflict table has the pairs that can't change places at a state of the set.
-So a file of your own needs no equi and no conflict line.
+FILE is the path of a type file, and not of a number file, which has no tables.
+What is written has its operations, states and steps and its set of states. The
+relation is made from the steps, and each conflict table has the pairs that
+can't change places at a state of the set. So a file of your own needs no equi
+and no conflict line.
 
 Example: colock tables examples/ctr2.type
 
@@ -228,9 +236,9 @@ Run a script at a store of its objects, write its history, and audit that.
 
 Usage: colock run SCRIPT TYPE...
 
-SCRIPT is the path of a script, and each TYPE that of a type file. The script
-names the type of an object by its place among the TYPEs, from 0. The type of
-each object is checked for its kind, as colock check does.
+SCRIPT is the path of a script, and each TYPE that of a type file or a number
+file. The script names the type of an object by its place among the TYPEs, from
+0. The type of each object is checked for its kind, as colock check does.
 
   # object X no ..
       The type of object X isn't accepted, with the reason as check writes it.
@@ -270,8 +278,8 @@ Usage: colock audit HISTORY [--then HISTORY]... TYPE...
        colock audit --database DATABASE
 
 HISTORY is the path of a history, as colock run writes it, and each TYPE that
-of a type file. The history names the type of an object by its place among the
-TYPEs, from 0. The types aren't checked for a kind.
+of a type file or a number file. The history names the type of an object by its
+place among the TYPEs, from 0. The types aren't checked for a kind.
 
 Options, anywhere after audit and before any --:
   --then HISTORY   A history that follows, of the same objects, and begins at
@@ -313,9 +321,9 @@ audit that.
 
 Usage: colock work --workers N [--tries K] JOBS TYPE...
 
-JOBS is the path of the jobs, and each TYPE that of a type file. The jobs name
-the type of an object by its place among the TYPEs, from 0. The type of each
-object is checked for its kind, as colock check does.
+JOBS is the path of the jobs, and each TYPE that of a type file or a number
+file. The jobs name the type of an object by its place among the TYPEs, from 0.
+The type of each object is checked for its kind, as colock check does.
 
 Options, each at most once, anywhere after work and before any --:
   --workers N   How many workers there are, 1 to 16.
@@ -382,10 +390,10 @@ Usage: colock create DATABASE OBJECTS TYPE...
 
 DATABASE is the path of the file, where nothing is yet. OBJECTS is the path of a
 text that names the objects: a line object KIND F for each, as a script's, and
-end. Each TYPE is the path of a type file, and F is the place of the object's
-type among the TYPEs, from 0. The type of each object is checked for its kind,
-as colock check does. Where the answer is no, the first line says why, and no
-file is made.
+end. Each TYPE is the path of a type file or a number file, and F is the place
+of the object's type among the TYPEs, from 0. The type of each object is checked
+for its kind, as colock check does. Where the answer is no, the first line says
+why, and no file is made.
 
 Example: colock create hall.db examples/seats.objects examples/seats.type
 
@@ -465,6 +473,8 @@ What the faults on standard error mean.
       The first line of FILE that is refused. The kinds are below.
   colock: FILE: object X: no type F
       F isn't the place of one of the TYPEs, from 0.
+  colock: FILE: number needs escrow, object X: number needs escrow
+      A number has no conflict table, so it is for escrow alone.
   colock: FILE: not the objects of HISTORY
       A history after --then has other objects than the first.
   colock: HISTORY: order: T not committed, T twice, T missing
@@ -494,7 +504,9 @@ What the faults on standard error mean.
 A text is lines of at most 200 bytes that end in LF. There is no CR, no tab, no
 byte order mark and no letter but those of ASCII. A line that begins with # is a
 comment, also one after end. Words are separated by spaces. A number is 0, or up
-to seven digits without a leading zero. A name is 1 to 32 of a-z, 0-9 and _ : -.
+to seven digits without a leading zero, and in a number file up to ten.
+A name is 1 to 32 of a-z, 0-9 and _ : -. A text of a type whose first word is
+number is a number file, and any other a type file.
 
 KIND, by the first test that refuses the line:
   NotAscii       It has a byte that isn't 32 to 126: a CR before the LF, a tab,
@@ -507,12 +519,16 @@ KIND, by the first test that refuses the line:
   BadNumber      A word isn't a number.
   OutOfOrder     It comes after lines that it should come before. The sections
                  of a type file: type, states, initial, op, step, reach, equi,
-                 conflict undo, conflict intentions, end.
+                 conflict undo, conflict intentions, end. Those of a number
+                 file: number, max, initial, take, give, atleast, end.
   Missing        A line that has to come before it is missing; without an end,
                  it is the line after the last.
   OutOfRange     A number is too large or too small, or there are too many such
-                 lines: colock help make and docs/formats.md have the limits.
-  OutOfOrder     The numbers of step, reach, equi or conflict don't ascend.
+                 lines: colock help make and docs/formats.md have the limits. In
+                 a number file also take any, give any and value: objects know
+                 only listed amounts.
+  OutOfOrder     The numbers of step, reach, equi or conflict, or the amounts of
+                 take, give or atleast, don't ascend.
   TwiceOp        An operation with this call and reply came before.
   NoMemory       Memory was refused here.
 

@@ -15,7 +15,7 @@ const DRAIN: u32 = 5;
 
 /// What is said of words after `serve` that aren't those of the command.
 const USAGE: &str = "\
-error: the words behind serve are [--fast] [--archive FOLDER] [--drain S] DATABASE,
+error: the words after serve are [--fast] [--archive FOLDER] [--drain S] DATABASE,
 each at most once
 
 Usage: colock serve [--fast] [--archive FOLDER] [--drain S] DATABASE

@@ -27,7 +27,7 @@ use Rattle.store_files.specs.Types.{Held}
 use Rattle.type_commands.specs.Explain.{CannotBeExplained, ExplainsFile, words_as}
 use Rattle.type_commands.specs.Made.{CannotBeMade, MakesFamily, MakesTablesOf}
 use Rattle.type_commands.specs.Request.{texts, wanted_of}
-use Rattle.type_commands.specs.Verdict.{ChecksFile}
+use Rattle.type_commands.specs.Verdict.{CannotBeChecked, ChecksFile}
 
 -- what is given beside the words, if known: what is held at the paths of files, the last commit of the database at a path, before
 -- and after, that no wrong answer of a disk was taken as true, and what the input gives, before and after
@@ -60,12 +60,12 @@ Answer given (Serve database fast archive drain) = ServesDatabase given.clean (g
 Answer given (Help topic) = IsThis verdict.Yes (text_of_topic topic)
 Answer given Version = IsThis verdict.Yes version_text
 
--- what is amiss with what the user gave: a text has a fault, a word names no operation, a history that follows has other objects, an
--- object names no type, an order of transactions may not be asked for, or nothing can be made; of a database that isn't opened as a
--- store's nothing is said
+-- what is amiss with what the user gave: a text has a fault, a number is asked about without escrow, a word names no operation, a
+-- history that follows has other objects, an object names no type, an order of transactions may not be asked for, or nothing can be
+-- made; of a database that isn't opened as a store's nothing is said
 abbrev pub IsAmiss : Shown → Task → Type 0
-IsAmiss given (Check kind path) = IfSome (given.files path.now) IsFaulty
-IsAmiss given (Explain kind path pair) = IfSome (given.files path.now) (CannotBeExplained (words_as pair))
+IsAmiss given (Check kind path) = IfSome (given.files path.now) (CannotBeChecked kind)
+IsAmiss given (Explain kind path pair) = IfSome (given.files path.now) (CannotBeExplained kind (words_as pair))
 IsAmiss given (Make family size items) = CannotBeMade (wanted_of family.now size.now (texts items.items))
 IsAmiss given (Tables path) = IfSome (given.files path.now) IsFaulty
 IsAmiss given (Run script types) = HasRunFault given.files script.now (texts types.items)

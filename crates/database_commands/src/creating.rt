@@ -4,7 +4,7 @@ ghost use Rattle.std.specs.Prelude.{◌≡◌, ◌≢◌, ℕ, List, [], true, f
 ghost use Rattle.sqlite_trees.specs.View.{IsClean};
 ghost use Rattle.journal.specs.Contents.{contents_of};
 ghost use Rattle.durable_store.specs.Created.{IsNew};
-ghost use Rattle.type_text.specs.Canonical.{canonical_text};
+ghost use Rattle.declared_text.specs.Canonical.{canonical_text};
 ghost use Rattle.command_files.specs.Answers.{Comes, Refuses};
 ghost use Rattle.command_files.specs.declared.fault.Fault.TheVariants.{NoMemory};
 ghost use Rattle.database_commands.specs.Created.{AreFaultyObjects, CreatesStore, DescribesObjects, FindsAmong, HasCreateFault, IsMade, LeavesWhole, Makes};
@@ -12,6 +12,7 @@ ghost use Rattle.database_commands.specs.Created.{AreFaultyObjects, CreatesStore
 use crate::faults::fault_of_making;
 use command_files::{Fault, Source, Verdict, put_answer, read_file};
 use database_files::Databases;
+use declared_text::write_declared;
 use durable_store::create;
 use history_text::HistoryFile;
 use journal::TypeText;
@@ -20,9 +21,9 @@ use object_types::{ObjectFault, accept_types};
 use outputs::{Out, Sink};
 use sqlite_trees::store::Alter;
 use std::alloc::Global;
-use store_files::{HistoryFormat, ObjectTypes, object_line, read_types};
+use store_files::{HistoryFormat, ObjectTypes, object_line, read_declared};
 use store_text::ObjectLine;
-use type_text::{TypeFile, write_type};
+use table_checker::DeclaredType;
 
 /// What a new store is made of: the path at which it is made, and those of the objects and their types.
 #[derive(Clone, Copy)]
@@ -38,8 +39,9 @@ pub struct NewStore<'a, 'w> {
 ///
 /// # Errors
 ///
-/// A text has a fault or can't be read, the objects have events, no TYPE word is at an object's place, the database
-/// isn't made, memory was refused, or the output failed. Only after the last of these there may be a new file at the path.
+/// A text has a fault or can't be read, the objects have events, no TYPE word is at an object's place, an object of
+/// another kind than escrow names a number, the database isn't made, memory was refused, or the output failed. Only
+/// after the last of these there may be a new file at the path.
 pub fn create_store<'a, S: Source, D: Databases, W: Out>(
     alloc: Global,
     asked: NewStore<'a, '_>,
@@ -54,11 +56,11 @@ pub fn create_store<'a, S: Source, D: Databases, W: Out>(
     ensures whole { LeavesWhole (D.is_clean databases.new) (D.holds databases.old asked.entry.database.now) (D.holds databases.new asked.entry.database.now) }
 {
     let objects = read_objects(alloc, asked.objects, source)?;
-    let files = read_types(alloc, asked.types, source)?;
-    let found = types_among(alloc, asked.objects, &files, &objects)?;
+    let declared = read_declared(alloc, asked.types, source)?;
+    let found = types_among(alloc, asked.objects, &declared, &objects)?;
     match found {
         ObjectTypes::Accepted(_) => {
-            make_at(alloc, asked.database, &files, objects, databases, out)
+            make_at(alloc, asked.database, &declared, objects, databases, out)
         }
         ObjectTypes::Refused { x, refusal } => {
             let line = object_line(alloc, x, refusal)?;
@@ -67,23 +69,24 @@ pub fn create_store<'a, S: Source, D: Databases, W: Out>(
     }
 }
 
-/// The checked types of the objects that the text at a path names, among these files.
+/// The checked types of the objects that the text at a path names, among the declared ones.
 ///
 /// # Errors
 ///
-/// No file is at an object's place, or memory was refused.
+/// No type is at an object's place, an object of another kind than escrow names a number, or memory was refused.
 fn types_among<'a>(
     alloc: Global,
     path: &'a str,
-    files: &[TypeFile],
+    declared: &[DeclaredType],
     objects: &[ObjectLine],
 ) -> Result<ObjectTypes, Fault<'a>>
-    ensures { FindsAmong files.now objects.now result }
+    ensures { FindsAmong declared.now objects.now result }
 {
-    match accept_types(alloc, files, objects) {
+    match accept_types(alloc, declared, objects) {
         Ok(types) => Ok(ObjectTypes::Accepted(types)),
         Err(ObjectFault::Refused { x, refusal }) => Ok(ObjectTypes::Refused { x, refusal }),
         Err(ObjectFault::NoType { x, place }) => Err(Fault::NoType { path, x, place }),
+        Err(ObjectFault::NeedsEscrow { x }) => Err(Fault::ObjectNeedsEscrow { path, x }),
         Err(ObjectFault::NoMemory) => Err(Fault::NoMemory),
     }
 }
@@ -123,16 +126,16 @@ fn has_none(events: &[Event]) -> bool
 fn make_at<'a, D: Databases, W: Out>(
     alloc: Global,
     path: &'a str,
-    files: &[TypeFile],
+    declared: &[DeclaredType],
     objects: Vec<ObjectLine>,
     databases: &mut D,
     out: &mut W,
 ) -> Result<Verdict, Fault<'a>>
     requires { W.fault out.old ≡ None }
-    ensures comes { Comes (Makes (D.is_clean databases.new) (D.holds databases.new path.now) files.now objects.items) ⊥ result (W.taken out.old) (W.taken out.new) }
+    ensures comes { Comes (Makes (D.is_clean databases.new) (D.holds databases.new path.now) declared.now objects.items) ⊥ result (W.taken out.old) (W.taken out.new) }
     ensures whole { LeavesWhole (D.is_clean databases.new) (D.holds databases.old path.now) (D.holds databases.new path.now) }
 {
-    make_store(alloc, path, files, objects, databases)?;
+    make_store(alloc, path, declared, objects, databases)?;
     put_answer(Verdict::Yes, b"", out)
 }
 
@@ -163,15 +166,15 @@ fn new_trees<'a, D: Databases>(path: &'a str, databases: &mut D) -> Result<D::Op
 fn make_store<'a, D: Databases>(
     alloc: Global,
     path: &'a str,
-    files: &[TypeFile],
+    declared: &[DeclaredType],
     objects: Vec<ObjectLine>,
     databases: &mut D,
 ) -> Result<(), Fault<'a>>
-    ensures made { OnOk result (D.is_clean databases.new → IfSome (D.holds databases.new path.now) (IsMade files.now objects.items)) }
+    ensures made { OnOk result (D.is_clean databases.new → IfSome (D.holds databases.new path.now) (IsMade declared.now objects.items)) }
     ensures kept { OnErr result (D.holds databases.new path.now ≡ D.holds databases.old path.now) }
     ensures refused { IfErr result (Refuses ⊥) }
 {
-    let texts = texts_of(alloc, files)?;
+    let texts = texts_of(alloc, declared)?;
     let id = new_id(path, databases)?;
     let trees = new_trees(path, databases)?;
     match make_in(alloc, path, trees, id, texts, objects) {
@@ -220,25 +223,25 @@ fn publish<'a, D: Databases>(
     }
 }
 
-/// The canonical texts of type files.
-fn texts_of<'a>(alloc: Global, files: &[TypeFile]) -> Result<Vec<TypeText>, Fault<'a>>
-    ensures texts { IfOk result (λ texts. texts.items ≡ map canonical_text files.now) }
+/// The canonical texts of types.
+fn texts_of<'a>(alloc: Global, types: &[DeclaredType]) -> Result<Vec<TypeText>, Fault<'a>>
+    ensures texts { IfOk result (λ texts. texts.items ≡ map canonical_text types.now) }
     ensures failed { IfErr result (λ fault. fault ≡ NoMemory) }
 {
-    let mut texts = Vec::with_capacity(alloc, files.len())?;
-    for file in files {
-        texts.push_reserved(text_of(alloc, file)?);
+    let mut texts = Vec::with_capacity(alloc, types.len())?;
+    for declared in types {
+        texts.push_reserved(text_of(alloc, declared)?);
     }
     Ok(texts)
 }
 
-/// The canonical text of a type file.
-fn text_of<'a>(alloc: Global, file: &TypeFile) -> Result<TypeText, Fault<'a>>
-    ensures text { IfOk result (λ text. text ≡ canonical_text file.now) }
+/// The canonical text of a type.
+fn text_of<'a>(alloc: Global, declared: &DeclaredType) -> Result<TypeText, Fault<'a>>
+    ensures text { IfOk result (λ text. text ≡ canonical_text declared.now) }
     ensures failed { IfErr result (λ fault. fault ≡ NoMemory) }
 {
     let mut text = Sink::new(Vec::new(alloc));
-    match write_type(file, &mut text) {
+    match write_declared(declared, &mut text) {
         Ok(()) => Ok(TypeText::new(text.into_inner())),
         Err(_) => Err(Fault::NoMemory),
     }

@@ -10,6 +10,7 @@ use Rattle.type_text.specs.TypeFile.{file_at}
 use Rattle.type_text.specs.declared.type_file.TypeFile.{TypeFile}
 use Rattle.table_checker.specs.At.{checked_at, IsInside}
 use Rattle.table_checker.specs.Checked.{Checked, set_by}
+use Rattle.table_checker.specs.Declarations.{file_of}
 use Rattle.serial_order.specs.Epochs.{types_at}
 use Rattle.serial_order.proofs.EpochTypes.{is-at, length-types_at}
 use Rattle.store.specs.Renews.{Renews}
@@ -33,14 +34,16 @@ same-inside Escrow file i s = refl
 begun-anew : (texts : List (List ℕ)) (o : ObjectLine) (was first : FirstState) (c now : Checked) (s : ℕ) → IsTypeOf texts o was c → IsInside c s → now ≡ checked_at c s → first.state ≡ s
     → IsTypeOf texts o first now
 begun-anew texts o was first c now s of inside is state =
-    let base : Checked = record { kind = o.kind; file = of.file } in
+    let file = file_of of.declaration in
+    let base : Checked = record { kind = o.kind; file = file } in
     record {
       text = of.text;
       there = of.there;
-      file = of.file;
-      reads = of.reads;
+      declaration = of.declaration;
+      declares = of.declares;
+      kinds = of.kinds;
       checked = of.checked;
-      inside = subst (λ n. IsInside base n) (sym state) (sym (same-inside o.kind of.file was.state s) ∙ subst (λ (c : Checked). IsInside c s) of.is inside);
+      inside = subst (λ n. IsInside base n) (sym state) (sym (same-inside o.kind file was.state s) ∙ subst (λ (c : Checked). IsInside c s) of.is inside);
       is = is ∙ ap (λ (c : Checked). checked_at c s) of.is ∙ ap (checked_at base) (sym state);
     }
 

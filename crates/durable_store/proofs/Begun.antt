@@ -6,9 +6,10 @@ use Rattle.std.specs.declared.sync.Arc.{Arc}
 use Rattle.std.proofs.lemmas.List.{length-map, length-take, map_push}
 use Rattle.std.proofs.lemmas.Option.{same_Some, slice_get-get_or, slice_get-map, slice_get_read, slice_get_within}
 use Rattle.type_table.proofs.Elements.{cases-more}
-use Rattle.type_text.specs.declared.type_file.TypeFile.{TypeFile}
+use Rattle.table_checker.specs.declared.declared_type.Declaration.{Declaration}
 use Rattle.table_checker.specs.At.{checked_at, IsInside}
 use Rattle.table_checker.specs.Checked.{Checked, IsChecked}
+use Rattle.table_checker.specs.Declarations.{file_of}
 use Rattle.object_types.specs.Types.{AreTypesOf, value_of}
 use Rattle.journal.specs.Contents.{Contents}
 use Rattle.durable_store.specs.Types.{HasTypes}
@@ -77,17 +78,17 @@ fresh-at {A} types states x own seen f at low is read state given c first there 
     let two : f ≡ first = same_Some f first (sym state ∙ first-there) in
     subst (λ f. IsAt c f at) two (subst (λ d. IsAt d f at) one given)
 
--- types of the files that lines name are alike where the lines are
-pub alike : (files : List TypeFile) (lines : List ObjectLine) (types : List Checked) → AreTypesOf files lines types → AreAlike lines types
-alike files lines types are x y o c d line-x line-y type-x type-y =
+-- the types that lines name are alike where the lines are
+pub alike : (declared : List Declaration) (lines : List ObjectLine) (types : List Checked) → AreTypesOf declared lines types → AreAlike lines types
+alike declared lines types are x y o c d line-x line-y type-x type-y =
     let p = are.each x o c line-x type-x in
     let q = are.each y o d line-y type-y in
-    p.checked.0 ∙ ap (λ file. let it : Checked = record { kind = o.kind; file = file } in it) (same_Some p.file q.file (sym p.there ∙ q.there)) ∙ sym q.checked.0
+    p.checked.0 ∙ ap (λ d. let it : Checked = record { kind = o.kind; file = file_of d } in it) (same_Some p.declaration q.declaration (sym p.there ∙ q.there)) ∙ sym q.checked.0
 
 -- they are the types of the file's objects
-pub are-types : (c : Contents) (files : List TypeFile) (types begun : List Checked) → AreRead c.types files → AreTypesOf files c.objects types → length c.states ≡ length c.objects
+pub are-types : (c : Contents) (declared : List Declaration) (types begun : List Checked) → AreRead c.types declared → AreTypesOf declared c.objects types → length c.states ≡ length c.objects
     → length begun ≡ length c.objects → AreAt types c.states begun → HasTypes c begun
-are-types c files types begun read of states long at = record {
+are-types c declared types begun read of states long at = record {
   as_many = long;
   as_many_states = states;
   each = λ x o first type line state there.
@@ -96,14 +97,15 @@ are-types c files types begun read of states long at = record {
       let checked-there : slice_get types x ≡ Some checked = slice_get-get_or types x type inside in
       let is = at x type there checked first checked-there state in
       let its = of.each x o checked line checked-there in
-      let there-too : o.file < length c.types = omega (arith, slice_get_within files o.file its.file its.there, read.as_many) in
+      let there-too : o.file < length c.types = omega (arith, slice_get_within declared o.file its.declaration its.there, read.as_many) in
       let text = get_or c.types o.file [] in
       let text-there : slice_get c.types o.file ≡ Some text = slice_get-get_or c.types o.file [] there-too in
       record {
         text = text;
         there = text-there;
-        file = its.file;
-        reads = read.each o.file text its.file text-there its.there;
+        declaration = its.declaration;
+        declares = read.each o.file text its.declaration text-there its.there;
+        kinds = its.checked.2;
         checked = subst IsChecked its.checked.0 its.checked.1;
         inside = subst (λ (k : Checked). IsInside k first.state) its.checked.0 is.0;
         is = is.1 ∙ ap (λ k. checked_at k first.state) its.checked.0;

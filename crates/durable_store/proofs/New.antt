@@ -19,7 +19,7 @@ first-of c = record { state = c.file.table.initial }
 begins-inside : (kind : Kind) (file : TypeFile) → IsCheckedBy kind file → set_by kind file file.table.initial ≡ true
 begins-inside Undo file is = is.certified.begins_inside
 begins-inside Intentions file is = is.certified.begins_inside
-begins-inside Escrow file is = lt-ltb file.table.initial file.table.states is.table.initial_inside
+begins-inside Escrow file is = lt-ltb file.table.initial file.table.states is.initial_inside
 
 -- each is at the state at which it begins
 pub at-own : (types : List Checked) → ((x : ℕ) (c : Checked) → slice_get types x ≡ Some c → IsChecked c) → AreAt types (firsts types) types

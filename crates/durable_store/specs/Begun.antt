@@ -1,16 +1,16 @@
 -- The types of a file's objects, at the states where its history begins.
-use Rattle.std.specs.Prelude.{◌≡◌, ℕ, List, length, slice_get, Some, Ok}
-use Rattle.type_text.specs.declared.type_file.TypeFile.{TypeFile}
-use Rattle.type_text.specs.TypeFile.{Reads}
+use Rattle.std.specs.Prelude.{◌≡◌, ℕ, List, length, slice_get, Some}
+use Rattle.table_checker.specs.declared.declared_type.Declaration.{Declaration}
 use Rattle.table_checker.specs.Checked.{Checked}
 use Rattle.table_checker.specs.At.{checked_at, IsInside}
+use Rattle.declared_text.specs.Declared.{Declares}
 use Rattle.store_text.specs.declared.line.ObjectLine.{ObjectLine}
 use Rattle.journal.specs.declared.state_row.FirstState.{FirstState}
 
--- the files of texts, in their order
-pub record AreRead (texts : List (List ℕ)) (files : List TypeFile) : Type 0 where
-  pub as_many : length files ≡ length texts
-  pub each : (k : ℕ) (text : List ℕ) (file : TypeFile) → slice_get texts k ≡ Some text → slice_get files k ≡ Some file → Reads (Ok file) text
+-- what texts declare, in their order
+pub record AreRead (texts : List (List ℕ)) (declared : List Declaration) : Type 0 where
+  pub as_many : length declared ≡ length texts
+  pub each : (k : ℕ) (text : List ℕ) (declaration : Declaration) → slice_get texts k ≡ Some text → slice_get declared k ≡ Some declaration → Declares text declaration
 
 -- objects of one line have one type
 abbrev pub AreAlike : List ObjectLine → List Checked → Type 0

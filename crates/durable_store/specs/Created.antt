@@ -1,5 +1,5 @@
 -- The file of a new store.
-use Rattle.std.specs.Prelude.{◌≡◌, ⊤, ℕ, List, [], ◌∷◌}
+use Rattle.std.specs.Prelude.{◌≡◌, ◌⊎◌, ⊤, ℕ, List, [], ◌∷◌}
 use Rattle.table_checker.specs.Checked.{Checked}
 use Rattle.store_text.specs.declared.line.ObjectLine.{ObjectLine}
 use Rattle.journal.specs.declared.header.Header.{Header}
@@ -9,9 +9,17 @@ use Rattle.durable_store.specs.declared.open_error.OpenError.TheVariants.{Journa
 use Rattle.durable_store.specs.Types.{HasTypes}
 use Rattle.durable_store.specs.Epochs.{firsts}
 
+-- the version of the tables of a new file
+abbrev pub newest_format : ℕ
+newest_format = 2
+
+-- the versions that are read: that of a new file, and the one before it, in which no type is a number
+abbrev pub IsReadFormat : ℕ → Type 0
+IsReadFormat format = (format ≡ newest_format) ⊎ (format ≡ 1)
+
 -- the header of a new file: no store was made of it yet
 abbrev pub first_header : List ℕ → Header
-first_header id = record { format = 1; id = id; life = 0 }
+first_header id = record { format = newest_format; id = id; life = 0 }
 
 -- these texts and objects, which have types that begin at their initial states, and no event
 pub record IsNew (id : List ℕ) (given : List (List ℕ)) (lines : List ObjectLine) (c : Contents) : Type 0 where

@@ -1,22 +1,25 @@
 -- The types of a file's objects.
-use Rattle.std.specs.Prelude.{◌≡◌, ℕ, List, length, slice_get, Some, Ok}
-use Rattle.type_text.specs.declared.type_file.TypeFile.{TypeFile}
-use Rattle.type_text.specs.TypeFile.{Reads}
+use Rattle.std.specs.Prelude.{◌≡◌, ℕ, List, length, slice_get, Some}
+use Rattle.table_checker.specs.declared.declared_type.Declaration.{Declaration}
 use Rattle.table_checker.specs.Checked.{Checked, IsChecked}
 use Rattle.table_checker.specs.At.{checked_at, IsInside}
+use Rattle.table_checker.specs.Declarations.{file_of, IsDeclaredFor}
+use Rattle.declared_text.specs.Declared.{Declares}
 use Rattle.store_text.specs.declared.line.ObjectLine.{ObjectLine}
 use Rattle.journal.specs.declared.state_row.FirstState.{FirstState}
 use Rattle.journal.specs.Contents.{Contents}
 
--- the type of an object of a file: what the text at its place describes, accepted for its kind, at the state where the history begins
+-- the type of an object of a file: what the text at its place declares, accepted for its kind, for which it may be declared, at the state where
+-- the history begins
 pub record IsTypeOf (texts : List (List ℕ)) (o : ObjectLine) (first : FirstState) (c : Checked) : Type 0 where
   pub text : List ℕ
   pub there : slice_get texts o.file ≡ Some text
-  pub file : TypeFile
-  pub reads : Reads (Ok file) text
-  pub checked : IsChecked (record { kind = o.kind; file = file })
-  pub inside : IsInside (record { kind = o.kind; file = file }) first.state
-  pub is : c ≡ checked_at (record { kind = o.kind; file = file }) first.state
+  pub declaration : Declaration
+  pub declares : Declares text declaration
+  pub kinds : IsDeclaredFor o.kind declaration
+  pub checked : IsChecked (record { kind = o.kind; file = file_of declaration })
+  pub inside : IsInside (record { kind = o.kind; file = file_of declaration }) first.state
+  pub is : c ≡ checked_at (record { kind = o.kind; file = file_of declaration }) first.state
 
 -- one for each object
 pub record AreTypes (texts : List (List ℕ)) (objects : List ObjectLine) (states : List FirstState) (types : List Checked) : Type 0 where

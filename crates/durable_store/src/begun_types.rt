@@ -1,25 +1,26 @@
 //! The objects of a file, of its types at the states where its history begins.
 
-ghost use Rattle.std.specs.Prelude.{◌≡◌, ◌<◌, length, map, Some, Ok, IfOk, OnOk, IfSome, slice_get};
+ghost use Rattle.std.specs.Prelude.{◌≡◌, ◌<◌, length, map, Some, IfOk, OnOk, IfSome, slice_get};
 ghost use Rattle.std.specs.Arc.{arc_value};
 ghost use Rattle.objects.specs.Object.{meaning_of};
 ghost use Rattle.store.specs.Ends.{AreFresh};
 ghost use Rattle.store_laws.specs.Stored.{types_of};
 ghost use Rattle.journal.specs.Said.{contents};
 ghost use Rattle.durable_store.specs.Begun.{AreAlike, AreAt, AreRead, IsAt, IsAtPlace};
+ghost use Rattle.durable_store.specs.Created.{IsReadFormat};
 ghost use Rattle.durable_store.specs.Types.{HasTypes};
-ghost use Rattle.type_text.specs.TypeFile.{Reads};
+ghost use Rattle.declared_text.specs.Declared.{Declares};
 
 use crate::format::check_format;
 use crate::open_error::OpenError;
+use declared_text::read_declared;
 use journal::{FileContents, FirstState, JournalError, TypeText};
 use object_types::accept_types;
 use objects::{Object, new_objects};
 use std::alloc::Global;
 use std::sync::Arc;
 use store_text::ObjectLine;
-use table_checker::CheckedType;
-use type_text::{TypeFile, read_type};
+use table_checker::{CheckedType, DeclaredType};
 
 /// The objects of a file, in their order.
 ///
@@ -42,38 +43,38 @@ pub(crate) fn objects_of(alloc: Global, said: &FileContents) -> Result<Vec<Objec
 /// `Untyped` or `NoMemory`.
 pub fn file_types(alloc: Global, said: &FileContents) -> Result<Vec<Arc<CheckedType>>, OpenError>
     ensures types { IfOk result (λ types. HasTypes (contents said.now) (map arc_value types.items)) }
-    ensures format { OnOk result (said.now.header.format ≡ 1) }
+    ensures format { OnOk result (IsReadFormat said.now.header.format) }
 {
     check_format(said)?;
-    let files = files_of(alloc, &said.types)?;
+    let declared = declared_in(alloc, &said.types)?;
     let lines: &[ObjectLine] = &said.objects;
-    let types = accept_types(alloc, &files, lines)?;
+    let types = accept_types(alloc, &declared, lines)?;
     let begun = types_at(alloc, &types, lines, &said.states)?;
     Ok(begun)
 }
 
-/// The files that the texts describe, in their order.
+/// The types that the texts declare, in their order.
 ///
 /// # Errors
 ///
 /// `Text` or `NoMemory`.
-pub(crate) fn files_of(alloc: Global, texts: &[TypeText]) -> Result<Vec<TypeFile>, OpenError>
-    ensures { IfOk result (λ files. AreRead texts.now files.items) }
+pub(crate) fn declared_in(alloc: Global, texts: &[TypeText]) -> Result<Vec<DeclaredType>, OpenError>
+    ensures { IfOk result (λ declared. AreRead texts.now declared.items) }
 {
-    let mut files = Vec::new(alloc);
+    let mut declared = Vec::new(alloc);
     for (place, text) in texts.iter().enumerate() {
-        let file = file_of(alloc, place, text)?;
-        files.push(file)?;
+        let found = declared_at(alloc, place, text)?;
+        declared.push(found)?;
     }
-    Ok(files)
+    Ok(declared)
 }
 
-/// The file that the text at this place describes.
-fn file_of(alloc: Global, place: usize, text: &TypeText) -> Result<TypeFile, OpenError>
-    ensures { IfOk result (λ file. Reads (Ok file) text.now) }
+/// The type that the text at this place declares.
+fn declared_at(alloc: Global, place: usize, text: &TypeText) -> Result<DeclaredType, OpenError>
+    ensures { IfOk result (λ declared. Declares text.now declared) }
 {
-    match read_type(alloc, text.as_bytes()) {
-        Ok(file) => Ok(file),
+    match read_declared(alloc, text.as_bytes()) {
+        Ok(declared) => Ok(declared),
         Err(fault) => Err(OpenError::of_text(place, fault)),
     }
 }

@@ -8,7 +8,7 @@ ghost use Rattle.journal.specs.Said.{contents};
 ghost use Rattle.durable_store.specs.Created.{IsLeft, IsNew};
 ghost use Rattle.durable_store.specs.Epochs.{firsts};
 
-use crate::begun_types::files_of;
+use crate::begun_types::declared_in;
 use crate::format::FORMAT;
 use crate::open_error::OpenError;
 use journal::{FileContents, FirstState, Header, Journal, TypeText};
@@ -61,8 +61,8 @@ fn new_contents(
 ) -> Result<FileContents, OpenError>
     ensures { IfOk result (λ said. IsNew id texts.items lines.items (contents said)) }
 {
-    let files = files_of(alloc, &texts)?;
-    let types = accept_types(alloc, &files, &lines)?;
+    let declared = declared_in(alloc, &texts)?;
+    let types = accept_types(alloc, &declared, &lines)?;
     let states = states_of(alloc, &types)?;
     let header = Header {
         format: FORMAT,
@@ -84,7 +84,7 @@ fn states_of(alloc: Global, types: &[Arc<CheckedType>]) -> Result<Vec<FirstState
 {
     let mut states = Vec::new(alloc);
     for checked in types {
-        let state = checked.table().initial();
+        let state = checked.initial();
         states.push(FirstState { state })?;
     }
     Ok(states)

@@ -97,6 +97,6 @@ fn first_state(store: &Store<Object>, x: u32) -> FirstState
 {
     let checked = store.checked(x).unwrap();
     FirstState {
-        state: checked.table().initial(),
+        state: checked.initial(),
     }
 }

@@ -14,8 +14,8 @@ pub enum OpenError {
     /// The text of a type has a fault.
     #[error("the text of type {0} has a fault")]
     Text(usize),
-    /// An object has no type: its place isn't that of a text, the checker says no, or its state isn't one of
-    /// the type's set.
+    /// An object has no type: its place isn't that of a text, it names a number and is of another kind than
+    /// escrow, the checker says no, or its state isn't one of the type's set.
     #[error("object {0} has no type")]
     Untyped(usize),
     /// No store is made of the objects.
@@ -67,6 +67,7 @@ impl From<ObjectFault> for OpenError {
     fn from(fault: ObjectFault) -> OpenError {
         match fault {
             ObjectFault::NoType { x, place: _ } => OpenError::Untyped(x),
+            ObjectFault::NeedsEscrow { x } => OpenError::Untyped(x),
             ObjectFault::Refused { x, refusal: _ } => OpenError::Untyped(x),
             ObjectFault::NoMemory => OpenError::NoMemory,
         }

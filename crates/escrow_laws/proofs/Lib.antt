@@ -5,6 +5,7 @@ pub mod Staying
 pub mod Outcomes
 pub mod Numbers
 pub mod Tables
+pub mod Told
 pub mod Faulty
 pub mod Searching
 pub mod Exact

@@ -1,5 +1,5 @@
 -- Operations with bounds, types of numbers whose operations these are, and the bounds of the operations of a table.
-use Rattle.std.specs.Prelude.{◌≡◌, ℕ, ◌+◌, ◌-◌, ◌*◌, ◌/◌, ◌%◌, ◌≤◌, nat_le, map, length, ◌&&◌, List, Option, Some, None, slice_get, if◌then◌else◌, is_some}
+use Rattle.std.specs.Prelude.{◌≡◌, ℕ, ◌+◌, ◌-◌, ◌*◌, ◌/◌, ◌%◌, ◌≤◌, ◌⊎◌, nat_le, map, length, ◌&&◌, List, Option, Some, None, slice_get, if◌then◌else◌, is_some}
 use Rattle.std.specs.List.{range_with_len}
 use Rattle.std.specs.Option.{unwrap_or}
 use Rattle.type_table.specs.Least.{first_below, last_below}
@@ -70,3 +70,14 @@ bounded_at T k = bounded_between T k (least_legal T k) (greatest_legal T k)
 
 abbrev pub bounds_of : Table → List Bounded
 bounds_of T = map (bounded_at T) (range_with_len 0 (length T.ops))
+
+-- ---- bounds that the steps tell
+
+-- an operation that is legal at some number, and doesn't both give and take: no others have the same steps
+pub record IsPlain (b : Bounded) : Type 0 where
+  pub somewhere : b.low ≤ b.high
+  pub one_way : (b.gives ≡ 0) ⊎ (b.takes ≡ 0)
+
+-- each of these is one
+abbrev pub ArePlain : List Bounded → Type 0
+ArePlain ops = (k : ℕ) (b : Bounded) → slice_get ops k ≡ Some b → IsPlain b

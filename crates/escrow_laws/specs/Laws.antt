@@ -1,10 +1,10 @@
 -- Statements of the laws of numbers in escrow.
-use Rattle.std.specs.Prelude.{◌≡◌, ◌↔◌, ℕ, ◌+◌, ◌≤◌, ◌<◌, true, false, ◌==◌, List, [], ◌++◌, length, Some, Contains}
+use Rattle.std.specs.Prelude.{◌≡◌, ◌↔◌, ℕ, ◌+◌, ◌-◌, ◌≤◌, ◌<◌, true, false, ◌==◌, List, [], ◌++◌, length, Some, Contains}
 use Rattle.type_table.specs.Table.{Table}
 use Rattle.type_table.specs.Run.{run, IsLegal}
 use Rattle.escrow_laws.specs.Amounts.{Amounts, IsNumeric, fall, rise}
 use Rattle.escrow_laws.specs.Fronts.{IsLowest, IsHighest}
-use Rattle.escrow_laws.specs.Bounds.{amounts_of, AreWithin, AreBounds, steps_of}
+use Rattle.escrow_laws.specs.Bounds.{amounts_of, AreWithin, AreBounds, steps_of, ArePlain, bounds_of}
 use Rattle.escrow_laws.specs.Faults.{IsFaultless}
 use Rattle.escrow_laws.specs.Firm.{sum_below, IsIdleFrom, IsFirm, with_op, keeps, IsAdmitted}
 use Rattle.escrow_laws.specs.Safe.{IsSafe}
@@ -27,6 +27,10 @@ BoundsAreNumeric = (T : Table) (top : ℕ) (ops : List Bounded) → AreBounds T 
 abbrev pub NumbersHaveTables : Type 0
 NumbersHaveTables =
     (T : Table) (top : ℕ) (ops : List Bounded) → T.steps ≡ steps_of top ops → length T.ops ≡ length ops → AreWithin top ops → AreBounds T top ops
+
+-- plain bounds of a type are those that its steps tell
+abbrev pub BoundsAreTold : Type 0
+BoundsAreTold = (T : Table) (ops : List Bounded) → 0 < T.states → length T.ops ≡ length ops → ArePlain ops → AreBounds T (T.states - 1) ops → bounds_of T ≡ ops
 
 -- ---- falls and rises
 

@@ -1,7 +1,7 @@
 //! Laws of numbers in escrow: each is a function that does nothing, whose contract is the law. It
 //! calls the laws on which it depends.
 
-ghost use Rattle.escrow_laws.specs.Laws.{NumericIsFaultless, BoundsAreNumeric, NumbersHaveTables, FallIsLowest, RiseIsHighest, FreshIsFirm, FirmAfterApply, FirmAfterCommit, FirmAfterStrike, FirmIsLegal, FirmIsSafe, SafeIsFirm, NothingKeeps, FirmKeepsNobody, AdmittedWhereSafe, BaseIsSerial, MarksAreExact, MarksFit, SumsFit, MarksTell, MarksTellFirm, ExtremesTellFirm};
+ghost use Rattle.escrow_laws.specs.Laws.{NumericIsFaultless, BoundsAreNumeric, NumbersHaveTables, BoundsAreTold, FallIsLowest, RiseIsHighest, FreshIsFirm, FirmAfterApply, FirmAfterCommit, FirmAfterStrike, FirmIsLegal, FirmIsSafe, SafeIsFirm, NothingKeeps, FirmKeepsNobody, AdmittedWhereSafe, BaseIsSerial, MarksAreExact, MarksFit, SumsFit, MarksTell, MarksTellFirm, ExtremesTellFirm};
 
 use type_table::runs_along;
 
@@ -18,6 +18,12 @@ pub fn bounds_are_numeric()
 /// Numbers from 0 to any greatest one have a table.
 pub fn numbers_have_tables()
     ensures { NumbersHaveTables }
+{}
+
+/// The bounds of a type of which each operation is legal somewhere, and doesn't both give and take, are
+/// those that its steps tell.
+pub fn bounds_are_told()
+    ensures { BoundsAreTold }
 {}
 
 /// How far a list of operations falls is how low its fronts end.

@@ -1,6 +1,6 @@
 //! What is kept of an open transaction's operations at a number, and what is asked of it at a call.
 
-ghost use Rattle.std.specs.Prelude.{◌≡◌, ◌≤◌, ◌<◌, ◌+◌, ◌-◌, ◌^◌, min};
+ghost use Rattle.std.specs.Prelude.{◌≡◌, ◌<◌, ◌^◌};
 ghost use Rattle.escrow_laws.specs.Marks.{unmarked, marked, is_legal_from, is_low, is_high, mark_keeps};
 
 use crate::bounded::Bounded;
@@ -10,15 +10,15 @@ use crate::bounded::Bounded;
 #[derive(Clone, Copy, Debug, PartialEq, Eq)]
 pub struct Mark {
     /// How far below where it began the number is at the lowest along them.
-    pub fall: u32,
+    pub fall: u64,
     /// How far above at the highest.
-    pub rise: u32,
+    pub rise: u64,
     /// How far above its lowest the number is at their end. So they move it by `above - fall` in all.
-    pub above: u32,
+    pub above: u64,
     /// The least number from which they are legal.
-    pub floor: u32,
+    pub floor: u64,
     /// They are legal from no number from `ceiling` on.
-    pub ceiling: u32,
+    pub ceiling: u64,
 }
 
 /// The mark of one open transaction.
@@ -31,7 +31,6 @@ pub struct OpenMark {
 impl Mark {
     /// That of no operations, on numbers from 0 to `top`.
     pub fn unmarked(top: u32) -> Mark
-        requires { top + 1 < 2 ^ 32 }
         ensures { result ≡ unmarked top }
     {
         Mark {
@@ -39,45 +38,35 @@ impl Mark {
             rise: 0,
             above: 0,
             floor: 0,
-            ceiling: top + 1,
+            ceiling: u64::from(top) + 1,
         }
     }
 
     /// With one more operation.
     pub fn marked(self, op: Bounded) -> Mark
-        requires enough { op.takes ≤ op.low }
-        requires low { op.low + self.fall < 2 ^ 32 }
-        requires high { self.above + op.gives < 2 ^ 32 }
+        requires fall { self.fall < 2 ^ 63 }
+        requires above { self.above < 2 ^ 63 }
         ensures { result ≡ marked self op }
     {
-        let given = self.above + op.gives;
-        let fall = self.fall + op.takes.saturating_sub(given);
-        let above = given.saturating_sub(op.takes);
-        let floor = (op.low + self.fall).saturating_sub(self.above);
+        let given = self.above + u64::from(op.gives);
+        let fall = self.fall + u64::from(op.takes).saturating_sub(given);
+        let above = given.saturating_sub(u64::from(op.takes));
+        let floor = (u64::from(op.low) + self.fall).saturating_sub(self.above);
+        let ceiling = (u64::from(op.high) + 1 + self.fall).saturating_sub(self.above);
         Mark {
             fall,
             rise: self.rise.max(above.saturating_sub(fall)),
             above,
             floor: self.floor.max(floor),
-            ceiling: self.ceiling_with(op.high),
+            ceiling: self.ceiling.min(ceiling),
         }
-    }
-
-    /// The ceiling with one more operation, which is legal up to `high`.
-    fn ceiling_with(self, high: u32) -> u32
-        ensures { result ≡ min self.ceiling ((high + 1 + self.fall) - self.above) }
-    {
-        let ceiling = (u64::from(high) + 1 + u64::from(self.fall)).saturating_sub(u64::from(
-            self.above,
-        ));
-        u64::from(self.ceiling).min(ceiling) as u32
     }
 
     /// Whether they are legal from this number, which is at most the greatest.
     pub fn is_legal_from(self, number: u64) -> bool
         ensures { result ≡ is_legal_from self number }
     {
-        u64::from(self.floor) <= number && number < u64::from(self.ceiling)
+        self.floor <= number && number < self.ceiling
     }
 
     /// Whether they are legal from the lowest number that the others may leave, where all together
@@ -85,7 +74,7 @@ impl Mark {
     pub fn is_low(self, base: u32, fallen: u64) -> bool
         ensures { result ≡ is_low base fallen self }
     {
-        let others = fallen.saturating_sub(u64::from(self.fall));
+        let others = fallen.saturating_sub(self.fall);
         self.is_legal_from(u64::from(base).saturating_sub(others))
     }
 
@@ -94,7 +83,7 @@ impl Mark {
         requires { risen < 2 ^ 63 }
         ensures { result ≡ is_high base risen self }
     {
-        let others = risen.saturating_sub(u64::from(self.rise));
+        let others = risen.saturating_sub(self.rise);
         self.is_legal_from(u64::from(base) + others)
     }
 

@@ -81,7 +81,7 @@ committed-kept sound_after exact fit legal {m} {marks} {totals} h t s log seen r
     let down = fits.down in
     let up = fits.up in
     let end = fits.end in
-    let states = h.numeric.table.some_states in
+    let states = h.numeric.numeric.initial_inside in
     let room = h.room in
     let long = length-filter_both (is_open_of t) (λ e. not (is_open_of t e)) (λ _. refl) m.log in
     subst (λ V. IsKeptInEscrow (committed m s V) (without_mark t marks) (totals_at m (without_mark t marks))) (sym rest)

@@ -1,9 +1,10 @@
 -- What a manager keeps, and what it knows by that.
-use Rattle.std.proofs.Common.{◌≡◌, ◌↔◌, ℕ, ◌+◌, ◌-◌, ◌<◌, ◌≤◌, false, get_or, List, [], ◌∷◌, length, Some, refl, sym, ap, subst, ◌∙◌, arith}
+use Rattle.std.proofs.Common.{◌≡◌, ◌↔◌, ℕ, ◌+◌, ◌-◌, ◌<◌, ◌≤◌, false, get_or, All, List, [], ◌∷◌, length, Some, refl, sym, ap, subst, ◌∙◌, arith}
 use Rattle.std.specs.Prelude.{slice_get}
 use Rattle.std.proofs.lemmas.List.Elements.{All-from_recursion}
 use Rattle.std.proofs.lemmas.Option.{slice_get-get_or}
 use Rattle.type_table.specs.Table.{Table}
+use Rattle.type_table.proofs.Elements.{each-weaker}
 use Rattle.type_table.specs.Run.{IsLegal}
 use Rattle.escrow_laws.specs.Bounds.{amounts_of}
 use Rattle.escrow_laws.specs.Firm.{IsIdleFrom, IsFirm}
@@ -21,11 +22,12 @@ use Rattle.object_trait.specs.declared.log_entry.LogEntry.{LogEntry}
 use Rattle.object_trait.proofs.Escrow.{above-none}
 use Rattle.escrow_manager.specs.Numeric.{bounds_in, greatest, IsInEscrow}
 use Rattle.escrow_manager.specs.Marks.{IsSmall}
-use Rattle.escrow_manager.specs.Totals.{totals_of}
+use Rattle.escrow_manager.specs.Totals.{totals_of, IsShort}
 use Rattle.escrow_manager.specs.Kept.{IsKeptInEscrow}
 use Rattle.escrow_manager.specs.declared.totals.Totals.{Totals}
 use Rattle.escrow_manager.specs.declared.manager.EscrowManager.TheInside.{Inside}
-use Rattle.escrow_manager.proofs.Telling.{end-told, step-told, more-small, AreSmall, sums-small}
+use Rattle.escrow_manager.proofs.Telling.{end-told, step-told, more-small, fits-short, AreSmall, sums-small}
+use Rattle.escrow_manager.proofs.Marking.{marks-all}
 
 -- what a manager of these fields means
 abbrev pub meant : Inside → Meaning
@@ -51,7 +53,7 @@ inside-greatest T s below = omega (arith, below)
 
 -- what was tested of a type in escrow
 checked-of : (c : Checked) → IsInEscrow c → IsChecked c
-checked-of c numeric = subst (λ kind. IsCheckedBy kind c.file) (sym numeric.escrow) (record { table = numeric.table; bounds = numeric.bounds })
+checked-of c numeric = subst (λ kind. IsCheckedBy kind c.file) (sym numeric.escrow) numeric.numeric
 
 module _ (m : Meaning) (numeric : IsInEscrow m.checked) where
   pub escrow-sound : IsSound m → IsSoundEscrow (object m) m.base m.log
@@ -75,9 +77,9 @@ module _ {m : Meaning} {marks : List OpenMark} {totals : Totals} (h : IsKeptInEs
   pub all-open : AreOpen m.log
   all-open = All-from_recursion (λ (e : LogEntry). e.done ≡ false) m.log (escrow-sound m h.numeric h.sound).all_open
 
-  -- the greatest number is small
-  pub top-small : greatest m.checked ≤ 1023
-  top-small = let fit = h.numeric.table.states_fit in omega (arith, fit)
+  -- the greatest number has 32 bits
+  pub top-small : greatest m.checked ≤ 4294967295
+  top-small = let fit = h.numeric.numeric.states_fit in omega (arith, fit)
 
   pub legal-of : FirmIsLegal → (t : ℕ) → IsLegal m.checked.file.table (Some m.base) (own_of m.log t)
   legal-of legal t = legal m.checked.file.table (amounts_of (bounds_in m.checked)) m.base (own_of m.log) t firm-of
@@ -107,6 +109,13 @@ module _ {m : Meaning} {marks : List OpenMark} {totals : Totals} (h : IsKeptInEs
   sums-of tell =
       sums-small tell m.checked.file.table (greatest m.checked) m.base (above 0 m.log) (bounds_in m.checked) (own_of m.log) marks h.numeric.bounds inside-of h.listed (idle-above 0 m.log) firm-of
 
+  -- each mark is short
+  pub short-of : MarksFit → FirmIsLegal → All (λ (o : OpenMark). IsShort o.mark) marks
+  short-of fit legal =
+      All-from_recursion (λ (o : OpenMark). IsShort o.mark) marks
+      (each-weaker (λ (o : OpenMark) is. subst IsShort (sym is) (fits-short (greatest m.checked) m.base (mark_at m o.by) top-small inside-of (fits-of fit legal o.by))) marks
+      (marks-all (greatest m.checked) (bounds_in m.checked) (own_of m.log) (above 0 m.log) marks h.listed (idle-above 0 m.log)).exact)
+
 -- ---- an operation
 
 -- the bounds that were read are those of the operation
@@ -122,7 +131,7 @@ fresh-kept covers fresh c numeric =
     record {
       numeric = numeric;
       covered = (covers c (checked-of c numeric)).0;
-      base_fits = numeric.table.initial_inside;
+      base_fits = numeric.numeric.initial_inside;
       ops_fit = All-from_recursion (λ (e : LogEntry). e.op < length c.file.table.ops) [] tt;
       room = omega arith;
       sound = fresh m (covers c (checked-of c numeric)).0 (record { base = refl; log = refl });

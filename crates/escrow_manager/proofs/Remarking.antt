@@ -69,8 +69,8 @@ wider top more mark b most h =
     }
 
 -- and its numbers stay small
-pub next-small : MarksFit → RunsAlong → (T : Table) (top base : ℕ) (ops : List Bounded) → AreBounds T top ops → base ≤ top → top ≤ 1023 → (log : List LogEntry) (t i : ℕ) (e : LogEntry) (b : Bounded) (mark : Mark) →
-    i < length log → e ≡ get_or log i e → slice_get ops e.op ≡ Some b → is_open_of t e ≡ true → IsLegal T (Some base) (own_of log t) → mark ≡ mark_of top ops (own_of (take i log) t) → IsSmall 1023 mark b
+pub next-small : MarksFit → RunsAlong → (T : Table) (top base : ℕ) (ops : List Bounded) → AreBounds T top ops → base ≤ top → top ≤ 4294967295 → (log : List LogEntry) (t i : ℕ) (e : LogEntry) (b : Bounded) (mark : Mark) →
+    i < length log → e ≡ get_or log i e → slice_get ops e.op ≡ Some b → is_open_of t e ≡ true → IsLegal T (Some base) (own_of log t) → mark ≡ mark_of top ops (own_of (take i log) t) → IsSmall 4294967295 mark b
 next-small fit along T top base ops bounds inside most log t i e b mark within read found mine legal so_far =
     let V = take i log in
     let own = own_of V t in
@@ -86,5 +86,5 @@ next-small fit along T top base ops bounds inside most log t i e b mark within r
     let here : IsLegal T (Some state.0) (e.op ∷ []) = legal-behind along T (Some base) own (e.op ∷ []) state.0 state.1 both in
     let between = (step-told T top base ops bounds state.0 e.op b found).1 here in
     let fits = fit T top base ops own bounds inside before in
-    subst (λ x. IsSmall 1023 x b) (sym so_far)
-    (wider top 1023 (mark_of top ops own) b most (more-small top base state.0 (mark_of top ops own) b inside fits (bounds.within e.op b found) between.0 between.1))
+    subst (λ x. IsSmall 4294967295 x b) (sym so_far)
+    (wider top 4294967295 (mark_of top ops own) b most (more-small top base state.0 (mark_of top ops own) b inside fits (bounds.within e.op b found) between.0 between.1))

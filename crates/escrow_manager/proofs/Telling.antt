@@ -14,7 +14,7 @@ use Rattle.escrow_laws.specs.declared.mark.Mark.{Mark}
 use Rattle.escrow_laws.specs.declared.mark.OpenMark.{OpenMark}
 use Rattle.escrow_laws.proofs.Numbers.{within, inside_is}
 use Rattle.escrow_manager.specs.Marks.{IsSmall}
-use Rattle.escrow_manager.specs.Totals.{totals_of, totals_with}
+use Rattle.escrow_manager.specs.Totals.{totals_of, totals_with, IsShort}
 use Rattle.escrow_manager.specs.Kept.{AreMarksOf}
 use Rattle.escrow_manager.specs.declared.totals.Totals.{Totals}
 use Rattle.escrow_manager.proofs.Marking.{marks-all}
@@ -89,11 +89,46 @@ sums-small tell T top base m ops own marks bounds inside known idle firm =
     let limit = limit-least top marks in
     record { fallen = omega (arith, low, inside); risen = omega (arith, high, limit); needed = omega (arith, low, inside); limit = limit }
 
+-- a mark that fits is short
+pub fits-short : (top base : ℕ) (mark : Mark) → top ≤ 4294967295 → base ≤ top → FitsIn top base mark → IsShort mark
+fits-short top base mark most inside fits =
+    let down = fits.down in
+    let up = fits.up in
+    let last = fits.most in
+    record { fall = omega (arith, down, inside, most); rise = omega (arith, up, most); ceiling = omega (arith, last, most) }
+
+-- so is a small one
+pub small-short : (top : ℕ) (mark : Mark) (b : Bounded) → top ≤ 4294967295 → IsSmall top mark b → IsShort mark
+small-short top mark b most one =
+    let fall = one.fall in
+    let rise = one.rise in
+    let ceiling = one.ceiling in
+    record { fall = omega (arith, fall, most); rise = omega (arith, rise, most); ceiling = omega (arith, ceiling, most) }
+
+-- also with one more operation
+pub more-short : (top : ℕ) (old new : Mark) (b : Bounded) → top ≤ 4294967295 → IsSmall top old b → new ≡ marked old b → IsShort new
+more-short top old new b most one is =
+    let low = one.low in
+    let enough = one.enough in
+    let gives = one.gives in
+    let fall = one.fall in
+    let rise = one.rise in
+    let high = one.above in
+    let ceiling = one.ceiling in
+    let new_fall = ap (λ (x : Mark). x.fall) is in
+    let new_rise = ap (λ (x : Mark). x.rise) is in
+    let new_ceiling = ap (λ (x : Mark). x.ceiling) is in
+    record {
+      fall = omega (arith, most, low, enough, fall, new_fall);
+      rise = omega (arith, most, gives, rise, high, new_rise);
+      ceiling = omega (arith, most, ceiling, new_ceiling);
+    }
+
 -- ---- the totals with another mark
 
 -- they stay small
-pub with-small : (top : ℕ) (marks : List OpenMark) (totals after : Totals) (old new : Mark) (b : Bounded) → top ≤ 1023 → totals ≡ totals_of top marks → AreSmall top marks → IsSmall top old b → new ≡ marked old b →
-    after ≡ totals_with totals old new → (after.fallen < 8000) × (after.risen < 8000) × (after.needed < 8000)
+pub with-small : (top : ℕ) (marks : List OpenMark) (totals after : Totals) (old new : Mark) (b : Bounded) → top ≤ 4294967295 → totals ≡ totals_of top marks → AreSmall top marks → IsSmall top old b → new ≡ marked old b →
+    after ≡ totals_with totals old new → (after.fallen < 17179869184) × (after.risen < 17179869184) × (after.needed < 17179869184)
 with-small top marks totals after old new b most summed all one is made =
     let low = one.low in
     let enough = one.enough in

@@ -1,5 +1,5 @@
 -- What is kept of all marks together: two sums and two extremes.
-use Rattle.std.specs.Prelude.{ℕ, ◌+◌, ◌-◌, ◌<◌, ◌≤◌, max, min, List}
+use Rattle.std.specs.Prelude.{ℕ, ◌+◌, ◌-◌, ◌^◌, ◌<◌, ◌≤◌, max, min, List}
 use Rattle.escrow_laws.specs.Marks.{fallen_of, risen_of, most_needed, least_limit}
 use Rattle.escrow_laws.specs.declared.mark.Mark.{Mark}
 use Rattle.escrow_laws.specs.declared.mark.OpenMark.{OpenMark}
@@ -11,6 +11,12 @@ need_of m = m.floor - m.fall
 
 abbrev pub limit_of : Mark → ℕ
 limit_of m = m.ceiling + m.rise
+
+-- its sums are far below what a word of 64 bits holds
+pub record IsShort (m : Mark) : Type 0 where
+  pub fall : m.fall < 2 ^ 62
+  pub rise : m.rise < 2 ^ 62
+  pub ceiling : m.ceiling < 2 ^ 62
 
 -- of marks on numbers from 0 to top
 abbrev pub totals_of : ℕ → List OpenMark → Totals

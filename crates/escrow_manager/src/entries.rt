@@ -1,6 +1,6 @@
 //! The entries of a transaction in the log of an object in escrow. All entries there are open.
 
-ghost use Rattle.std.specs.Prelude.{◌≡◌, false, ◌+◌, ◌^◌, ◌<◌, ◌≤◌, ◌-◌, ◌==◌, not, ◌&&◌, ◌||◌, nat_lt, true, Some, length, filter, cond, All};
+ghost use Rattle.std.specs.Prelude.{◌≡◌, false, ◌^◌, ◌<◌, ◌≤◌, ◌==◌, not, ◌&&◌, ◌||◌, nat_lt, true, Some, length, filter, cond, All};
 ghost use Rattle.std.specs.List.{find};
 ghost use Rattle.std.specs.Option.{option_map};
 ghost use Rattle.type_table.specs.Run.{IsLegal};
@@ -69,7 +69,7 @@ pub fn keep_first(log: &mut Vec<LogEntry>, t: u32, n: usize)
 
 /// The mark with one more operation, where it is mine.
 fn marked_if(mark: Mark, mine: bool, op: Bounded) -> Mark
-    requires { mine ≡ true → IsSmall 1023 mark op }
+    requires { mine ≡ true → IsSmall 4294967295 mark op }
     ensures { result ≡ cond mine (marked mark op) mark }
 {
     if mine { mark.marked(op) } else { mark }
@@ -104,7 +104,6 @@ fn is_keeper(
     top: u32,
 ) -> bool
     requires ordered { AreOrdered marks.now.items }
-    requires top { top + 1 < 2 ^ 32 }
     requires risen { totals.risen < 2 ^ 63 }
     ensures { result ≡ (not (entry.by == t.by) && mark_keeps base totals.fallen totals.risen t.mark (mark_in top entry.by marks.now.items)) }
 {
@@ -126,7 +125,6 @@ pub fn first_keeper(
     top: u32,
 ) -> Option<u32>
     requires ordered { AreOrdered marks.now.items }
-    requires top { top + 1 < 2 ^ 32 }
     requires risen { totals.risen < 2 ^ 63 }
     ensures { result ≡ option_map (λ e. e.by) (find (λ e. not (e.by == t.by) && mark_keeps base totals.fallen totals.risen t.mark (mark_in top e.by marks.now.items)) log.now.items) }
 {

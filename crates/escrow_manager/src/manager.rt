@@ -108,7 +108,8 @@ impl EscrowManager {
         marks_fit();
         firm_is_legal();
         let mark = self.mark_of(t);
-        self.base + mark.above - mark.fall
+        let number = u64::from(self.base) + mark.above - mark.fall;
+        number as u32
     }
 }
 
@@ -123,9 +124,7 @@ impl Recovery for EscrowManager {
     ghost meaning = { λ m. m };
 
     fn ops(&self) -> &[Op] {
-        // (read for its clause on what was tested)
-        let _file = self.checked.file();
-        self.checked.table().ops()
+        self.checked.ops()
     }
 
     fn state(&self) -> u32 {
@@ -197,7 +196,9 @@ impl Recovery for EscrowManager {
     }
 
     fn abort(&mut self, t: u32) {
+        marks_fit();
         extremes_tell_firm();
+        firm_is_legal();
         keeps_none::<LogEntry>();
         keeps_first::<LogEntry>();
         keeps_others::<LogEntry>();
@@ -208,6 +209,7 @@ impl Recovery for EscrowManager {
     }
 
     fn strike(&mut self, t: u32, m: u32) {
+        marks_fit();
         extremes_tell_firm();
         firm_is_legal();
         keeps_first::<LogEntry>();

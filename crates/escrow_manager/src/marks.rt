@@ -1,6 +1,6 @@
 //! The marks of open transactions, kept beside the log.
 
-ghost use Rattle.std.specs.Prelude.{◌≡◌, ◌<◌, ◌+◌, ◌^◌, true, false, length, ◌==◌, vec_len, vec_capacity};
+ghost use Rattle.std.specs.Prelude.{◌≡◌, ◌<◌, true, false, ◌==◌, vec_len, vec_capacity};
 ghost use Rattle.std.specs.List.{list_any};
 ghost use Rattle.escrow_manager.specs.Marks.{AreOrdered, place_of, IsAt, mark_in, with_mark, without_mark};
 
@@ -31,7 +31,6 @@ fn is_at(marks: &Vec<OpenMark>, at: usize, t: u32) -> bool
 pub fn mark_at(marks: &Vec<OpenMark>, at: usize, t: u32, top: u32) -> Mark
     requires ordered { AreOrdered marks.now.items }
     requires place { at ≡ place_of t marks.now.items }
-    requires top { top + 1 < 2 ^ 32 }
     ensures { result ≡ mark_in top t marks.now.items }
 {
     if is_at(marks, at, t) {
@@ -44,7 +43,6 @@ pub fn mark_at(marks: &Vec<OpenMark>, at: usize, t: u32, top: u32) -> Mark
 /// The same, where the place isn't asked for.
 pub fn mark_in(marks: &Vec<OpenMark>, t: u32, top: u32) -> Mark
     requires ordered { AreOrdered marks.now.items }
-    requires top { top + 1 < 2 ^ 32 }
     ensures { result ≡ mark_in top t marks.now.items }
 {
     let at = place_of(marks, t);

@@ -1,8 +1,8 @@
 //! What is kept of the marks of all open transactions together.
 
-ghost use Rattle.std.specs.Prelude.{◌≡◌, ◌↔◌, ◌≤◌, ◌<◌, ◌+◌, ◌^◌, true, []};
+ghost use Rattle.std.specs.Prelude.{◌≡◌, ◌↔◌, ◌≤◌, ◌<◌, ◌^◌, true, [], All};
 ghost use Rattle.escrow_laws.specs.Marks.{fallen_of, risen_of};
-ghost use Rattle.escrow_manager.specs.Totals.{need_of, limit_of, totals_of, totals_with, AreFirm};
+ghost use Rattle.escrow_manager.specs.Totals.{need_of, limit_of, totals_of, totals_with, IsShort, AreFirm};
 
 use escrow_laws::{Mark, OpenMark};
 
@@ -23,14 +23,15 @@ pub struct Totals {
 fn need_of(mark: Mark) -> u64
     ensures { result ≡ need_of mark }
 {
-    u64::from(mark.floor.saturating_sub(mark.fall))
+    mark.floor.saturating_sub(mark.fall)
 }
 
 /// Its limit and what it rises itself.
 fn limit_of(mark: Mark) -> u64
+    requires { IsShort mark }
     ensures { result ≡ limit_of mark }
 {
-    u64::from(mark.ceiling) + u64::from(mark.rise)
+    mark.ceiling + mark.rise
 }
 
 impl Totals {
@@ -48,8 +49,9 @@ impl Totals {
 
     /// Those of these marks, on numbers from 0 to `top`.
     pub fn of(marks: &Vec<OpenMark>, top: u32) -> Totals
-        requires fallen { fallen_of marks.now.items < 2 ^ 32 }
-        requires risen { risen_of marks.now.items < 2 ^ 32 }
+        requires short { All (λ o. IsShort o.mark) marks.now.items }
+        requires fallen { fallen_of marks.now.items < 2 ^ 62 }
+        requires risen { risen_of marks.now.items < 2 ^ 62 }
         ensures { result ≡ totals_of top marks.now.items }
     {
         let mut totals = Totals::none(top);
@@ -61,13 +63,14 @@ impl Totals {
 
     /// With a new mark in the place of an old one. The old one's need and limit still count.
     pub fn with(self, old: Mark, new: Mark) -> Totals
-        requires fallen { self.fallen < 2 ^ 32 }
-        requires risen { self.risen < 2 ^ 32 }
+        requires short { IsShort new }
+        requires fallen { self.fallen < 2 ^ 62 }
+        requires risen { self.risen < 2 ^ 62 }
         ensures { result ≡ totals_with self old new }
     {
         Totals {
-            fallen: self.fallen.saturating_sub(u64::from(old.fall)) + u64::from(new.fall),
-            risen: self.risen.saturating_sub(u64::from(old.rise)) + u64::from(new.rise),
+            fallen: self.fallen.saturating_sub(old.fall) + new.fall,
+            risen: self.risen.saturating_sub(old.rise) + new.rise,
             needed: self.needed.max(need_of(new)),
             limit: self.limit.min(limit_of(new)),
         }
@@ -76,6 +79,8 @@ impl Totals {
     /// Whether a new mark needs as much as the old one did, and stays as far below its limit: then the
     /// extremes of all follow from it and from those before.
     pub fn stand(old: Mark, new: Mark) -> bool
+        requires old { IsShort old }
+        requires new { IsShort new }
         ensures { (result ≡ true) ↔ ((need_of old ≤ need_of new) × (limit_of new ≤ limit_of old)) }
     {
         need_of(old) <= need_of(new) && limit_of(new) <= limit_of(old)
@@ -84,9 +89,12 @@ impl Totals {
     /// Those of these marks, of which the new one took the place of the old one: made anew only where
     /// the extremes may have been the old one's.
     pub fn after(self, old: Mark, new: Mark, marks: &Vec<OpenMark>, top: u32) -> Totals
-        requires before { (self.fallen < 2 ^ 32) × (self.risen < 2 ^ 32) }
-        requires fallen { fallen_of marks.now.items < 2 ^ 32 }
-        requires risen { risen_of marks.now.items < 2 ^ 32 }
+        requires before { (self.fallen < 2 ^ 62) × (self.risen < 2 ^ 62) }
+        requires old { IsShort old }
+        requires new { IsShort new }
+        requires short { All (λ o. IsShort o.mark) marks.now.items }
+        requires fallen { fallen_of marks.now.items < 2 ^ 62 }
+        requires risen { risen_of marks.now.items < 2 ^ 62 }
         requires told { need_of old ≤ need_of new → limit_of new ≤ limit_of old → totals_with self old new ≡ totals_of top marks.now.items }
         ensures { result ≡ totals_of top marks.now.items }
     {
@@ -99,9 +107,9 @@ impl Totals {
 
     /// Whether by these all is firm, so that nobody keeps anybody from what he did last.
     pub fn are_firm(self, base: u32) -> bool
-        requires fallen { self.fallen < 2 ^ 33 }
-        requires risen { self.risen < 2 ^ 33 }
-        requires needed { self.needed < 2 ^ 32 }
+        requires fallen { self.fallen < 2 ^ 63 }
+        requires risen { self.risen < 2 ^ 63 }
+        requires needed { self.needed < 2 ^ 63 }
         ensures { (result ≡ true) ↔ AreFirm base self }
     {
         self.fallen + self.needed <= u64::from(base) && u64::from(base) + self.risen < self.limit

@@ -26,13 +26,17 @@ abbrev pub word_if : Option Op → List ℕ
 word_if None = []
 word_if (Some op) = word_of op
 
--- the operation of a number
-abbrev pub op_word : Table → ℕ → List ℕ
-op_word T k = word_if (slice_get T.ops k)
+-- the operation of a number, of these
+abbrev pub op_word : List Op → ℕ → List ℕ
+op_word ops k = word_if (slice_get ops k)
 
 -- each after a space
+abbrev pub listed_words : List Op → List ℕ → List ℕ
+listed_words ops ks = flat_map (λ k. 32 ∷ op_word ops k) ks
+
+-- those of a table
 abbrev pub op_words : Table → List ℕ → List ℕ
-op_words T ks = flat_map (λ k. 32 ∷ op_word T k) ks
+op_words T ks = listed_words T.ops ks
 
 -- a line of a keyword and operations
 abbrev pub ops_line : List ℕ → Table → List ℕ → List ℕ

@@ -6,12 +6,14 @@ ghost use Rattle.outputs.specs.Out.{Puts};
 ghost use Rattle.type_table.specs.Table.{next};
 ghost use Rattle.escrow_laws.specs.Bounds.{bounded_at, bounds_of};
 ghost use Rattle.escrow_laws.specs.Faults.{HasGap, IsNumericFault};
+ghost use Rattle.table_checker.specs.Declarations.{table_of};
 ghost use Rattle.explaining.specs.Numeric.{IsFirstLegalFrom, IsLegalFrom, IsWhyNot, bounds_line, bounds_text, bounds_words, fault_line, move_word, spaced_numbers, why_not_line};
 
-use crate::write::write_ops;
+use crate::write::{write_listed, write_ops};
 use escrow_laws::Bounded;
 use itoa::Buffer;
 use outputs::{Out, OutFault, items_in_turn, put, put_all, texts_in_turn};
+use table_checker::DeclaredType;
 use type_table::{TypeTable, steps_within};
 
 /// The states that show that an operation isn't one of a number, at a state.
@@ -29,61 +31,61 @@ pub enum WhyNot {
 ///
 /// The fault that stopped the output, which then took a beginning of the text.
 pub fn write_bounds<W: Out>(
-    table: &TypeTable,
+    declared: &DeclaredType,
     bounds: &[Bounded],
     ops: &[u8],
     out: &mut W,
 ) -> Result<(), OutFault>
     requires no_fault { W.fault out.old ≡ None }
-    requires bounds { bounds.now ≡ bounds_of table.now }
-    requires ops { All (λ k. k < length table.now.ops) ops.now }
-    ensures { Puts (W.taken out.old) (W.taken out.new) (W.fault out.new) (bounds_text table.now ops.now) result }
+    requires bounds { bounds.now ≡ bounds_of (table_of declared.now) }
+    requires ops { All (λ k. k < length (table_of declared.now).ops) ops.now }
+    ensures { Puts (W.taken out.old) (W.taken out.new) (W.fault out.new) (bounds_text (table_of declared.now) ops.now) result }
 {
     texts_in_turn();
     items_in_turn::<u8>();
     for k in ops {
-        write_bounds_line(table, bounds, *k, out)?;
+        write_bounds_line(declared, bounds, *k, out)?;
     }
     Ok(())
 }
 
 fn write_bounds_line<W: Out>(
-    table: &TypeTable,
+    declared: &DeclaredType,
     bounds: &[Bounded],
     k: u8,
     out: &mut W,
 ) -> Result<(), OutFault>
     requires no_fault { W.fault out.old ≡ None }
-    requires bounds { bounds.now ≡ bounds_of table.now }
-    requires operation { k < length table.now.ops }
-    ensures { Puts (W.taken out.old) (W.taken out.new) (W.fault out.new) (bounds_line table.now k) result }
+    requires bounds { bounds.now ≡ bounds_of (table_of declared.now) }
+    requires operation { k < length (table_of declared.now).ops }
+    ensures { Puts (W.taken out.old) (W.taken out.new) (W.fault out.new) (bounds_line (table_of declared.now) k) result }
 {
     texts_in_turn();
     put(out, b"bounds")?;
-    write_ops(table, &[k], out)?;
-    write_bounds_at(table, bounds, k, out)?;
+    write_listed(declared.ops(), &[k], out)?;
+    write_bounds_at(declared, bounds, k, out)?;
     put(out, b"\n")
 }
 
 fn write_bounds_at<W: Out>(
-    table: &TypeTable,
+    declared: &DeclaredType,
     bounds: &[Bounded],
     k: u8,
     out: &mut W,
 ) -> Result<(), OutFault>
     requires no_fault { W.fault out.old ≡ None }
-    requires bounds { bounds.now ≡ bounds_of table.now }
-    requires operation { k < length table.now.ops }
-    ensures { Puts (W.taken out.old) (W.taken out.new) (W.fault out.new) (bounds_words (bounded_at table.now k)) result }
+    requires bounds { bounds.now ≡ bounds_of (table_of declared.now) }
+    requires operation { k < length (table_of declared.now).ops }
+    ensures { Puts (W.taken out.old) (W.taken out.new) (W.fault out.new) (bounds_words (bounded_at (table_of declared.now) k)) result }
 {
-    write_bounds_words(bounds_at(table, bounds, k), out)
+    write_bounds_words(bounds_at(declared, bounds, k), out)
 }
 
 /// The bounds of an operation.
-fn bounds_at(table: &TypeTable, bounds: &[Bounded], k: u8) -> Bounded
-    requires bounds { bounds.now ≡ bounds_of table.now }
-    requires operation { k < length table.now.ops }
-    ensures { result ≡ bounded_at table.now k }
+fn bounds_at(declared: &DeclaredType, bounds: &[Bounded], k: u8) -> Bounded
+    requires bounds { bounds.now ≡ bounds_of (table_of declared.now) }
+    requires operation { k < length (table_of declared.now).ops }
+    ensures { result ≡ bounded_at (table_of declared.now) k }
 {
     bounds[usize::from(k)]
 }

@@ -14,7 +14,7 @@ use crate::witness::Witness;
 use crate::write::{write_letter, write_ops, write_ops_line};
 use outputs::{Out, OutFault, items_in_turn, put, put_all, texts_in_turn};
 use type_table::{StateSet, TableKind, TypeTable};
-use type_text::TypeFile;
+use type_text::{TypeFile, is_whole};
 
 /// Writes the lines on a pair. It takes no memory.
 ///
@@ -401,19 +401,6 @@ fn has_line(file: &TypeFile, whole: bool, s: u16) -> bool
     ensures { result ≡ has_line file.now s }
 {
     !whole && file.reach.has(s)
-}
-
-/// Whether a set is that of all states.
-fn is_whole(set: &StateSet, states: u16) -> bool
-    requires { length set.now ≡ states }
-    ensures { result ≡ is_whole set.now }
-{
-    for s in 0..states {
-        if !set.has(s) {
-            return false;
-        }
-    }
-    true
 }
 
 /// Writes the pairs that the relation lacks.

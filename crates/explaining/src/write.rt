@@ -3,7 +3,7 @@
 ghost use Rattle.std.specs.Prelude.{◌≡◌, ◌∷◌, [], None, length, if◌then◌else◌};
 ghost use Rattle.std.specs.List.{flat_map};
 ghost use Rattle.outputs.specs.Out.{Puts};
-ghost use Rattle.explaining.specs.Text.{op_word, op_words, ops_line, letter_text, letters, row_line, row_text, pair_text, is_plain, explanation_text, letter, word_of};
+ghost use Rattle.explaining.specs.Text.{op_word, listed_words, op_words, ops_line, letter_text, letters, row_line, row_text, pair_text, is_plain, explanation_text, letter, word_of};
 
 use crate::explained::{Explained, Row};
 use crate::need::Need;
@@ -156,35 +156,43 @@ fn write_if_noted<W: Out>(
     write_pair(kind, file, led, pair, out)
 }
 
-/// Writes operations, each after a space.
+/// Writes operations of a table, each after a space.
 pub fn write_ops<W: Out>(table: &TypeTable, ops: &[u8], out: &mut W) -> Result<(), OutFault>
     requires { W.fault out.old ≡ None }
     ensures { Puts (W.taken out.old) (W.taken out.new) (W.fault out.new) (op_words table.now ops.now) result }
 {
+    write_listed(table.ops(), ops, out)
+}
+
+/// Writes operations of these by their numbers, each after a space.
+pub fn write_listed<W: Out>(ops: &[Op], numbers: &[u8], out: &mut W) -> Result<(), OutFault>
+    requires { W.fault out.old ≡ None }
+    ensures { Puts (W.taken out.old) (W.taken out.new) (W.fault out.new) (listed_words ops.now numbers.now) result }
+{
     texts_in_turn();
     items_in_turn::<u8>();
-    for k in ops {
-        write_op(table, *k, out)?;
+    for k in numbers {
+        write_op(ops, *k, out)?;
     }
     Ok(())
 }
 
 /// Writes an operation after a space.
-fn write_op<W: Out>(table: &TypeTable, k: u8, out: &mut W) -> Result<(), OutFault>
+fn write_op<W: Out>(ops: &[Op], k: u8, out: &mut W) -> Result<(), OutFault>
     requires { W.fault out.old ≡ None }
-    ensures { Puts (W.taken out.old) (W.taken out.new) (W.fault out.new) (32 ∷ op_word table.now k) result }
+    ensures { Puts (W.taken out.old) (W.taken out.new) (W.fault out.new) (32 ∷ op_word ops.now k) result }
 {
     texts_in_turn();
     put(out, b" ")?;
-    write_numbered(table, k, out)
+    write_numbered(ops, k, out)
 }
 
 /// Writes the operation of a number.
-fn write_numbered<W: Out>(table: &TypeTable, k: u8, out: &mut W) -> Result<(), OutFault>
+fn write_numbered<W: Out>(ops: &[Op], k: u8, out: &mut W) -> Result<(), OutFault>
     requires { W.fault out.old ≡ None }
-    ensures { Puts (W.taken out.old) (W.taken out.new) (W.fault out.new) (op_word table.now k) result }
+    ensures { Puts (W.taken out.old) (W.taken out.new) (W.fault out.new) (op_word ops.now k) result }
 {
-    match table.ops().get(usize::from(k)) {
+    match ops.get(usize::from(k)) {
         None => Ok(()),
         Some(op) => write_word(op, out),
     }

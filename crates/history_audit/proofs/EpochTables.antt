@@ -1,5 +1,5 @@
 -- Tables that begin at given states, one after another.
-use Rattle.std.proofs.Common.{◌≡◌, ℕ, zero, suc, List, [], ◌∷◌, length, take, Some, slice_get, slice_set, refl, sym, ap}
+use Rattle.std.proofs.Common.{◌≡◌, ℕ, zero, suc, List, [], ◌∷◌, length, map, take, Bor, Some, slice_get, slice_set, refl, sym, ap}
 use Rattle.std.proofs.lemmas.Option.{none-some, same_Some}
 use Rattle.type_table.specs.Table.{Table, table_at}
 use Rattle.history_audit.specs.Epochs.{tables_at}
@@ -31,3 +31,8 @@ one-begun (U ∷ tables) [] x T s at there = absurd (none-some s there)
 one-begun (U ∷ tables) (r ∷ states) zero T s at there =
     rw (sym (same_Some U T at), sym (same_Some r s there)) (rw (none-begun tables) refl)
 one-begun (U ∷ tables) (r ∷ states) (suc x) T s at there = ap (λ them. table_at U r ∷ them) (one-begun tables states x T s at there)
+
+-- what is borrowed has the tables of what it points to
+pub tables-shown : {A : Type 0} (f : A → Table) (xs : List (Bor A)) → map (λ t. f t.now) xs ≡ map f (map (λ t. t.now) xs)
+tables-shown f [] = refl
+tables-shown f (t ∷ xs) = ap (λ them. f t.now ∷ them) (tables-shown f xs)

@@ -1,4 +1,5 @@
 ghost use Rattle.std.specs.Prelude.{map, IfOk};
+ghost use Rattle.table_checker.specs.Declarations.{table_of};
 ghost use Rattle.history_audit.specs.Audit.{Audits};
 ghost use Rattle.history_audit.specs.Replay.{AreStates};
 
@@ -6,9 +7,9 @@ use crate::auditor::Auditor;
 use crate::outcome::{Audit, AuditFault};
 use object_trait::Event;
 use std::alloc::{AllocError, Global};
-use type_table::TypeTable;
+use table_checker::DeclaredType;
 
-/// Audits events at objects of these tables, in time linear in the events. At `Ok` the events are a history and
+/// Audits events at objects of these types, in time linear in the events. At `Ok` the events are a history and
 /// serially legal, and each serial state is one of its
 /// object's table.
 ///
@@ -16,16 +17,16 @@ use type_table::TypeTable;
 ///
 /// `BadEvent` where the events are no history, with the first bad one; `IllegalOp` where they are one that isn't
 /// serially legal, with the first illegal operation; `NoMemory` where memory was refused.
-pub fn audit(alloc: Global, events: &[Event], tables: &[&TypeTable]) -> Result<Audit, AuditFault>
-    ensures audits { Audits (map (λ t. t.now) tables.now) events.now result }
-    ensures states { IfOk result (λ a. AreStates (map (λ t. t.now) tables.now) a.finals.items) }
+pub fn audit(alloc: Global, events: &[Event], types: &[&DeclaredType]) -> Result<Audit, AuditFault>
+    ensures audits { Audits (map (λ t. table_of t.now) types.now) events.now result }
+    ensures states { IfOk result (λ a. AreStates (map (λ t. table_of t.now) types.now) a.finals.items) }
 {
-    let mut auditor = match Auditor::new(alloc, tables) {
+    let mut auditor = match Auditor::new(alloc, types) {
         Ok(auditor) => auditor,
         Err(AllocError) => return Err(AuditFault::NoMemory),
     };
     for at in 0..events.len() {
-        auditor.take(tables, events, at)?;
+        auditor.take(types, events, at)?;
     }
     auditor.outcome()
 }

@@ -2,6 +2,7 @@
 
 ghost use Rattle.std.specs.Prelude.{◌≡◌, ◌+◌, ◌<◌, [], map, length, take, Err, IfOk, MatchResult, MatchOption};
 ghost use Rattle.std.specs.Result.{IsOkAnd};
+ghost use Rattle.table_checker.specs.Declarations.{table_of};
 ghost use Rattle.history_audit.specs.Audit.{Audits};
 ghost use Rattle.history_audit.specs.Auditor.{IsAuditing};
 
@@ -12,7 +13,8 @@ use crate::serial_run::SerialRun;
 use object_trait::Event;
 use serial_order::{own_after, summary_after};
 use std::alloc::{AllocError, Global};
-use type_table::{TypeTable, runs_along};
+use table_checker::DeclaredType;
+use type_table::runs_along;
 
 /// What an audit keeps of the events so far: what their judge keeps, and the run of what they commit.
 #[derive(Drop)]
@@ -23,11 +25,11 @@ pub struct Auditor {
 
 impl Auditor {
     /// Before the first event.
-    pub fn new(alloc: Global, tables: &[&TypeTable]) -> Result<Auditor, AllocError>
-        ensures { IfOk result (λ a. IsAuditing (map (λ t. t.now) tables.now) [] a) }
+    pub fn new(alloc: Global, types: &[&DeclaredType]) -> Result<Auditor, AllocError>
+        ensures { IfOk result (λ a. IsAuditing (map (λ t. table_of t.now) types.now) [] a) }
     {
         nothing_began();
-        let serial = SerialRun::new(alloc, tables)?;
+        let serial = SerialRun::new(alloc, types)?;
         Ok(Auditor {
             judge: Judge::new(alloc),
             serial,
@@ -37,23 +39,23 @@ impl Auditor {
     /// Takes the event at this place, after those before it.
     pub fn take(
         &mut self,
-        tables: &[&TypeTable],
+        types: &[&DeclaredType],
         events: &[Event],
         at: usize,
     ) -> Result<(), AuditFault>
         requires inside { at < length events.now }
-        requires so_far { IsAuditing (map (λ t. t.now) tables.now) (take at events.now) self.old }
-        ensures { MatchResult result (λ _. IsAuditing (map (λ t. t.now) tables.now) (take (at + 1) events.now) self.new)
-            (λ fault. Audits (map (λ t. t.now) tables.now) events.now (Err fault)) }
+        requires so_far { IsAuditing (map (λ t. table_of t.now) types.now) (take at events.now) self.old }
+        ensures { MatchResult result (λ _. IsAuditing (map (λ t. table_of t.now) types.now) (take (at + 1) events.now) self.new)
+            (λ fault. Audits (map (λ t. table_of t.now) types.now) events.now (Err fault)) }
     {
         summary_after();
         own_after();
         runs_along();
-        match self.judge.take(tables, events, at) {
+        match self.judge.take(types, events, at) {
             Ok(None) => Ok(()),
             Ok(Some(committed)) => {
                 let operations = committed.operations.as_slice();
-                match self.serial.take(tables, committed.number, operations) {
+                match self.serial.take(types, committed.number, operations) {
                     Ok(()) => Ok(()),
                     Err(AllocError) => Err(AuditFault::NoMemory),
                 }

@@ -2,6 +2,7 @@
 
 ghost use Rattle.std.specs.Prelude.{◌≡◌, ◌<◌, ◌++◌, ◌∷◌, [], length, map, IfErr, IfOk};
 ghost use Rattle.std.specs.List.{AllByRecursion};
+ghost use Rattle.table_checker.specs.Declarations.{table_of};
 ghost use Rattle.serial_order.specs.History.{IsHistory};
 ghost use Rattle.history_audit.specs.Commits.{AreCommits, ArePlaces, IsPlace, NoneAborts, numbers};
 ghost use Rattle.history_audit.specs.Judged.{StopsJudge};
@@ -14,7 +15,7 @@ use object_trait::Event;
 use serial_order::{own_after, summary_after};
 use std::alloc::{AllocError, Global};
 use std::marker::Model;
-use type_table::TypeTable;
+use table_checker::DeclaredType;
 
 /// The committed transactions of a history. Contracts see the list of them, in commit order.
 #[derive(Drop)]
@@ -46,14 +47,14 @@ impl Commits {
     pub fn new(
         alloc: Global,
         events: &[Event],
-        tables: &[&TypeTable],
+        types: &[&DeclaredType],
     ) -> Result<Commits, AuditFault>
-        ensures history { IfOk result (λ _. IsHistory (map (λ t. t.now) tables.now) events.now) }
-        ensures all { IfOk result (AreCommits (map (λ t. t.now) tables.now) events.now) }
+        ensures history { IfOk result (λ _. IsHistory (map (λ t. table_of t.now) types.now) events.now) }
+        ensures all { IfOk result (AreCommits (map (λ t. table_of t.now) types.now) events.now) }
         ensures apart { IfOk result (λ _. NoneAborts events.now) }
-        ensures refused { IfErr result (StopsJudge (map (λ t. t.now) tables.now) events.now) }
+        ensures refused { IfErr result (StopsJudge (map (λ t. table_of t.now) types.now) events.now) }
     {
-        let list = gather(alloc, events, tables)?;
+        let list = gather(alloc, events, types)?;
         match places_of(alloc, &list, events.len()) {
             Ok(places) => Ok(Commits { list, places }),
             Err(AllocError) => Err(AuditFault::NoMemory),
@@ -89,13 +90,13 @@ impl Commits {
 fn gather(
     alloc: Global,
     events: &[Event],
-    tables: &[&TypeTable],
+    types: &[&DeclaredType],
 ) -> Result<Vec<Committed>, AuditFault>
-    ensures history { IfOk result (λ _. IsHistory (map (λ t. t.now) tables.now) events.now) }
-    ensures gathered { IfOk result (λ them. AreCommits (map (λ t. t.now) tables.now) events.now them.items) }
+    ensures history { IfOk result (λ _. IsHistory (map (λ t. table_of t.now) types.now) events.now) }
+    ensures gathered { IfOk result (λ them. AreCommits (map (λ t. table_of t.now) types.now) events.now them.items) }
     ensures apart { IfOk result (λ _. NoneAborts events.now) }
     ensures below { IfOk result (λ them. AllByRecursion (λ c. c.number < length events.now) them.items) }
-    ensures refused { IfErr result (StopsJudge (map (λ t. t.now) tables.now) events.now) }
+    ensures refused { IfErr result (StopsJudge (map (λ t. table_of t.now) types.now) events.now) }
 {
     nothing_began();
     summary_after();
@@ -103,7 +104,7 @@ fn gather(
     let mut judge = Judge::new(alloc);
     let mut commits = Vec::new(alloc);
     for at in 0..events.len() {
-        if let Some(committed) = judge.take(tables, events, at)? {
+        if let Some(committed) = judge.take(types, events, at)? {
             push(&mut commits, committed)?;
         }
     }

@@ -2,6 +2,7 @@
 
 ghost use Rattle.std.specs.Prelude.{◌≡◌, ◌++◌, ◌∷◌, [], ℕ, List, true, map, IfErr, IfOk, MatchResult, OnOk};
 ghost use Rattle.std.specs.List.{AllByRecursion};
+ghost use Rattle.table_checker.specs.Declarations.{table_of};
 ghost use Rattle.object_trait.specs.declared.event.Event.{Event as EventValue};
 ghost use Rattle.serial_order.specs.History.{commits};
 ghost use Rattle.serial_order.specs.Operations.{is_among};
@@ -19,9 +20,10 @@ use crate::outcome::{Audit, AuditFault};
 use crate::serial_run::SerialRun;
 use object_trait::Event;
 use std::alloc::{AllocError, Global};
-use type_table::{TypeTable, runs_along};
+use table_checker::DeclaredType;
+use type_table::runs_along;
 
-/// Audits events at objects of these tables in this order of the committed transactions, in time linear in the
+/// Audits events at objects of these types in this order of the committed transactions, in time linear in the
 /// events. At `Ok` the events are a history, the order is one of its committed transactions that keeps what
 /// precedes, and each state to which it leads is one of its object's table.
 ///
@@ -34,18 +36,18 @@ use type_table::{TypeTable, runs_along};
 pub fn audit_in_order(
     alloc: Global,
     events: &[Event],
-    tables: &[&TypeTable],
+    types: &[&DeclaredType],
     order: &[u32],
 ) -> Result<Audit, InOrderFault>
-    ensures audits { AuditsInOrder (map (λ t. t.now) tables.now) events.now order.now result }
-    ensures states { IfOk result (λ a. AreStates (map (λ t. t.now) tables.now) a.finals.items) }
+    ensures audits { AuditsInOrder (map (λ t. table_of t.now) types.now) events.now order.now result }
+    ensures states { IfOk result (λ a. AreStates (map (λ t. table_of t.now) types.now) a.finals.items) }
 {
-    let committed = match Commits::new(alloc, events, tables) {
+    let committed = match Commits::new(alloc, events, types) {
         Ok(committed) => committed,
         Err(fault) => return Err(InOrderFault::Audit(fault)),
     };
     test_order(alloc, events, &committed, order)?;
-    match run_in_order(alloc, tables, &committed, order) {
+    match run_in_order(alloc, types, &committed, order) {
         Ok(audit) => Ok(audit),
         Err(fault) => Err(InOrderFault::Audit(fault)),
     }
@@ -72,21 +74,21 @@ fn test_order(
 /// Runs the operations of these transactions in this order.
 fn run_in_order(
     alloc: Global,
-    tables: &[&TypeTable],
+    types: &[&DeclaredType],
     committed: &Commits,
     order: &[u32],
 ) -> Result<Audit, AuditFault>
     requires committed { AreCommitted (numbers committed.now) order.now }
-    requires there { AllByRecursion (λ c. AreOperations (map (λ t. t.now) tables.now) c.operations) committed.now }
-    ensures runs { (H : List EventValue) → AreCommits (map (λ t. t.now) tables.now) H committed.now → RunsInOrder (map (λ t. t.now) tables.now) H order.now result }
-    ensures states { IfOk result (λ a. AreStates (map (λ t. t.now) tables.now) a.finals.items) }
+    requires there { AllByRecursion (λ c. AreOperations (map (λ t. table_of t.now) types.now) c.operations) committed.now }
+    ensures runs { (H : List EventValue) → AreCommits (map (λ t. table_of t.now) types.now) H committed.now → RunsInOrder (map (λ t. table_of t.now) types.now) H order.now result }
+    ensures states { IfOk result (λ a. AreStates (map (λ t. table_of t.now) types.now) a.finals.items) }
 {
-    let mut run = match SerialRun::new(alloc, tables) {
+    let mut run = match SerialRun::new(alloc, types) {
         Ok(run) => run,
         Err(AllocError) => return Err(AuditFault::NoMemory),
     };
     for t in order {
-        take_one(&mut run, tables, committed, *t)?;
+        take_one(&mut run, types, committed, *t)?;
     }
     run.outcome()
 }
@@ -94,16 +96,16 @@ fn run_in_order(
 /// Runs the operations of t after those of the transactions before it.
 fn take_one(
     run: &mut SerialRun,
-    tables: &[&TypeTable],
+    types: &[&DeclaredType],
     committed: &Commits,
     t: u32,
 ) -> Result<(), AuditFault>
     requires committed { is_among (numbers committed.now) t ≡ true }
-    requires there { AllByRecursion (λ c. AreOperations (map (λ t. t.now) tables.now) c.operations) committed.now }
-    requires states { AreStates (map (λ t. t.now) tables.now) run.old.states.items }
-    ensures states { AreStates (map (λ t. t.now) tables.now) run.new.states.items }
-    ensures ok { OnOk result ((H : List EventValue) (ts : List ℕ) → AreCommits (map (λ t. t.now) tables.now) H committed.now
-        → IsRunOf (map (λ t. t.now) tables.now) H ts run.old → IsRunOf (map (λ t. t.now) tables.now) H (ts ++ t ∷ []) run.new) }
+    requires there { AllByRecursion (λ c. AreOperations (map (λ t. table_of t.now) types.now) c.operations) committed.now }
+    requires states { AreStates (map (λ t. table_of t.now) types.now) run.old.states.items }
+    ensures states { AreStates (map (λ t. table_of t.now) types.now) run.new.states.items }
+    ensures ok { OnOk result ((H : List EventValue) (ts : List ℕ) → AreCommits (map (λ t. table_of t.now) types.now) H committed.now
+        → IsRunOf (map (λ t. table_of t.now) types.now) H ts run.old → IsRunOf (map (λ t. table_of t.now) types.now) H (ts ++ t ∷ []) run.new) }
     ensures err { IfErr result (λ fault. fault ≡ AuditFault.NoMemory) }
 {
     runs_along();
@@ -111,7 +113,7 @@ fn take_one(
         return Ok(());
     };
     let operations = committed.as_slice()[place].operations.as_slice();
-    match run.take(tables, t, operations) {
+    match run.take(types, t, operations) {
         Ok(()) => Ok(()),
         Err(AllocError) => Err(AuditFault::NoMemory),
     }

@@ -2,6 +2,7 @@ ghost use Rattle.std.specs.Prelude.{◌≡◌, ◌↔◌, ◌+◌, ◌<◌, ℕ,
 ghost use Rattle.type_table.specs.Table.{Table};
 ghost use Rattle.serial_order.specs.History.{IsOperation};
 ghost use Rattle.object_trait.specs.declared.event.EventKind.TheVariants as kind;
+ghost use Rattle.table_checker.specs.Declarations.{table_of};
 ghost use Rattle.history_audit.specs.Judges.{Judges, Takes, handed};
 ghost use Rattle.history_audit.specs.Judged.{IsHanded, IsJudged, StopsJudge, fault_at};
 
@@ -16,7 +17,7 @@ use object_trait::{Event, EventKind};
 use serial_order::summary_after;
 use std::alloc::Global;
 use std::marker::Model;
-use type_table::TypeTable;
+use table_checker::DeclaredType;
 
 /// What comes of an event: it is taken, or why it isn't.
 type Verdict = Result<(), EventFault>;
@@ -49,15 +50,15 @@ impl Judge {
 
     /// Judges one more event. What a commit commits is let go: `commit` hands it out. Where the event is bad or
     /// memory was refused, nothing changes.
-    pub fn judge(&mut self, tables: &[&TypeTable], event: EventKind) -> Result<(), EventFault>
-        ensures judged { Takes (map (λ t. t.now) tables.now) self.old event result self.new }
+    pub fn judge(&mut self, types: &[&DeclaredType], event: EventKind) -> Result<(), EventFault>
+        ensures judged { Takes (map (λ t. table_of t.now) types.now) self.old event result self.new }
         ensures kept { OnErr result (self.new ≡ self.old) }
     {
         match event {
             EventKind::Begin { t } => self.begin(t),
-            EventKind::Op { t, x, k } => self.op(tables, t, Operation { x, k }),
-            EventKind::Busy { c, t, x, .. } => self.unanswered(tables, t, Operation { x, k: c }),
-            EventKind::None { t, x, c } => self.unanswered(tables, t, Operation { x, k: c }),
+            EventKind::Op { t, x, k } => self.op(types, t, Operation { x, k }),
+            EventKind::Busy { c, t, x, .. } => self.unanswered(types, t, Operation { x, k: c }),
+            EventKind::None { t, x, c } => self.unanswered(types, t, Operation { x, k: c }),
             EventKind::Commit { t } => match self.commit(t) {
                 Ok(_) => Ok(()),
                 Err(fault) => Err(fault),
@@ -80,17 +81,17 @@ impl Judge {
         Ok(self.rows.end(t))
     }
 
-    /// Judges the event at this place, behind those before it, and hands out the transaction that it commits.
+    /// Judges the event at this place, after those before it, and hands out the transaction that it commits.
     pub fn take(
         &mut self,
-        tables: &[&TypeTable],
+        types: &[&DeclaredType],
         events: &[Event],
         at: usize,
     ) -> Result<Option<Committed>, AuditFault>
         requires inside { at < length events.now }
-        requires so_far { IsJudged (map (λ t. t.now) tables.now) (take at events.now) self.old }
-        ensures taken { IfOk result (λ done. IsJudged (map (λ t. t.now) tables.now) (take (at + 1) events.now) self.new × IsHanded (map (λ t. t.now) tables.now) events.now at done) }
-        ensures refused { IfErr result (StopsJudge (map (λ t. t.now) tables.now) events.now) }
+        requires so_far { IsJudged (map (λ t. table_of t.now) types.now) (take at events.now) self.old }
+        ensures taken { IfOk result (λ done. IsJudged (map (λ t. table_of t.now) types.now) (take (at + 1) events.now) self.new × IsHanded (map (λ t. table_of t.now) types.now) events.now at done) }
+        ensures refused { IfErr result (StopsJudge (map (λ t. table_of t.now) types.now) events.now) }
     {
         summary_after();
         let event = events[at];
@@ -102,7 +103,7 @@ impl Judge {
                 })),
                 Err(fault) => Err(fault_at(fault, at)),
             },
-            kind => match self.judge(tables, kind) {
+            kind => match self.judge(types, kind) {
                 Ok(()) => Ok(None),
                 Err(fault) => Err(fault_at(fault, at)),
             },
@@ -125,12 +126,12 @@ impl Judge {
     }
 
     // An operation of an open transaction.
-    fn op(&mut self, tables: &[&TypeTable], t: u32, operation: Operation) -> Verdict
-        ensures judged { Takes (map (λ t. t.now) tables.now) self.old (kind.Op t operation.x operation.k) result self.new }
+    fn op(&mut self, types: &[&DeclaredType], t: u32, operation: Operation) -> Verdict
+        ensures judged { Takes (map (λ t. table_of t.now) types.now) self.old (kind.Op t operation.x operation.k) result self.new }
         ensures kept { OnErr result (self.new ≡ self.old) }
     {
         moved_rows_agree();
-        if !is_operation(tables, operation) {
+        if !is_operation(types, operation) {
             return Err(EventFault::Bad);
         }
         if !self.rows.is_open(t) {
@@ -143,12 +144,12 @@ impl Judge {
     }
 
     // An answer to an open transaction that isn't an operation, which changes nothing.
-    fn unanswered(&self, tables: &[&TypeTable], t: u32, operation: Operation) -> Verdict
-        ensures busy { (u : ℕ) → Takes (map (λ t. t.now) tables.now) self.now (kind.Busy operation.k t operation.x u) result self.now }
-        ensures none { Takes (map (λ t. t.now) tables.now) self.now (kind.None t operation.x operation.k) result self.now }
+    fn unanswered(&self, types: &[&DeclaredType], t: u32, operation: Operation) -> Verdict
+        ensures busy { (u : ℕ) → Takes (map (λ t. table_of t.now) types.now) self.now (kind.Busy operation.k t operation.x u) result self.now }
+        ensures none { Takes (map (λ t. table_of t.now) types.now) self.now (kind.None t operation.x operation.k) result self.now }
     {
         moved_rows_agree();
-        if !is_operation(tables, operation) {
+        if !is_operation(types, operation) {
             return Err(EventFault::Bad);
         }
         if !self.rows.is_open(t) {
@@ -200,11 +201,11 @@ fn fault_at(fault: EventFault, at: usize) -> AuditFault
 }
 
 /// Whether the object is there and the operation is one of its table.
-fn is_operation(tables: &[&TypeTable], operation: Operation) -> bool
-    ensures { IsTrue result ↔ IsOperation (slice_get (map (λ t. t.now) tables.now) operation.x) operation.k }
+fn is_operation(types: &[&DeclaredType], operation: Operation) -> bool
+    ensures { IsTrue result ↔ IsOperation (slice_get (map (λ t. table_of t.now) types.now) operation.x) operation.k }
 {
-    match tables.get(operation.x as usize) {
-        Some(table) => operation.k < table.op_count(),
+    match types.get(operation.x as usize) {
+        Some(declared) => operation.k < declared.op_count(),
         None => false,
     }
 }

@@ -10,7 +10,7 @@ pub struct Audit {
     /// The committed transactions in commit order.
     pub order: Vec<u32>,
     /// For each object the state after the serial order.
-    pub finals: Vec<u16>,
+    pub finals: Vec<u32>,
 }
 
 /// Why an audit has no yes.

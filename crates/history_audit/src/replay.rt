@@ -2,11 +2,13 @@
 
 ghost use Rattle.std.specs.Prelude.{◌≡◌, ◌<◌, map, length, Some, IfSome, slice_get};
 ghost use Rattle.type_table.specs.Table.{Table};
+ghost use Rattle.table_checker.specs.Declarations.{table_of};
 ghost use Rattle.serial_order.specs.History.{IsOperation};
 ghost use Rattle.history_audit.specs.Replay.{ops_at, AreOperations, AreStates, next_at, is_stopped_at, states_after, stop_after, AreReplayed};
 
 use crate::operation::Operation;
-use type_table::{TypeTable, runs_along};
+use table_checker::DeclaredType;
+use type_table::runs_along;
 
 /// Where a replay stopped: an operation that isn't legal, at the least object that has one.
 #[derive(Clone, Copy)]
@@ -20,41 +22,41 @@ pub struct Stop {
 /// Runs a transaction's operations on the states of the objects, in order. Where one isn't legal it goes on at
 /// lower objects alone, and answers the first such one at the least object.
 pub fn replay(
-    states: &mut Vec<u16>,
-    tables: &[&TypeTable],
+    states: &mut Vec<u32>,
+    types: &[&DeclaredType],
     operations: &[Operation],
 ) -> Option<Stop>
-    requires states { AreStates (map (λ t. t.now) tables.now) states.old.items }
-    requires operations { AreOperations (map (λ t. t.now) tables.now) operations.now }
-    ensures states { AreStates (map (λ t. t.now) tables.now) states.new.items }
-    ensures replayed { AreReplayed (map (λ t. t.now) tables.now) states.old.items operations.now (length operations.now) states.new.items result }
+    requires states { AreStates (map (λ t. table_of t.now) types.now) states.old.items }
+    requires operations { AreOperations (map (λ t. table_of t.now) types.now) operations.now }
+    ensures states { AreStates (map (λ t. table_of t.now) types.now) states.new.items }
+    ensures replayed { AreReplayed (map (λ t. table_of t.now) types.now) states.old.items operations.now (length operations.now) states.new.items result }
 {
     runs_along();
     let mut stop = None;
     for place in 0..operations.len() {
-        stop = replay_one(states, tables, operations[place], place, stop);
+        stop = replay_one(states, types, operations[place], place, stop);
     }
     stop
 }
 
 /// Runs one operation, which has this place among those of its transaction.
 fn replay_one(
-    states: &mut Vec<u16>,
-    tables: &[&TypeTable],
+    states: &mut Vec<u32>,
+    types: &[&DeclaredType],
     operation: Operation,
     place: usize,
     stop: Option<Stop>,
 ) -> Option<Stop>
-    requires states { AreStates (map (λ t. t.now) tables.now) states.old.items }
-    requires operation { IsOperation (slice_get (map (λ t. t.now) tables.now) operation.x) operation.k }
-    ensures states { states.new.items ≡ states_after (map (λ t. t.now) tables.now) states.old.items stop operation }
-    ensures inside { AreStates (map (λ t. t.now) tables.now) states.new.items }
-    ensures stop { result ≡ stop_after (map (λ t. t.now) tables.now) states.old.items stop place operation }
+    requires states { AreStates (map (λ t. table_of t.now) types.now) states.old.items }
+    requires operation { IsOperation (slice_get (map (λ t. table_of t.now) types.now) operation.x) operation.k }
+    ensures states { states.new.items ≡ states_after (map (λ t. table_of t.now) types.now) states.old.items stop operation }
+    ensures inside { AreStates (map (λ t. table_of t.now) types.now) states.new.items }
+    ensures stop { result ≡ stop_after (map (λ t. table_of t.now) types.now) states.old.items stop place operation }
 {
     if is_stopped_at(stop, operation.x) {
         return stop;
     }
-    match next_at(states, tables, operation) {
+    match next_at(states, types, operation) {
         Some(state) => {
             states[operation.x as usize] = state;
             stop
@@ -77,15 +79,15 @@ fn is_stopped_at(stop: Option<Stop>, x: u32) -> bool
 }
 
 /// The next state of the operation's object, where the operation is legal.
-fn next_at(states: &Vec<u16>, tables: &[&TypeTable], operation: Operation) -> Option<u16>
-    requires states { AreStates (map (λ t. t.now) tables.now) states.now.items }
-    requires operation { IsOperation (slice_get (map (λ t. t.now) tables.now) operation.x) operation.k }
-    ensures exact { result ≡ next_at (map (λ t. t.now) tables.now) states.now.items operation }
+fn next_at(states: &Vec<u32>, types: &[&DeclaredType], operation: Operation) -> Option<u32>
+    requires states { AreStates (map (λ t. table_of t.now) types.now) states.now.items }
+    requires operation { IsOperation (slice_get (map (λ t. table_of t.now) types.now) operation.x) operation.k }
+    ensures exact { result ≡ next_at (map (λ t. table_of t.now) types.now) states.now.items operation }
     ensures there { operation.x < length states.now.items }
-    ensures inside { IfSome result (λ s. (T : Table) → slice_get (map (λ t. t.now) tables.now) operation.x ≡ Some T → s < T.states) }
+    ensures inside { IfSome result (λ s. (T : Table) → slice_get (map (λ t. table_of t.now) types.now) operation.x ≡ Some T → s < T.states) }
 {
     let x = operation.x as usize;
-    tables[x].next(states[x], operation.k)
+    types[x].next(states[x], operation.k)
 }
 
 /// How many of these operations are at the object.

@@ -2,6 +2,7 @@
 
 ghost use Rattle.std.specs.Prelude.{◌≡◌, ◌≤◌, [], map, length, Err, IfOk, OnOk, IfSome, MatchOption};
 ghost use Rattle.std.specs.Result.{IsOkAnd};
+ghost use Rattle.table_checker.specs.Declarations.{table_of};
 ghost use Rattle.history_audit.specs.Replay.{AreOperations, AreStates};
 ghost use Rattle.history_audit.specs.SerialRun.{AreInitial, illegal_at, Replays, ReplaysFrom};
 
@@ -9,7 +10,7 @@ use crate::operation::Operation;
 use crate::outcome::{Audit, AuditFault};
 use crate::replay::{Stop, count_at, replay};
 use std::alloc::{AllocError, Global};
-use type_table::TypeTable;
+use table_checker::DeclaredType;
 
 /// The place of an operation that isn't legal in the serial order.
 #[derive(Clone, Copy)]
@@ -27,16 +28,16 @@ pub struct Illegal {
 #[derive(Drop)]
 pub struct SerialRun {
     order: Vec<u32>,
-    states: Vec<u16>,
+    states: Vec<u32>,
     illegal: Option<Illegal>,
 }
 
 impl SerialRun {
     /// Before the first transaction.
-    pub fn new(alloc: Global, tables: &[&TypeTable]) -> Result<SerialRun, AllocError>
-        ensures { IfOk result (λ r. (r.order.items ≡ []) × AreInitial (map (λ t. t.now) tables.now) r.states.items × (r.illegal ≡ None)) }
+    pub fn new(alloc: Global, types: &[&DeclaredType]) -> Result<SerialRun, AllocError>
+        ensures { IfOk result (λ r. (r.order.items ≡ []) × AreInitial (map (λ t. table_of t.now) types.now) r.states.items × (r.illegal ≡ None)) }
     {
-        let states = initial_states(alloc, tables)?;
+        let states = initial_states(alloc, types)?;
         Ok(SerialRun {
             order: Vec::new(alloc),
             states,
@@ -47,17 +48,17 @@ impl SerialRun {
     /// Runs the operations of t after those of the transactions before it.
     pub fn take(
         &mut self,
-        tables: &[&TypeTable],
+        types: &[&DeclaredType],
         t: u32,
         operations: &[Operation],
     ) -> Result<(), AllocError>
-        requires states { AreStates (map (λ t. t.now) tables.now) self.old.states.items }
-        requires operations { AreOperations (map (λ t. t.now) tables.now) operations.now }
-        ensures states { AreStates (map (λ t. t.now) tables.now) self.new.states.items }
-        ensures runs { OnOk result (ReplaysFrom self.old.illegal (map (λ t. t.now) tables.now) t operations.now self.old self.new) }
+        requires states { AreStates (map (λ t. table_of t.now) types.now) self.old.states.items }
+        requires operations { AreOperations (map (λ t. table_of t.now) types.now) operations.now }
+        ensures states { AreStates (map (λ t. table_of t.now) types.now) self.new.states.items }
+        ensures runs { OnOk result (ReplaysFrom self.old.illegal (map (λ t. table_of t.now) types.now) t operations.now self.old self.new) }
     {
         match self.illegal {
-            None => self.replay(tables, t, operations),
+            None => self.replay(types, t, operations),
             Some(_) => Ok(()),
         }
     }
@@ -65,18 +66,18 @@ impl SerialRun {
     /// The same, where each operation so far is legal.
     fn replay(
         &mut self,
-        tables: &[&TypeTable],
+        types: &[&DeclaredType],
         t: u32,
         operations: &[Operation],
     ) -> Result<(), AllocError>
-        requires states { AreStates (map (λ t. t.now) tables.now) self.old.states.items }
-        requires operations { AreOperations (map (λ t. t.now) tables.now) operations.now }
-        ensures states { AreStates (map (λ t. t.now) tables.now) self.new.states.items }
-        ensures replays { OnOk result (Replays (map (λ t. t.now) tables.now) t operations.now self.old self.new) }
+        requires states { AreStates (map (λ t. table_of t.now) types.now) self.old.states.items }
+        requires operations { AreOperations (map (λ t. table_of t.now) types.now) operations.now }
+        ensures states { AreStates (map (λ t. table_of t.now) types.now) self.new.states.items }
+        ensures replays { OnOk result (Replays (map (λ t. table_of t.now) types.now) t operations.now self.old self.new) }
     {
         let commit_index = self.order.len();
         self.order.push(t)?;
-        let stop = replay(&mut self.states, tables, operations);
+        let stop = replay(&mut self.states, types, operations);
         self.illegal = illegal_at(commit_index, operations, stop);
         Ok(())
     }
@@ -120,13 +121,13 @@ fn illegal_at(commit_index: usize, operations: &[Operation], stop: Option<Stop>)
     }
 }
 
-/// The initial state of each table.
-fn initial_states(alloc: Global, tables: &[&TypeTable]) -> Result<Vec<u16>, AllocError>
-    ensures { IfOk result (λ v. AreInitial (map (λ t. t.now) tables.now) v.items) }
+/// The initial state of each type.
+fn initial_states(alloc: Global, types: &[&DeclaredType]) -> Result<Vec<u32>, AllocError>
+    ensures { IfOk result (λ v. AreInitial (map (λ t. table_of t.now) types.now) v.items) }
 {
     let mut states = Vec::new(alloc);
-    for table in tables {
-        states.push(table.initial())?;
+    for declared in types {
+        states.push(declared.initial())?;
     }
     Ok(states)
 }

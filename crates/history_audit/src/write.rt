@@ -60,12 +60,12 @@ fn write_commit<W: Out>(t: u32, out: &mut W) -> Result<(), OutFault>
 }
 
 /// Writes the lines of the objects.
-pub fn write_finals<W: Out>(finals: &[u16], out: &mut W) -> Result<(), OutFault>
+pub fn write_finals<W: Out>(finals: &[u32], out: &mut W) -> Result<(), OutFault>
     requires { W.fault out.old ≡ None }
     ensures { Puts (W.taken out.old) (W.taken out.new) (W.fault out.new) (flat_map serial_line (enumerate_from 0 finals.now)) result }
 {
     texts_in_turn();
-    items_in_turn::<(usize, u16)>();
+    items_in_turn::<(usize, u32)>();
     for (x, state) in finals.iter().enumerate() {
         write_serial(x, *state, out)?;
     }
@@ -73,7 +73,7 @@ pub fn write_finals<W: Out>(finals: &[u16], out: &mut W) -> Result<(), OutFault>
 }
 
 /// Writes the line of an object with its serial state.
-fn write_serial<W: Out>(x: usize, state: u16, out: &mut W) -> Result<(), OutFault>
+fn write_serial<W: Out>(x: usize, state: u32, out: &mut W) -> Result<(), OutFault>
     requires { W.fault out.old ≡ None }
     ensures { Puts (W.taken out.old) (W.taken out.new) (W.fault out.new) (serial_line (x, state)) result }
 {

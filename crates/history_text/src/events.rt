@@ -11,7 +11,7 @@ use std::alloc::{AllocError, Global};
 use store_text::Entries;
 
 /// The events of a history.
-#[derive(Clone, Copy, Debug)]
+#[derive(Clone, Copy)]
 pub struct Events;
 
 impl Entries for Events {

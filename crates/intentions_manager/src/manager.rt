@@ -97,9 +97,7 @@ impl Recovery for IntentionsManager {
     }
 
     fn ops(&self) -> &[Op] {
-        // (read for its clause that the type was accepted)
-        let _file = self.checked.file();
-        self.checked.table().ops()
+        self.checked.ops()
     }
 
     fn blocker(&self, t: u32, k: u8) -> Option<u32> {
@@ -210,7 +208,7 @@ impl Recovery for IntentionsManager {
     }
 
     fn is_fresh(&self) -> bool {
-        self.log.is_empty() && self.base == self.checked.table().initial()
+        self.log.is_empty() && u32::from(self.base) == self.checked.initial()
     }
 }
 

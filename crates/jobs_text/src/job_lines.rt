@@ -9,7 +9,7 @@ use std::alloc::{AllocError, Global};
 use store_text::Entries;
 
 /// The jobs of this many workers.
-#[derive(Clone, Copy, Debug)]
+#[derive(Clone, Copy)]
 pub struct Jobs {
     pub workers: u8,
 }

@@ -11,7 +11,7 @@ use sqlite_value::value::ValueRef;
 use std::alloc::AllocError;
 
 /// A number in a column, or NULL.
-#[derive(Clone, Copy, Debug, PartialEq, Eq)]
+#[derive(Clone, Copy)]
 pub enum Cell {
     Null,
     Number(u32),

@@ -1,6 +1,5 @@
 //! The state at which an object began, as a row.
 
-ghost use Rattle.std.specs.Prelude.{◌≡◌, IfSome};
 ghost use Rattle.journal.specs.StateRow.{state_keyed, state_read_back, state_row, state_told};
 
 use crate::cells::{Cell, begin_row, is_at};
@@ -15,7 +14,7 @@ const STATE: usize = 2;
 /// The state of an object where the history of the file begins.
 #[derive(Clone, Copy, Debug, PartialEq, Eq)]
 pub struct FirstState {
-    pub state: u16,
+    pub state: u32,
 }
 
 /// A row of the state.
@@ -42,18 +41,8 @@ impl Entry for FirstState {
             return Ok(None);
         }
         match Cell::in_column(row, STATE) {
-            Some(Cell::Number(n)) => Ok(short(n)),
+            Some(Cell::Number(state)) => Ok(Some(FirstState { state })),
             _ => Ok(None),
         }
-    }
-}
-
-/// A state of 16 bits.
-fn short(n: u32) -> Option<FirstState>
-    ensures { IfSome result (λ first. n ≡ first.state) }
-{
-    match u16::try_from(n) {
-        Ok(state) => Some(FirstState { state }),
-        Err(_) => None,
     }
 }

@@ -157,11 +157,11 @@ amount_more low high k less h =
 -- and so is a call
 within_more : (low high : ℕ) (c : NumberCall) → low ≤ high → is_within low c ≡ true → is_within high c ≡ true
 within_more low high (Take k) less h = amount_more low high k less h
-within_more low high TakeAny less h = refl
+within_more low high TakeAny less h = h
 within_more low high (Give k) less h = amount_more low high k less h
-within_more low high GiveAny less h = refl
+within_more low high GiveAny less h = h
 within_more low high (AtLeast k) less h = amount_more low high k less h
-within_more low high Value less h = refl
+within_more low high Value less h = h
 
 -- ---- all together
 

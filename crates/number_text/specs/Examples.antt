@@ -3,7 +3,7 @@ use Rattle.std.specs.Prelude.{◌≡◌, ℕ, List, [], ◌∷◌, ◌++◌, sli
 use Rattle.std.specs.List.{flat_map}
 use Rattle.line_text.specs.Outcome.{fault_on, outcome_of}
 use Rattle.line_text.specs.declared.fault.FaultKind.{FaultKind}
-use Rattle.number_text.specs.declared.number_call.NumberCall.TheVariants.{Take, TakeAny, Give, GiveAny, AtLeast, Value}
+use Rattle.number_text.specs.declared.number_call.NumberCall.TheVariants.{Take, Give, AtLeast}
 use Rattle.number_text.specs.declared.number_line.NumberLine.{NumberLine}
 use Rattle.number_text.specs.declared.number_line.NumberLine.TheVariants.{Called, Max, Initial, Call, End}
 use Rattle.number_text.specs.NumberLines.{number_rules}
@@ -17,11 +17,8 @@ credit_text =
     ∷ codes "initial 0"
     ∷ codes "take 5"
     ∷ codes "take 4294967295"
-    ∷ codes "take any"
     ∷ codes "give 5"
-    ∷ codes "give any"
     ∷ codes "atleast 1000000000"
-    ∷ codes "value"
     ∷ codes "end"
     ∷ []
 
@@ -33,11 +30,8 @@ credit_lines =
     ∷ Initial 0
     ∷ Call (Take 5)
     ∷ Call (Take 4294967295)
-    ∷ Call TakeAny
     ∷ Call (Give 5)
-    ∷ Call GiveAny
     ∷ Call (AtLeast 1000000000)
-    ∷ Call Value
     ∷ End
     ∷ []
 
@@ -47,7 +41,7 @@ credit = record {
   name = codes "credit";
   max = 4294967295;
   initial = 0;
-  calls = Take 5 ∷ Take 4294967295 ∷ TakeAny ∷ Give 5 ∷ GiveAny ∷ AtLeast 1000000000 ∷ Value ∷ [];
+  calls = Take 5 ∷ Take 4294967295 ∷ Give 5 ∷ AtLeast 1000000000 ∷ [];
 }
 
 -- a stock of 0 to 5, all of whose amounts are listed

@@ -27,6 +27,10 @@ pub record IsNumber (v : Number) : Type 0 where
   pub some_call : 0 < length v.calls
   pub calls_fit : length v.calls ≤ most_calls
 
+-- the same number, beginning at another value
+abbrev pub number_at : Number → ℕ → Number
+number_at v s = record v { initial = s }
+
 -- each part of the number is what the lines of its section say
 pub record IsNumberOf (lines : List NumberLine) (v : Number) : Type 0 where
   pub name : slice_get lines 0 ≡ Some (Called v.name)

@@ -155,7 +155,7 @@ is_free GiveAny = true
 is_free Value = true
 is_free _ = false
 
--- a listed amount is 1 to the greatest value
+-- a listed amount is 1 to the greatest value. A call that lists none is out of range: objects know only listed amounts
 abbrev pub is_amount : ℕ → ℕ → Bool
 is_amount max k = nat_le 1 k && nat_le k max
 
@@ -163,7 +163,7 @@ abbrev pub is_within : ℕ → NumberCall → Bool
 is_within max (Take k) = is_amount max k
 is_within max (Give k) = is_amount max k
 is_within max (AtLeast k) = is_amount max k
-is_within max _ = true
+is_within max _ = false
 
 -- the order of calls: by section, then by amount
 abbrev pub is_below : NumberCall → NumberCall → Bool

@@ -4,7 +4,7 @@ use Rattle.std.specs.Fmt.{decimal}
 use Rattle.std.specs.List.{flat_map, list_all}
 use Rattle.type_table.specs.Table.{Table}
 use Rattle.type_table.specs.declared.op.Op.{Op}
-use Rattle.escrow_laws.specs.Bounds.{AreBounds, steps_of}
+use Rattle.escrow_laws.specs.Bounds.{AreBounds, steps_of, bounds_of}
 use Rattle.escrow_laws.specs.declared.bounded.Bounded.{Bounded}
 use Rattle.number_text.specs.declared.number_call.NumberCall.{NumberCall}
 use Rattle.number_text.specs.declared.number_call.NumberCall.TheVariants.{Take, TakeAny, Give, GiveAny, AtLeast, Value}
@@ -38,6 +38,11 @@ ops_of_call Value = op_with (call_name Value) (codes "n") ∷ []
 -- those of a number, numbered in the order of its lines
 abbrev pub number_ops : Number → List Op
 number_ops v = flat_map ops_of_call v.calls
+
+-- a number, and its operations
+pub record IsWhole (v : Number) (held : List Op) : Type 0 where
+  pub number : IsNumber v
+  pub ops : held ≡ number_ops v
 
 -- ---- bounds
 
@@ -78,3 +83,11 @@ number_table v = record {
 -- where each call lists its amount, the number has a table, and its operations these bounds
 abbrev pub NumberHasTable : Type 0
 NumberHasTable = (v : Number) → IsNumber v → is_listed v ≡ true → AreBounds (number_table v) v.max (number_bounds v)
+
+-- and these are the bounds that the table's steps tell
+abbrev pub NumberTellsBounds : Type 0
+NumberTellsBounds = (v : Number) → IsNumber v → is_listed v ≡ true → bounds_of (number_table v) ≡ number_bounds v
+
+-- objects know only numbers each of whose calls lists its amount
+abbrev pub NumbersAreListed : Type 0
+NumbersAreListed = (v : Number) → IsNumber v → is_listed v ≡ true

@@ -2,11 +2,12 @@
 
 ghost use Rattle.std.specs.Prelude.{◌≡◌, ◌++◌, Some, slice_get, IfOk, OnOk, ◌∷◌, []};
 ghost use Rattle.number_text.specs.NumberLines.{AreNumberLines, calls_of};
-ghost use Rattle.number_text.specs.NumberFile.{IsNumberOf};
+ghost use Rattle.number_text.specs.NumberFile.{Number, IsNumber, IsNumberOf};
 
 use crate::number_call::NumberCall;
 use crate::number_file::NumberFile;
 use crate::number_line::NumberLine;
+use crate::ops::ops_of;
 use std::alloc::{AllocError, Global};
 use type_table::Name;
 
@@ -19,7 +20,22 @@ pub fn number_of(alloc: Global, lines: &[NumberLine]) -> Result<NumberFile, Allo
     let name = name_of(lines);
     let max = max_of(lines);
     let initial = initial_of(lines);
-    Ok(NumberFile::new(name, max, initial, calls))
+    number_with(alloc, name, max, initial, calls)
+}
+
+/// The number of these parts.
+pub fn number_with(
+    alloc: Global,
+    name: Name,
+    max: u32,
+    initial: u32,
+    calls: Vec<NumberCall>,
+) -> Result<NumberFile, AllocError>
+    requires { let parts : Number = record { name = name; max = max; initial = initial; calls = calls.items } in IsNumber parts }
+    ensures { let parts : Number = record { name = name; max = max; initial = initial; calls = calls.items } in IfOk result (λ number. number ≡ parts) }
+{
+    let ops = ops_of(alloc, &calls)?;
+    Ok(NumberFile::new(name, max, initial, calls, ops))
 }
 
 fn name_of(lines: &[NumberLine]) -> Name

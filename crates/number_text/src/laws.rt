@@ -2,10 +2,10 @@
 //! the law. It calls the laws on which it depends.
 
 ghost use Rattle.number_text.specs.Canonical.{CanonicalIsRead, WrittenIsRead};
-ghost use Rattle.number_text.specs.Operations.{NumberHasTable};
+ghost use Rattle.number_text.specs.Operations.{NumberHasTable, NumberTellsBounds, NumbersAreListed};
 
 use crate::number_line::NumberLine;
-use escrow_laws::numbers_have_tables;
+use escrow_laws::{bounds_are_told, numbers_have_tables};
 use line_text::{canonical_reads_again, names_are_words};
 
 /// The canonical text of a number has a value, and its lines describe this number.
@@ -23,10 +23,22 @@ pub fn written_is_read()
     canonical_is_read();
 }
 
-/// A number each of whose calls lists its amount has a table, and the bounds of its operations are
-/// those of the table's.
+/// A number each of whose calls lists its amount has a table, and its operations have these bounds.
 pub fn number_has_table()
     ensures { NumberHasTable }
 {
     numbers_have_tables();
 }
+
+/// The bounds of such a number's operations are those that the steps of its table tell.
+pub fn number_tells_bounds()
+    ensures { NumberTellsBounds }
+{
+    number_has_table();
+    bounds_are_told();
+}
+
+/// Each call of a number lists its amount.
+pub fn numbers_are_listed()
+    ensures { NumbersAreListed }
+{}

@@ -12,9 +12,13 @@ mod number_grammar;
 mod number_line;
 mod ops;
 mod read;
+mod steps;
 mod write;
 
-pub use laws::{canonical_is_read, number_has_table, written_is_read};
+pub use build::number_with;
+pub use laws::{
+    canonical_is_read, number_has_table, number_tells_bounds, numbers_are_listed, written_is_read,
+};
 pub use line_text::{FaultKind, TextFault};
 pub use number_call::NumberCall;
 pub use number_file::NumberFile;

@@ -1,3 +1,5 @@
+ghost use Rattle.std.specs.Prelude.{◌≡◌, true};
+
 /// A call of a number, as a line of its file lists it. Each but `Value` is two operations.
 #[derive(Clone, Copy)]
 pub enum NumberCall {
@@ -13,4 +15,36 @@ pub enum NumberCall {
     AtLeast(u32),
     /// `value`: what the number is.
     Value,
+}
+
+impl NumberCall {
+    /// Whether it is the same call as another.
+    fn is_same(self, other: NumberCall) -> bool
+        ensures { result ≡ true → self ≡ other }
+    {
+        match (self, other) {
+            (NumberCall::Take(k), NumberCall::Take(j)) => k == j,
+            (NumberCall::TakeAny, NumberCall::TakeAny) => true,
+            (NumberCall::Give(k), NumberCall::Give(j)) => k == j,
+            (NumberCall::GiveAny, NumberCall::GiveAny) => true,
+            (NumberCall::AtLeast(k), NumberCall::AtLeast(j)) => k == j,
+            (NumberCall::Value, NumberCall::Value) => true,
+            _ => false,
+        }
+    }
+}
+
+/// Whether calls are the same as others.
+pub fn are_same(calls: &[NumberCall], others: &[NumberCall]) -> bool
+    ensures { result ≡ true → calls.now ≡ others.now }
+{
+    if calls.len() != others.len() {
+        return false;
+    }
+    for i in 0..calls.len() {
+        if !calls[i].is_same(others[i]) {
+            return false;
+        }
+    }
+    true
 }

@@ -1,6 +1,7 @@
-use crate::number_call::NumberCall;
+use crate::number_call::{NumberCall, are_same};
+use std::alloc::{AllocError, Global};
 use std::marker::Model;
-use type_table::Name;
+use type_table::{Name, Op};
 
 /// A type whose states are the numbers from 0 to a greatest one: its name, its initial value, and its
 /// calls in the order of their lines. Contracts see it as a `Number`.
@@ -10,25 +11,37 @@ pub struct NumberFile {
     max: u32,
     initial: u32,
     calls: Vec<NumberCall>,
+    // those of the calls
+    ops: Vec<Op>,
 }
 
 impl Model for NumberFile {
-    ghost use Rattle.number_text.specs.NumberFile.{Number, IsNumber};
+    ghost use Rattle.std.specs.Prelude.{◌≡◌};
+    ghost use Rattle.number_text.specs.NumberFile.{Number};
+    ghost use Rattle.number_text.specs.Operations.{IsWhole};
 
     ghost Value = { Number };
 
     ghost view = { λ a. record { name = a.name; max = a.max; initial = a.initial; calls = a.calls.items } };
 
-    ghost invariant = { λ a. IsNumber (record { name = a.name; max = a.max; initial = a.initial; calls = a.calls.items }) };
+    ghost invariant = { λ a. IsWhole (record { name = a.name; max = a.max; initial = a.initial; calls = a.calls.items }) a.ops.items };
 }
 
 impl NumberFile {
-    ghost use Rattle.std.specs.Prelude.{◌≡◌};
-    ghost use Rattle.number_text.specs.NumberFile.{Number, IsNumber};
+    ghost use Rattle.std.specs.Prelude.{◌≡◌, ◌≤◌, length, true, IfOk};
+    ghost use Rattle.type_table.specs.Limits.{most_ops};
+    ghost use Rattle.number_text.specs.NumberFile.{Number, IsNumber, number_at};
+    ghost use Rattle.number_text.specs.Operations.{number_ops, IsWhole};
 
-    /// The number of these parts.
-    pub(crate) fn new(name: Name, max: u32, initial: u32, calls: Vec<NumberCall>) -> NumberFile
-        requires { let parts : Number = record { name = name; max = max; initial = initial; calls = calls.items } in IsNumber parts }
+    /// The number of these parts, with the operations of its calls.
+    pub(crate) fn new(
+        name: Name,
+        max: u32,
+        initial: u32,
+        calls: Vec<NumberCall>,
+        ops: Vec<Op>,
+    ) -> NumberFile
+        requires { let parts : Number = record { name = name; max = max; initial = initial; calls = calls.items } in IsWhole parts ops.items }
         ensures { let parts : Number = record { name = name; max = max; initial = initial; calls = calls.items } in result ≡ parts }
     {
         NumberFile {
@@ -36,7 +49,41 @@ impl NumberFile {
             max,
             initial,
             calls,
+            ops,
         }
+    }
+
+    /// An equal number.
+    pub fn copy(&self, alloc: Global) -> Result<NumberFile, AllocError>
+        ensures { IfOk result (λ number. number ≡ self.now) }
+    {
+        let calls = Vec::from_slice(alloc, &self.calls)?;
+        let ops = Vec::from_slice(alloc, &self.ops)?;
+        Ok(NumberFile {
+            name: self.name,
+            max: self.max,
+            initial: self.initial,
+            calls,
+            ops,
+        })
+    }
+
+    /// It begins at this value from now on.
+    pub fn begin_at(&mut self, value: u32)
+        requires { value ≤ self.old.max }
+        ensures { self.new ≡ number_at self.old value }
+    {
+        self.initial = value;
+    }
+
+    /// Whether it is the other number, beginning at this value.
+    pub fn is_at(&self, other: &NumberFile, value: u32) -> bool
+        ensures { result ≡ true → self.now ≡ number_at other.now value }
+    {
+        if self.initial != value || self.max != other.max || self.name != other.name {
+            return false;
+        }
+        are_same(&self.calls, &other.calls)
     }
 
     /// The name of the type.
@@ -66,5 +113,13 @@ impl NumberFile {
         ensures number { IsNumber self.now }
     {
         &self.calls
+    }
+
+    /// The operations, at most 64, numbered in the order of the lines.
+    pub fn ops(&self) -> &[Op]
+        ensures exact { result.now ≡ number_ops self.now }
+        ensures few { length result.now ≤ most_ops }
+    {
+        &self.ops
     }
 }

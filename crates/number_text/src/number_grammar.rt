@@ -183,13 +183,13 @@ fn calls_in(line: NumberLine) -> usize
     }
 }
 
-/// Whether the amount of a call that lists one is in range.
+/// Whether a call lists its amount, and that is in range.
 fn is_within(max: u32, call: NumberCall) -> bool
     ensures { result ≡ is_within max call }
 {
     match call {
         NumberCall::Take(k) | NumberCall::Give(k) | NumberCall::AtLeast(k) => is_amount(max, k),
-        _ => true,
+        _ => false,
     }
 }
 

@@ -4,25 +4,15 @@ ghost use Rattle.std.specs.Prelude.{◌≡◌, ◌≤◌, ◌++◌, ◌∷◌, [
 ghost use Rattle.std.specs.Fmt.{decimal};
 ghost use Rattle.std.specs.List.{flat_map, list_all};
 ghost use Rattle.type_table.specs.Name.{is_name, is_name_byte};
-ghost use Rattle.number_text.specs.Operations.{call_name, op_with, ops_of_call, number_ops};
+ghost use Rattle.number_text.specs.Operations.{call_name, op_with, ops_of_call};
 
 use crate::number_call::NumberCall;
-use crate::number_file::NumberFile;
 use itoa::Buffer;
 use std::alloc::{AllocError, Global};
 use type_table::{Name, Op};
 
-impl NumberFile {
-    /// The operations, numbered in the order of the lines.
-    pub fn ops(&self, alloc: Global) -> Result<Vec<Op>, AllocError>
-        ensures { IfOk result (λ ops. ops.items ≡ number_ops self.now) }
-    {
-        ops_of(alloc, self.calls())
-    }
-}
-
 /// The operations of calls in their order.
-fn ops_of(alloc: Global, calls: &[NumberCall]) -> Result<Vec<Op>, AllocError>
+pub fn ops_of(alloc: Global, calls: &[NumberCall]) -> Result<Vec<Op>, AllocError>
     ensures { IfOk result (λ ops. ops.items ≡ flat_map ops_of_call calls.now) }
 {
     let mut ops = Vec::new(alloc);

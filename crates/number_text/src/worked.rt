@@ -3,7 +3,7 @@
 
 ghost use Rattle.std.specs.Prelude.{◌≡◌, ◌∷◌, [], ◌++◌, take, true, false, Some, None, codes};
 ghost use Rattle.line_text.specs.declared.fault.FaultKind.TheVariants.{UnknownWord, BadNumber, OutOfRange, OutOfOrder, Missing, AfterEnd};
-ghost use Rattle.number_text.specs.declared.number_call.NumberCall.TheVariants.{Take};
+ghost use Rattle.number_text.specs.declared.number_call.NumberCall.TheVariants.{Take, TakeAny};
 ghost use Rattle.number_text.specs.declared.number_line.NumberLine.TheVariants.{Called, Max, Initial, Call, End};
 ghost use Rattle.number_text.specs.Digits.{long_number_of};
 ghost use Rattle.number_text.specs.NumberLines.{are_ascending};
@@ -30,23 +30,24 @@ pub fn texts_say_their_lines()
 pub fn faults_of_the_credit()
     ensures two_words { Refuses (credit_with 5 (codes "take any 1")) 6 UnknownWord }
     ensures other_word { Refuses (credit_with 5 (codes "take some")) 6 BadNumber }
+    ensures any_amount { Refuses (credit_with 5 (codes "give any")) 6 OutOfRange }
+    ensures the_value { Refuses (credit_with 6 (codes "value")) 7 OutOfRange }
     ensures eleven_digits { Refuses (credit_with 1 (codes "max 10000000000")) 2 BadNumber }
     ensures large_max { Refuses (credit_with 1 (codes "max 4294967296")) 2 OutOfRange }
     ensures no_max { Refuses (credit_with 1 (codes "max 0")) 2 OutOfRange }
     ensures initial_past { Refuses (take 2 credit_text ++ codes "initial 4294967296" ∷ []) 3 OutOfRange }
     ensures no_amount { Refuses (credit_with 3 (codes "take 0")) 4 OutOfRange }
     ensures same_amount { Refuses (credit_with 4 (codes "take 5")) 5 OutOfOrder }
-    ensures second_any { Refuses (credit_with 6 (codes "take any")) 7 OutOfOrder }
     ensures late_amount { Refuses (credit_with 6 (codes "take 9999999999")) 7 OutOfOrder }
     ensures no_initial { Refuses (take 2 credit_text ++ codes "take 9999999999" ∷ []) 3 Missing }
     ensures no_call { Refuses (take 3 credit_text ++ codes "end" ∷ []) 4 Missing }
-    ensures no_end { Refuses (take 10 credit_text) 11 Missing }
-    ensures second_end { Refuses (credit_text ++ codes "end" ∷ []) 12 AfterEnd }
+    ensures no_end { Refuses (take 7 credit_text) 8 Missing }
+    ensures second_end { Refuses (credit_text ++ codes "end" ∷ []) 9 AfterEnd }
 {}
 
 pub fn operations_of_five()
     ensures listed { is_listed five ≡ true }
-    ensures free { is_listed credit ≡ false }
+    ensures free { is_listed (record five { calls = TakeAny ∷ [] }) ≡ false }
     ensures ascending { are_ascending five.calls ≡ true }
     ensures equal { are_ascending (Take 2 ∷ Take 2 ∷ []) ≡ false }
     ensures ops { number_ops five

@@ -26,10 +26,9 @@ pub trait Recovery: Send + Drop {
     /// escrow that of the committed transactions alone. In escrow the latter is the state after their
     /// operations in commit order. With deferred update it is one that is equieffective to that, and
     /// needn't be the same: of a type whose states 3 and 4 no operation distinguishes, it may be 4 where that
-    /// is 3. It has at most seven digits.
+    /// is 3.
     fn state(&self) -> u32
-        ensures exact { state_of (meaning self.now) ≡ Some result }
-        ensures short { result < 10000000 };
+        ensures exact { state_of (meaning self.now) ≡ Some result };
 
     /// Whether operation k of the object's table is legal in the state that transaction t sees.
     fn legal(&self, t: u32, k: u8) -> bool

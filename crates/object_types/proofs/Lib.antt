@@ -2,4 +2,4 @@ pub mod CheckedTypes
 pub mod LookUps
 pub mod Objects
 pub mod Pairs
-pub mod TwoFiles
+pub mod TwoTypes

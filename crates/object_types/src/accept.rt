@@ -1,13 +1,16 @@
 //! The checked types of objects, one after another.
 
-ghost use Rattle.std.specs.Prelude.{◌≡◌, Some, map, IfOk, IfErr, IfSome, slice_get};
+ghost use Rattle.std.specs.Prelude.{◌≡◌, true, Some, map, IfOk, IfErr, IfSome, slice_get};
+ghost use Rattle.number_text.specs.Operations.{is_listed};
+ghost use Rattle.table_checker.specs.declared.declared_type.Declaration.{Declaration as AnyDeclaration};
 ghost use Rattle.object_types.specs.Types.{AreTypesOf, IsTypeOf, IsFirstFault, IsAccepted, IsFaultAt, IsCheckedFor, IsRefusedFor, value_of};
 
 use crate::object_fault::ObjectFault;
+use number_text::NumberFile;
 use std::alloc::Global;
 use std::sync::Arc;
 use store_text::ObjectLine;
-use table_checker::{CheckedType, check};
+use table_checker::{CheckedType, Declaration, DeclaredType, check, check_number};
 use type_table::Kind;
 use type_text::TypeFile;
 
@@ -15,19 +18,19 @@ use type_text::TypeFile;
 ///
 /// # Errors
 ///
-/// The first object whose place isn't that of a file, or whose type isn't accepted for its kind; or
-/// memory was refused.
+/// The first object whose place isn't that of a type, or which names a number and is of another kind than
+/// escrow, or whose type isn't accepted for its kind; or memory was refused.
 pub fn accept_types(
     alloc: Global,
-    files: &[TypeFile],
+    declared: &[DeclaredType],
     objects: &[ObjectLine],
 ) -> Result<Vec<Arc<CheckedType>>, ObjectFault>
-    ensures accepted { IfOk result (λ types. AreTypesOf files.now objects.now (map value_of types.items)) }
-    ensures refused { IfErr result (IsFirstFault IsAccepted files.now objects.now) }
+    ensures accepted { IfOk result (λ types. AreTypesOf declared.now objects.now (map value_of types.items)) }
+    ensures refused { IfErr result (IsFirstFault IsAccepted declared.now objects.now) }
 {
     let mut types = Vec::new(alloc);
     for (x, object) in objects.iter().enumerate() {
-        let accepted = accept(alloc, files, &objects[..x], &types, x, *object)?;
+        let accepted = accept(alloc, declared, &objects[..x], &types, x, *object)?;
         types.push(accepted)?;
     }
     Ok(types)
@@ -37,21 +40,21 @@ pub fn accept_types(
 /// its own.
 fn accept(
     alloc: Global,
-    files: &[TypeFile],
+    declared: &[DeclaredType],
     before: &[ObjectLine],
     types: &Vec<Arc<CheckedType>>,
     x: usize,
     object: ObjectLine,
 ) -> Result<Arc<CheckedType>, ObjectFault>
-    requires known { AreTypesOf files.now before.now (map value_of types.now.items) }
-    ensures accepted { IfOk result (λ a. IsTypeOf files.now object (value_of a)) }
-    ensures refused { IfErr result (IsFaultAt files.now x object) }
+    requires known { AreTypesOf declared.now before.now (map value_of types.now.items) }
+    ensures accepted { IfOk result (λ a. IsTypeOf declared.now object (value_of a)) }
+    ensures refused { IfErr result (IsFaultAt declared.now x object) }
 {
     if let Some(other) = place_of(before, object) {
         return Ok(Arc::clone(&types[other])?);
     }
-    match files.get(object.file as usize) {
-        Some(file) => check_copy(alloc, x, object.kind, file),
+    match declared.get(object.file as usize) {
+        Some(found) => check_copy(alloc, x, object.kind, found),
         None => Err(ObjectFault::NoType {
             x,
             place: object.file,
@@ -71,19 +74,57 @@ fn place_of(lines: &[ObjectLine], line: ObjectLine) -> Option<usize>
     None
 }
 
-/// The checked type of an equal file.
+/// The checked type of an equal declaration.
 fn check_copy(
+    alloc: Global,
+    x: usize,
+    kind: Kind,
+    declared: &DeclaredType,
+) -> Result<Arc<CheckedType>, ObjectFault>
+    ensures accepted { IfOk result (λ a. IsCheckedFor kind declared.now (value_of a)) }
+    ensures refused { IfErr result (IsRefusedFor kind declared.now x) }
+{
+    match declared.declaration() {
+        Declaration::Table(file) => check_file(alloc, x, kind, file),
+        Declaration::Number(number) => accept_number(alloc, x, kind, number),
+    }
+}
+
+/// The checked type of an equal file.
+fn check_file(
     alloc: Global,
     x: usize,
     kind: Kind,
     file: &TypeFile,
 ) -> Result<Arc<CheckedType>, ObjectFault>
-    ensures accepted { IfOk result (λ a. IsCheckedFor kind file.now (value_of a)) }
-    ensures refused { IfErr result (IsRefusedFor kind file.now x) }
+    ensures accepted { IfOk result (λ a. IsCheckedFor kind (AnyDeclaration.Table file.now) (value_of a)) }
+    ensures refused { IfErr result (IsRefusedFor kind (AnyDeclaration.Table file.now) x) }
 {
     let copy = file.copy(alloc)?;
     match check(copy, kind) {
         Ok(checked) => Ok(Arc::new(alloc, checked)?),
         Err((_, refusal)) => Err(ObjectFault::Refused { x, refusal }),
+    }
+}
+
+/// The type of an equal number, which is accepted for escrow alone.
+fn accept_number(
+    alloc: Global,
+    x: usize,
+    kind: Kind,
+    number: &NumberFile,
+) -> Result<Arc<CheckedType>, ObjectFault>
+    requires { is_listed number.now ≡ true }
+    ensures accepted { IfOk result (λ a. IsCheckedFor kind (AnyDeclaration.Number number.now) (value_of a)) }
+    ensures refused { IfErr result (IsRefusedFor kind (AnyDeclaration.Number number.now) x) }
+{
+    match kind {
+        Kind::Escrow => {
+            let checked = check_number(number.copy(alloc)?);
+            // (read for its clause on what was checked)
+            let _ops = checked.ops();
+            Ok(Arc::new(alloc, checked)?)
+        }
+        Kind::Undo | Kind::Intentions => Err(ObjectFault::NeedsEscrow { x }),
     }
 }

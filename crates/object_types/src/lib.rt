@@ -1,4 +1,5 @@
-//! The checked types of the objects that lines name: of each the file at its place, accepted for its kind.
+//! The checked types of the objects that lines name: of each the one that is declared at its place, accepted
+//! for its kind.
 #![tactic(auto)]
 
 mod accept;

@@ -9,6 +9,8 @@ use table_checker::CheckRefusal;
 pub enum ObjectFault {
     /// No TYPE word is at the place that object x names.
     NoType { x: usize, place: u8 },
+    /// Object x names a number, and is of another kind than escrow.
+    NeedsEscrow { x: usize },
     /// The type of object x isn't accepted for its kind.
     Refused { x: usize, refusal: CheckRefusal },
     /// A growth was refused.

@@ -3,20 +3,28 @@
 
 ghost use Rattle.std.specs.Prelude.{[], ◌∷◌};
 ghost use Rattle.object_types.specs.Types.{HasPlace, IsFaultAt, IsUnplacedAt};
-ghost use Rattle.object_types.specs.Examples.{two_files, at_place};
+ghost use Rattle.type_table.specs.declared.kind.Kind.TheVariants.{Undo, Escrow};
+ghost use Rattle.object_types.specs.Examples.{with_a_number, two_types, at_place, of_kind};
 
 use crate::object_fault::ObjectFault;
 
-/// One object's place is that of the second of two files, another's is after them.
+/// One object's place is that of the second of two types, another's is after them.
 pub fn an_object_names_a_place()
-    ensures place { HasPlace two_files (at_place 1) }
-    ensures no_place { HasPlace two_files (at_place 2) → ⊥ }
+    ensures place { HasPlace two_types (at_place 1) }
+    ensures no_place { HasPlace two_types (at_place 2) → ⊥ }
 {}
 
 /// The second object and the third name no type. The fault is that of the second.
 pub fn the_first_object_has_the_fault()
-    ensures first { IsUnplacedAt two_files (at_place 1 ∷ at_place 2 ∷ at_place 3 ∷ []) 1 2 }
-    ensures later { IsUnplacedAt two_files (at_place 1 ∷ at_place 2 ∷ at_place 3 ∷ []) 2 3 → ⊥ }
-    ensures elsewhere { IsFaultAt two_files 1 (at_place 2) (ObjectFault.NoType 0 2) → ⊥ }
-    ensures there { IsFaultAt two_files 1 (at_place 1) (ObjectFault.NoType 1 1) → ⊥ }
+    ensures first { IsUnplacedAt two_types (at_place 1 ∷ at_place 2 ∷ at_place 3 ∷ []) 1 2 }
+    ensures later { IsUnplacedAt two_types (at_place 1 ∷ at_place 2 ∷ at_place 3 ∷ []) 2 3 → ⊥ }
+    ensures elsewhere { IsFaultAt two_types 1 (at_place 2) (ObjectFault.NoType 0 2) → ⊥ }
+    ensures there { IsFaultAt two_types 1 (at_place 1) (ObjectFault.NoType 1 1) → ⊥ }
+{}
+
+/// A number needs escrow where an object of another kind names it, and a table never does.
+pub fn a_number_needs_escrow()
+    ensures number { IsFaultAt with_a_number 0 (of_kind Undo 1) (ObjectFault.NeedsEscrow 0) }
+    ensures escrow { IsFaultAt with_a_number 0 (of_kind Escrow 1) (ObjectFault.NeedsEscrow 0) → ⊥ }
+    ensures table { IsFaultAt with_a_number 0 (of_kind Undo 0) (ObjectFault.NeedsEscrow 0) → ⊥ }
 {}

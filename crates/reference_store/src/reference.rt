@@ -9,7 +9,7 @@ use std::alloc::{AllocError, Global};
 use std::sync::Arc;
 use store::Answer;
 use table_checker::CheckedType;
-use type_table::{ConflictTable, Kind, Op, TableKind, TypeTable};
+use type_table::{ConflictTable, Kind, Op, TypeTable};
 
 /// A transaction that began.
 #[derive(Clone, Copy)]
@@ -76,6 +76,12 @@ fn without_last(list: &mut Vec<Living>, t: u32, n: u32) {
     }
 }
 
+/// The table of a type that is declared by one.
+fn table_of(checked: &CheckedType) -> Option<&TypeTable> {
+    let file = checked.declared().file()?;
+    Some(&file.table)
+}
+
 impl Reference {
     /// At first nothing has happened.
     pub fn new(alloc: Global, types: Vec<Arc<CheckedType>>, max: u32) -> Reference {
@@ -138,7 +144,7 @@ impl Reference {
 
     /// The state that t sees at x.
     fn view(&self, checked: &CheckedType, x: u32, t: u32) -> Option<u16> {
-        let table = checked.table();
+        let table = table_of(checked)?;
         let start = Some(table.initial());
         match checked.kind() {
             Kind::Undo => run_at(table, start, &self.living, x, None),
@@ -170,16 +176,17 @@ impl Reference {
 
     /// The state of x after what committed, one transaction after another in commit order.
     pub fn serial_state(&self, x: u32) -> Option<u16> {
-        let table = self.types.get(x as usize)?.table();
+        let table = table_of(self.types.get(x as usize)?)?;
         run_at(table, Some(table.initial()), &self.serial, x, None)
     }
 
     /// Who did the earliest operation that keeps t from k at x.
     fn blocker(&self, checked: &CheckedType, x: u32, t: u32, k: u8) -> Option<u32> {
+        let file = checked.declared().file()?;
         match checked.kind() {
-            Kind::Undo => self.holder(checked.conflicts(TableKind::Undo), x, t, k),
-            Kind::Intentions => self.holder(checked.conflicts(TableKind::Intentions), x, t, k),
-            Kind::Escrow => self.keeper(checked.table(), Living { t, x, k }),
+            Kind::Undo => self.holder(&file.undo, x, t, k),
+            Kind::Intentions => self.holder(&file.intentions, x, t, k),
+            Kind::Escrow => self.keeper(&file.table, Living { t, x, k }),
         }
     }
 
@@ -209,8 +216,10 @@ impl Reference {
         let view = self.view(checked, x, t);
         let mut answer = Answer::None;
         for k in 0..64u8 {
-            let legal = is_of_call(checked.table().ops(), c, k)
-                && stepped(checked.table(), view, k).is_some();
+            let legal = match table_of(checked) {
+                Some(table) => is_of_call(table.ops(), c, k) && stepped(table, view, k).is_some(),
+                None => false,
+            };
             if legal {
                 match self.blocker(checked, x, t, k) {
                     None => return Answer::Reply(k),
@@ -225,13 +234,13 @@ impl Reference {
     /// The number of the call of this name at x.
     fn number_of(&self, x: u32, name: &str) -> Option<u8> {
         let checked = self.types.get(x as usize)?;
-        first_of(checked.table().ops(), name.as_bytes())
+        first_of(checked.ops(), name.as_bytes())
     }
 
     /// The number, where it is that of a call at x.
     fn number_at(&self, x: u32, c: u8) -> Option<u8> {
         let checked = self.types.get(x as usize)?;
-        is_number(checked.table().ops(), c).then_some(c)
+        is_number(checked.ops(), c).then_some(c)
     }
 
     /// The answer of t's call at x, or why there is none. A call with no number isn't one of the type's.

@@ -8,5 +8,6 @@ pub mod KeptLines
 pub mod Scripts
 pub mod Histories
 pub mod Told
+pub mod LongNumbers
 pub mod Reading
 pub mod Ranges

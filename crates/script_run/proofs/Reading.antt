@@ -25,6 +25,7 @@ use Rattle.history_text.specs.Events.{events}
 use Rattle.script_run.specs.Lines.{refusal_number, refusal_name}
 use Rattle.script_run.specs.Turns.{Turn, line_of, text_of, history_after, by_script, event_turn, refused_turn, accepted_turn, answered_turn, command_turn, object_turn, object_turns, command_turns, abort_turns, closing_turns, open_in, end_turn, kept_turn, kept_turns, script_turns}
 use Rattle.script_run.specs.Laws.{ScriptIsByOne, ScriptIsRead, TextTellsHistory, tells}
+use Rattle.script_run.proofs.LongNumbers.{long_number_text}
 use Rattle.script_run.proofs.Told.{kept-stays, objects-stay}
 use Rattle.script_run.proofs.Turns.{history_after-append}
 
@@ -109,17 +110,17 @@ aborts-skip : (H : List Event) (ts : List ℕ) → MaySkipAll (abort_turns H ts)
 aborts-skip H [] = tt
 aborts-skip H (t ∷ ts) = (event-skip H (kind.Abort t), aborts-skip (H ++ by_script (kind.Abort t) ∷ []) ts)
 
-kept-skip : (H : List Event) (x : ℕ) (kept : List ℕ) → x + length kept < 10 ^ 7 → AllByRecursion (λ state. state < 10 ^ 7) kept → MaySkipAll (kept_turns H x kept)
+kept-skip : (H : List Event) (x : ℕ) (kept : List ℕ) → x + length kept < 10 ^ 7 → AllByRecursion (λ state. state < 2 ^ 32) kept → MaySkipAll (kept_turns H x kept)
 kept-skip H x [] few short = tt
 kept-skip H x (s ∷ kept) few short = (
   comment_skips (line (kept_turn H x s))
       (words_comment (codes "kept" ∷ decimal x ∷ decimal s ∷ [])
-      (record { bytes = refl; short = omega arith }, (number_text x (omega (arith, few)), (number_text s short.0, tt))) (omega arith)),
+      (record { bytes = refl; short = omega arith }, (number_text x (omega (arith, few)), (long_number_text s short.0, tt))) (omega arith)),
   kept-skip H (suc x) kept (omega (arith, few)) short.1,
 )
 
 turns-skip : (objects : List Object) (most : ℕ) (memory_refused : ℕ → Bool) (kept : List ℕ) (lines : List ObjectLine) (commands : List Command)
-    → length kept < 10 ^ 7 → AllByRecursion (λ state. state < 10 ^ 7) kept → MaySkipAll (script_turns objects most memory_refused kept [] lines commands)
+    → length kept < 10 ^ 7 → AllByRecursion (λ state. state < 2 ^ 32) kept → MaySkipAll (script_turns objects most memory_refused kept [] lines commands)
 turns-skip objects most memory_refused kept lines commands few short =
     let asked = command_turns objects most memory_refused [] commands in
     let K = history_after [] asked in

@@ -57,13 +57,13 @@ TextTellsHistory =
     → let turns = script_turns objects most memory_refused kept [] lines commands in
     text_of (filter tells turns) ≡ canonical_text lines (history_after [] turns)
 
--- a script's lines, and comments after them, are read as its history, where that is in range and kept states have at most seven digits
+-- a script's lines, and comments after them, are read as its history, where that is in range and kept states have 32 bits
 abbrev pub ScriptIsRead : Type 0
 ScriptIsRead =
     (objects : List Object) (most : ℕ) (memory_refused : ℕ → Bool) (kept : List ℕ) (lines : List ObjectLine) (commands : List Command) (behind : List (List ℕ))
     → let turns = script_turns objects most memory_refused kept [] lines commands in
     let H = history_after [] turns in
-    AreInRange lines H → length kept < 10 ^ 7 → AllByRecursion (λ state. state < 10 ^ 7) kept → AllByRecursion IsComment behind
+    AreInRange lines H → length kept < 10 ^ 7 → AllByRecursion (λ state. state < 2 ^ 32) kept → AllByRecursion IsComment behind
     → outcome_of (store_rules events) (text_of turns ++ lines_text behind) ≡ Ok (canonical_lines lines H)
 
 -- its events are worker 0's

@@ -12,7 +12,7 @@ use store_text::Entries;
 
 /// The commands of a script. Their transactions and objects may have any number, since the store
 /// refuses those that aren't there.
-#[derive(Clone, Copy, Debug)]
+#[derive(Clone, Copy)]
 pub struct Commands;
 
 impl Entries for Commands {

@@ -26,7 +26,7 @@ use Rattle.serving.specs.Serving.{life_of}
 use Rattle.command_files.specs.Answers.{Refuses}
 use Rattle.command_files.specs.Status.{is_input}
 use Rattle.command_files.specs.declared.fault.Fault.{Fault}
-use Rattle.command_files.specs.declared.fault.Fault.TheVariants.{Usage, Text, NoType, OtherObjects, Order, HasEvents, BadParameter, TooLarge, CannotRead, Database, NoStore, NoMemory, Output}
+use Rattle.command_files.specs.declared.fault.Fault.TheVariants.{Usage, Text, NoType, NeedsEscrow, ObjectNeedsEscrow, OtherObjects, Order, HasEvents, BadParameter, TooLarge, CannotRead, Database, NoStore, NoMemory, Output}
 use Rattle.command_files.specs.declared.status.Verdict.{Verdict}
 use Rattle.command_files.specs.declared.status.Verdict.TheVariants.{Yes}
 use Rattle.serve_command.specs.Found.{Finds, SaysFound, found_text}
@@ -189,6 +189,8 @@ pub is-no-input : (fault : Fault) → Refuses ⊥ fault → is_input fault ≡ f
 is-no-input (Usage text) refused = absurd refused
 is-no-input (Text path f) refused = absurd refused
 is-no-input (NoType path x place) refused = absurd refused
+is-no-input (NeedsEscrow path) refused = absurd refused
+is-no-input (ObjectNeedsEscrow path x) refused = absurd refused
 is-no-input (OtherObjects path first) refused = absurd refused
 is-no-input (Order path fault) refused = absurd refused
 is-no-input (HasEvents path) refused = absurd refused

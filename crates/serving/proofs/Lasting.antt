@@ -146,7 +146,7 @@ module _ {S : Type 0} {g : Ghosts S} (old mid new : Durable S) (sound : IsDurabl
 kept-as : (s t : Stored) (x state : ℕ) → LetsGo s t → IsKeptState t x state → IsKeptState s x state
 kept-as s t x state lets kept =
     let it : IsKeptState (record s { forgotten = t.forgotten }) x state = subst (λ (u : Stored). IsKeptState u x state) lets kept in
-    record { o = it.o; there = it.there; in_place = it.in_place; agrees = it.agrees; short = it.short }
+    record { o = it.o; there = it.there; in_place = it.in_place; agrees = it.agrees; fits = it.fits }
 
 renews-as : (s t new : Stored) → LetsGo s t → Renews t new → Renews s new
 renews-as s t new lets renews =

@@ -49,7 +49,7 @@ pub trait Archive {
 }
 
 /// No archive: the histories of epochs that are over are let go.
-#[derive(Clone, Copy, Debug)]
+#[derive(Clone, Copy)]
 pub struct NoArchive;
 
 impl Archive for NoArchive {

@@ -78,7 +78,7 @@ fn reply_at(store: &Store<Object>, x: u32, k: u8) -> AnswerLine
     let Some(checked) = store.checked(x) else {
         return AnswerLine::Nothing;
     };
-    match checked.table().ops().get(k as usize) {
+    match checked.ops().get(k as usize) {
         Some(op) => AnswerLine::Reply { reply: op.reply },
         None => AnswerLine::Nothing,
     }

@@ -1,5 +1,5 @@
 -- What a history and the kept states of a store owe the serial order.
-use Rattle.std.proofs.Common.{◌≡◌, ℕ, ◌<◌, List, map, Option, Some, slice_get, sym, ap, subst, ◌∙◌}
+use Rattle.std.proofs.Common.{◌≡◌, ℕ, ◌<◌, ◌^◌, List, map, Option, Some, slice_get, sym, ap, subst, ◌∙◌}
 use Rattle.std.specs.Option.{option_map}
 use Rattle.std.proofs.lemmas.List.{map-append}
 use Rattle.std.proofs.lemmas.Option.{slice_get-map}
@@ -74,8 +74,8 @@ module _ (headline : CheckedHeadline) (ms : List Meaning) (rows : List (Option R
       ∙ ap (option_map object_of) (slice_get-map (λ (n : Meaning). n.checked) ms x ∙ ap (option_map (λ (n : Meaning). n.checked)) there)
 
   -- and its state
-  pub kept-shown : RunsAlong → (x state : ℕ) (m : Meaning) → slice_get ms x ≡ Some m → state_of m ≡ Some state → state < 10000000 → IsKeptState s x state
-  kept-shown along x state m there is short =
+  pub kept-shown : RunsAlong → (x state : ℕ) (m : Meaning) → slice_get ms x ≡ Some m → state_of m ≡ Some state → state < 2 ^ 32 → IsKeptState s x state
+  kept-shown along x state m there is fits =
       let represents = (kept.objects x m there).represents in
       subst (λ (z : Stored). IsKeptState z x state) same
       (record {
@@ -83,5 +83,5 @@ module _ (headline : CheckedHeadline) (ms : List Meaning) (rows : List (Option R
         there = object-at x m there;
         in_place = in-place along m.checked.kind (object m) m.base m.log x (commits H) (surviving_at x H) state represents is;
         agrees = subst (λ state. KeptAgreesBy m.checked.kind (object m) state x H) is (owed.kept x m (object-at x m there) represents);
-        short = short;
+        fits = fits;
       })

@@ -1,5 +1,5 @@
 -- A store that begins anew at the states of its objects.
-use Rattle.std.proofs.Common.{◌≡◌, ℕ, zero, suc, ◌+◌, ◌<◌, ◌≤◌, List, [], ◌∷◌, ◌++◌, length, false, Option, Some, slice_get, refl, sym, ap, subst, ◌∙◌, inl, inr, arith}
+use Rattle.std.proofs.Common.{◌≡◌, ℕ, zero, suc, ◌+◌, ◌^◌, ◌<◌, ◌≤◌, List, [], ◌∷◌, ◌++◌, length, false, Option, Some, slice_get, refl, sym, ap, subst, ◌∙◌, inl, inr, arith}
 use Rattle.std.proofs.lemmas.List.{length-append, length-map}
 use Rattle.std.proofs.lemmas.Option.{none-some, same_Some, slice_get_within}
 use Rattle.type_table.specs.Laws.{RunsAlong}
@@ -50,9 +50,9 @@ renewed-all ms now capacity i first all = record { as_many = first.as_many ∙ a
 
 -- ---- the states that were kept
 
--- the state of an object, of at most seven digits
+-- the state of an object, of 32 bits
 abbrev IsStateOf : Meaning → ℕ → Type 0
-IsStateOf m s = (state_of m ≡ Some s) × (s < 10000000)
+IsStateOf m s = (state_of m ≡ Some s) × (s < 2 ^ 32)
 
 -- their list, and the types at them
 pub record AreKept (ms now : List Meaning) : Type 0 where
@@ -80,7 +80,7 @@ kept-of (m ∷ ms) (n ∷ now) all =
       kept = first.kept ∷ rest.kept;
       as_many = ap suc rest.as_many;
       types = ap (λ (c : Checked). c ∷ types_of now) first.checked ∙ ap (λ ts. checked_at m.checked first.kept ∷ ts) rest.types;
-      states = states-more m ms first.kept rest.kept (first.state, first.short) rest.states;
+      states = states-more m ms first.kept rest.kept (first.state, first.fits) rest.states;
     }
 
 -- ---- the store

@@ -1,5 +1,5 @@
 -- A store that begins anew at the states that it kept.
-use Rattle.std.specs.Prelude.{◌≡◌, ℕ, ◌<◌, List, [], length, true, false, Some, slice_get}
+use Rattle.std.specs.Prelude.{◌≡◌, ℕ, ◌<◌, ◌^◌, List, [], length, true, false, Some, slice_get}
 use Rattle.table_checker.specs.At.{checked_at, IsInside}
 use Rattle.object_trait.specs.Meaning.{Meaning, state_of}
 use Rattle.object_trait.specs.Steps.{IsFresh}
@@ -16,7 +16,7 @@ use Rattle.store.specs.declared.refusals.RenewRefusal.TheVariants.{StillOpen, No
 pub record IsRenewed (m new : Meaning) : Type 0 where
   pub kept : ℕ
   pub state : state_of m ≡ Some kept
-  pub short : kept < 10000000
+  pub fits : kept < 2 ^ 32
   pub fresh : IsFresh new
   pub checked : new.checked ≡ checked_at m.checked kept
 

@@ -56,13 +56,10 @@ fn shared_at(
     requires { IsInside checked.now state }
     ensures { IfOk result (λ shared. shared.value ≡ checked_at checked.now state) }
 {
-    // (read for its clause that there is a table, so that each of its states is small)
-    let _file = checked.file();
-    let at = state as u16;
-    if let Some(shared) = found_at(types, checked, at) {
+    if let Some(shared) = found_at(types, checked, state) {
         return Ok(Arc::clone(shared)?);
     }
-    let made = checked.at(alloc, at)?.unwrap();
+    let made = checked.at(alloc, state)?.unwrap();
     let shared = Arc::new(alloc, made)?;
     types.push(Arc::clone(&shared)?)?;
     Ok(shared)
@@ -72,7 +69,7 @@ fn shared_at(
 fn found_at<'a>(
     types: &'a [Arc<CheckedType>],
     checked: &CheckedType,
-    state: u16,
+    state: u32,
 ) -> Option<&'a Arc<CheckedType>>
     ensures { IfSome result (λ shared. shared.now.value ≡ checked_at checked.now state) }
 {

@@ -1,7 +1,7 @@
 -- The answer to a history that was read.
 use Rattle.std.proofs.Common.{◌≡◌, ◌≢◌, ◌∙◌, ℕ, List, Result, Ok, Err, subst}
 use Rattle.type_table.specs.Table.{Table}
-use Rattle.type_text.specs.declared.type_file.TypeFile.{TypeFile}
+use Rattle.table_checker.specs.declared.declared_type.Declaration.{Declaration}
 use Rattle.object_trait.specs.declared.event.Event.{Event}
 use Rattle.store_text.specs.declared.line.ObjectLine.{ObjectLine}
 use Rattle.history_text.specs.declared.history_file.HistoryFile.{HistoryFile}
@@ -16,19 +16,19 @@ use Rattle.command_files.specs.declared.status.Verdict.TheVariants.{Yes, No}
 use Rattle.store_files.specs.Types.{AreTablesOf}
 use Rattle.store_commands.specs.Audited.{AuditsRead, IsAuditOf, IsSaid}
 
-module _ (history : HistoryFile) (files : List TypeFile) (tables given : List Table) (objects : List ObjectLine) (events : List Event) (outcome : Result Audit AuditFault)
+module _ (history : HistoryFile) (declared : List Declaration) (tables given : List Table) (objects : List ObjectLine) (events : List Event) (outcome : Result Audit AuditFault)
     (objects_are : objects ≡ history.objects.items) (events_are : events ≡ history.events.items) (given_are : given ≡ tables)
-    (are : AreTablesOf files objects tables) (audits : Audits given events outcome) where
-  tables_are : AreTablesOf files history.objects.items tables
-  tables_are = subst (λ (os : List ObjectLine). AreTablesOf files os tables) objects_are are
+    (are : AreTablesOf declared objects tables) (audits : Audits given events outcome) where
+  tables_are : AreTablesOf declared history.objects.items tables
+  tables_are = subst (λ (os : List ObjectLine). AreTablesOf declared os tables) objects_are are
 
   audits_are : Audits tables history.events.items outcome
   audits_are = subst (λ (es : List Event). Audits tables es outcome) events_are (subst (λ (ts : List Table). Audits ts events outcome) given_are audits)
 
   -- what the outcome says answers it
-  pub says : (v : Verdict) (text : List ℕ) → IsSaid outcome v text → AuditsRead history files v text
-  says Yes text (a, is, same) = (a, subst (λ (r : Result Audit AuditFault). IsAuditOf history files r text) is (record { tables = tables; are = tables_are; audits = audits_are; is = same }))
-  says No text (fault, is, some, same) = (fault, some, subst (λ (r : Result Audit AuditFault). IsAuditOf history files r text) is (record { tables = tables; are = tables_are; audits = audits_are; is = same }))
+  pub says : (v : Verdict) (text : List ℕ) → IsSaid outcome v text → AuditsRead history declared v text
+  says Yes text (a, is, same) = (a, subst (λ (r : Result Audit AuditFault). IsAuditOf history declared r text) is (record { tables = tables; are = tables_are; audits = audits_are; is = same }))
+  says No text (fault, is, some, same) = (fault, some, subst (λ (r : Result Audit AuditFault). IsAuditOf history declared r text) is (record { tables = tables; are = tables_are; audits = audits_are; is = same }))
 
 -- what was put out is what the outcome says
 pub said_yes : (outcome : Result Audit AuditFault) (a : Audit) (lines : List ℕ) → outcome ≡ Ok a → lines ≡ audit_text outcome → (v : Verdict) (text : List ℕ) → IsThis Yes lines v text → IsSaid outcome v text

@@ -3,7 +3,7 @@ use Rattle.std.proofs.Common.{◌≡◌, ℕ, List, Option, IfSome, subst}
 use Rattle.table_checker.specs.Checked.{Checked}
 use Rattle.table_checker.specs.declared.refusal.CheckRefusal.{CheckRefusal}
 use Rattle.store_text.specs.declared.line.ObjectLine.{ObjectLine}
-use Rattle.store_files.specs.ObjectTypes.{AreTypesAt, HasNoType, HasTypeFault, IsRefusedAt, in_type, no_type}
+use Rattle.store_files.specs.ObjectTypes.{AreTypesAt, HasNoEscrow, HasNoType, HasTypeFault, IsRefusedAt, in_type, no_escrow, no_type}
 use Rattle.store_files.specs.Types.{AreReadAt, Held, IsFirstFaultyOf}
 
 module _ (holds later : Held) (kept : (other : List ℕ) → later other ≡ holds other) where
@@ -25,15 +25,19 @@ module _ (holds later : Held) (kept : (other : List ℕ) → later other ≡ hol
   }
 
   pub types_kept : (words : List (List ℕ)) (objects : List ObjectLine) (types : List Checked) → AreTypesAt later words objects types → AreTypesAt holds words objects types
-  types_kept words objects types at = record { files = at.files; held = files_kept words at.files at.held; are = at.are }
+  types_kept words objects types at = record { declared = at.declared; held = files_kept words at.declared at.held; are = at.are }
 
   pub refused_kept : (words : List (List ℕ)) (objects : List ObjectLine) (x : ℕ) (refusal : CheckRefusal) → IsRefusedAt later words objects x refusal
       → IsRefusedAt holds words objects x refusal
-  refused_kept words objects x refusal at = record { files = at.files; held = files_kept words at.files at.held; first = at.first }
+  refused_kept words objects x refusal at = record { declared = at.declared; held = files_kept words at.declared at.held; first = at.first }
 
   no_type_kept : (words : List (List ℕ)) (objects : List ObjectLine) → HasNoType later words objects → HasNoType holds words objects
-  no_type_kept words objects has = record { files = has.files; held = files_kept words has.files has.held; x = has.x; place = has.place; first = has.first }
+  no_type_kept words objects has = record { declared = has.declared; held = files_kept words has.declared has.held; x = has.x; place = has.place; first = has.first }
+
+  no_escrow_kept : (words : List (List ℕ)) (objects : List ObjectLine) → HasNoEscrow later words objects → HasNoEscrow holds words objects
+  no_escrow_kept words objects has = record { declared = has.declared; held = files_kept words has.declared has.held; x = has.x; first = has.first }
 
   pub type_fault_kept : (words : List (List ℕ)) (objects : List ObjectLine) → HasTypeFault later words objects → HasTypeFault holds words objects
   type_fault_kept words objects (in_type first) = in_type (faulty_kept words first)
   type_fault_kept words objects (no_type has) = no_type (no_type_kept words objects has)
+  type_fault_kept words objects (no_escrow has) = no_escrow (no_escrow_kept words objects has)

@@ -1,12 +1,16 @@
 -- What `run` writes is read as its store's history.
-use Rattle.std.proofs.Common.{◌≡◌, ℕ, ◌<◌, ◌≤◌, ◌^◌, List, [], ◌∷◌, length, map, Some, Ok, sym, subst, arith}
+use Rattle.std.proofs.Common.{◌≡◌, ℕ, ◌+◌, ◌-◌, ◌<◌, ◌≤◌, ◌^◌, List, [], ◌∷◌, length, map, Option, Some, None, Ok, refl, sym, ap, subst, ◌∙◌, arith}
 use Rattle.std.specs.List.{AllByRecursion}
 use Rattle.std.proofs.lemmas.List.{length-map}
-use Rattle.std.specs.Prelude.{slice_get}
-use Rattle.std.proofs.lemmas.Option.{slice_get_within}
+use Rattle.std.specs.Prelude.{slice_get, IfSome}
+use Rattle.std.proofs.lemmas.Option.{none-some, same_Some, slice_get_within}
 use Rattle.type_table.proofs.Elements.{each-append, each-places, each-weaker, element_at, found-map}
 use Rattle.type_table.specs.Laws.{EndsWithin}
-use Rattle.type_table.specs.Table.{IsTable, Table}
+use Rattle.type_table.specs.Run.{run}
+use Rattle.type_table.specs.Table.{Table, next}
+use Rattle.escrow_laws.specs.Bounds.{AreBounds, bounds_of, moved_by}
+use Rattle.escrow_laws.specs.declared.bounded.Bounded.{Bounded}
+use Rattle.number_text.proofs.Tables.{moved_inside}
 use Rattle.type_text.specs.declared.type_file.TypeFile.{TypeFile}
 use Rattle.type_table.specs.declared.kind.Kind.{Kind}
 use Rattle.type_table.specs.declared.kind.Kind.TheVariants.{Undo, Intentions, Escrow}
@@ -34,30 +38,56 @@ mapped f P xs each i y at = let found = found-map f xs i y at in subst P found.2
 
 -- ---- types
 
--- what was checked has a table
-has-table : (kind : Kind) (file : TypeFile) → IsCheckedBy kind file → IsTable file.table
-has-table Undo file is = is.table
-has-table Intentions file is = is.table
-has-table Escrow file is = is.table
+-- what was checked has at most 64 operations
+few_ops : (kind : Kind) (file : TypeFile) → IsCheckedBy kind file → length file.table.ops ≤ 64
+few_ops Undo file is = is.table.ops_fit
+few_ops Intentions file is = is.table.ops_fit
+few_ops Escrow file is = is.ops_fit
+
+-- from nowhere nothing leads anywhere
+no_run : (T : Table) (ks : List ℕ) → run T None ks ≡ None
+no_run T [] = refl
+no_run T (k ∷ ks) = no_run T ks
+
+-- the runs of a number stay below its top
+module _ (T : Table) (top : ℕ) (ops : List Bounded) (bounds : AreBounds T top ops) where
+  step_below_by : (s k : ℕ) (o : Option Bounded) → slice_get ops k ≡ o → IfSome (next T s k) (λ t. t < top + 1)
+  step_below_by s k None is = subst (λ (o : Option ℕ). IfSome o (λ t. t < top + 1)) (sym (bounds.steps s k ∙ ap (λ (o : Option Bounded). moved_by o s) is)) tt
+  step_below_by s k (Some b) is = moved_inside top b s (bounds.within k b is) (next T s k) (bounds.steps s k ∙ ap (λ (o : Option Bounded). moved_by o s) is)
+
+  ends_below : (ks : List ℕ) (from : Option ℕ) (e : ℕ) → IfSome from (λ s. s < top + 1) → run T from ks ≡ Some e → e < top + 1
+  ends_below ks None e low leads = absurd (none-some e (sym (no_run T ks) ∙ leads))
+  ends_below [] (Some s) e low leads = subst (λ n. n < top + 1) (same_Some s e leads) low
+  ends_below (k ∷ ks) (Some s) e low leads = ends_below ks (next T s k) e (step_below_by s k (slice_get ops k) refl) leads
+
+-- so the runs of what was checked end at numbers of 32 bits
+ends_fit : EndsWithin → (kind : Kind) (file : TypeFile) (ks : List ℕ) (e : ℕ) → IsCheckedBy kind file → run file.table (Some file.table.initial) ks ≡ Some e → e < 2 ^ 32
+ends_fit within Undo file ks e is leads = let inside = within file.table file.table.initial e ks is.table is.table.initial_inside leads in omega (arith, inside, is.table.states_fit)
+ends_fit within Intentions file ks e is leads = let inside = within file.table file.table.initial e ks is.table is.table.initial_inside leads in omega (arith, inside, is.table.states_fit)
+ends_fit within Escrow file ks e is leads =
+    let T = file.table in
+    let start = is.initial_inside in
+    let inside = ends_below T (T.states - 1) (bounds_of T) is.bounds ks (Some T.initial) e (omega (arith, start)) leads in
+    omega (arith, inside, start, is.states_fit)
 
 module _ (s : Stored) (checked : (x : ℕ) (c : Checked) → slice_get s.types x ≡ Some c → IsChecked c) where
   pub ops_few : (x : ℕ) (o : Object) → slice_get (objects s) x ≡ Some o → length o.table.ops ≤ 64
-  ops_few = mapped object_of (λ o. length o.table.ops ≤ 64) s.types (λ x c there. (has-table c.kind c.file (checked x c there)).ops_fit)
+  ops_few = mapped object_of (λ o. length o.table.ops ≤ 64) s.types (λ x c there. few_ops c.kind c.file (checked x c there))
 
-  tables_are : (x : ℕ) (T : Table) → slice_get (tables s) x ≡ Some T → IsTable T
-  tables_are = mapped (λ (c : Checked). c.file.table) IsTable s.types (λ x c there. has-table c.kind c.file (checked x c there))
+  -- what holds of the runs of each type holds of those of each table
+  ends_are : EndsWithin → (x : ℕ) (T : Table) → slice_get (tables s) x ≡ Some T → (ks : List ℕ) (e : ℕ) → run T (Some T.initial) ks ≡ Some e → e < 2 ^ 32
+  ends_are within =
+      mapped (λ (c : Checked). c.file.table) (λ (T : Table). (ks : List ℕ) (e : ℕ) → run T (Some T.initial) ks ≡ Some e → e < 2 ^ 32) s.types
+      (λ x c there ks e leads. ends_fit within c.kind c.file ks e (checked x c there) leads)
 
   -- ---- an audit
 
-  finals_short : EndsWithin → (order finals : List ℕ) → IsAudit (tables s) s.history order finals → AllByRecursion (λ n. n < 10 ^ 7) finals
-  finals_short within order finals audit =
-      each-places (λ n. n < 10 ^ 7) finals (λ x n there.
+  finals_fit : EndsWithin → (order finals : List ℕ) → IsAudit (tables s) s.history order finals → AllByRecursion (λ n. n < 2 ^ 32) finals
+  finals_fit within order finals audit =
+      each-places (λ n. n < 2 ^ 32) finals (λ x n there.
       let low : x < length (tables s) = omega (arith, slice_get_within finals x n there, audit.leads.as_many) in
       let found = element_at (tables s) x low in
-      let T = found.0 in
-      let is = tables_are x T found.1 in
-      let inside = within T T.initial n (ops (serial_at x s.history)) is is.initial_inside (audit.leads.states x T n found.1 there) in
-      omega (arith, inside, is.states_fit))
+      ends_are within x found.0 found.1 (ops (serial_at x s.history)) n (audit.leads.states x found.0 n found.1 there))
 
 commit_below : (n k m : ℕ) (happened : EventKind) → AreBelow n k m happened → AllByRecursion (λ t. t < m) (committed_by happened)
 commit_below n k m (kind.Begin t) low = tt
@@ -80,12 +110,12 @@ commits_short numbers s checked history limit =
     let all = commits_below (length (objects s)) 64 (length s.history) s.history below in
     each-weaker (λ n low. omega (arith, low, history.room, limit)) (commits s.history) all
 
--- and so have those of a yes
+-- and so have those of a yes, but for states
 pub audit_short : EndsWithin → NumbersInRun → (s : Stored) → ((x : ℕ) (c : Checked) → slice_get s.types x ≡ Some c → IsChecked c) → HasSerialRun s → s.max ≤ 1000000
     → length s.types ≤ 256 → (a : Audit) → Audits (tables s) s.history (Ok a) → IsShortYes a
 audit_short within numbers s checked history limit few a audits =
     record {
       order = subst (AllByRecursion (λ n. n < 10 ^ 7)) (sym audits.1.order_is) (commits_short numbers s checked history limit);
       objects = omega (arith, audits.1.leads.as_many, length-map s.types (λ (c : Checked). c.file.table), few);
-      finals = finals_short s checked within a.order.items a.finals.items audits.1;
+      finals = finals_fit s checked within a.order.items a.finals.items audits.1;
     }

@@ -51,8 +51,8 @@ read_as canonical lines s text fit value =
     }
 
 -- kept states have at most seven digits
-pub kept_short : (s : Stored) (kept : List ℕ) → AreKept s kept → AllByRecursion (λ n. n < 10 ^ 7) kept
-kept_short s kept are = each-places (λ n. n < 10 ^ 7) kept (λ x n there. omega (arith, (are x n there).short))
+pub kept_short : (s : Stored) (kept : List ℕ) → AreKept s kept → AllByRecursion (λ n. n < 2 ^ 32) kept
+kept_short s kept are = each-places (λ n. n < 2 ^ 32) kept (λ x n there. (are x n there).fits)
 
 workers_low : (H : List Event) → AllByRecursion (λ (e : Event). e.worker ≡ 0) H → AllByRecursion (λ (e : Event). e.worker ≤ 255) H
 workers_low [] mine = tt

@@ -2,7 +2,7 @@
 use Rattle.std.proofs.Common.{◌≡◌, ◌∙◌, ◌<◌, ℕ, List, [], ◌∷◌, length, Result, Ok, Vec, IfSome, subst, arith}
 use Rattle.std.specs.declared.alloc.Global.{Global}
 use Rattle.type_table.specs.Table.{Table}
-use Rattle.type_text.specs.declared.type_file.TypeFile.{TypeFile}
+use Rattle.table_checker.specs.declared.declared_type.Declaration.{Declaration}
 use Rattle.object_trait.specs.declared.event.Event.{Event}
 use Rattle.store_text.specs.declared.line.ObjectLine.{ObjectLine}
 use Rattle.history_text.specs.declared.history_file.HistoryFile.{HistoryFile}
@@ -14,46 +14,46 @@ use Rattle.command_files.specs.Answers.{IsThis}
 use Rattle.command_files.specs.declared.status.Verdict.{Verdict}
 use Rattle.command_files.specs.declared.status.Verdict.TheVariants.{Yes, No}
 use Rattle.store_files.specs.Histories.{AreHistoriesAt, DescribesHistory}
-use Rattle.store_files.specs.Types.{AreFilesAt, AreTablesOf, Held}
+use Rattle.store_files.specs.Types.{AreDeclaredAt, AreTablesOf, Held}
 use Rattle.store_commands.specs.Audited.{AreAuditFiles, AuditsAll, AuditsEach, AuditsRead, IsAuditOfAll, events_of}
 use Rattle.store_commands.proofs.Kept.{files_kept}
 
 -- a yes
-pub all_say_yes : (first : HistoryFile) (later : List HistoryFile) (files : List TypeFile) (tables given : List Table) (objects : List ObjectLine) (Hs : List (List Event))
-    (outcome : Result (Vec Audit Global) EpochFault) → objects ≡ first.objects.items → Hs ≡ events_of first later → given ≡ tables → AreTablesOf files objects tables
+pub all_say_yes : (first : HistoryFile) (later : List HistoryFile) (declared : List Declaration) (tables given : List Table) (objects : List ObjectLine) (Hs : List (List Event))
+    (outcome : Result (Vec Audit Global) EpochFault) → objects ≡ first.objects.items → Hs ≡ events_of first later → given ≡ tables → AreTablesOf declared objects tables
     → AuditsEpochs given Hs outcome → (lines : List ℕ) → lines ≡ epochs_text outcome → (audits : Vec Audit Global) → outcome ≡ Ok audits
-    → (v : Verdict) (text : List ℕ) → IsThis Yes lines v text → AuditsEach first later files v text
-all_say_yes first later files tables given objects Hs outcome objects_are histories_are given_are are audits lines text_is them is Yes text this =
-    let whole : IsAuditOfAll first later files outcome text = record {
+    → (v : Verdict) (text : List ℕ) → IsThis Yes lines v text → AuditsEach first later declared v text
+all_say_yes first later declared tables given objects Hs outcome objects_are histories_are given_are are audits lines text_is them is Yes text this =
+    let whole : IsAuditOfAll first later declared outcome text = record {
       tables = tables;
-      are = subst (λ (os : List ObjectLine). AreTablesOf files os tables) objects_are are;
+      are = subst (λ (os : List ObjectLine). AreTablesOf declared os tables) objects_are are;
       audits = subst (λ (hs : List (List Event)). AuditsEpochs tables hs outcome) histories_are (subst (λ (ts : List Table). AuditsEpochs ts Hs outcome) given_are audits);
       is = this.1 ∙ text_is;
     } in
-    (them, subst (λ (r : Result (Vec Audit Global) EpochFault). IsAuditOfAll first later files r text) is whole)
-all_say_yes first later files tables given objects Hs outcome objects_are histories_are given_are are audits lines text_is them is No text this = absurd (let clash = this.0 in cc)
+    (them, subst (λ (r : Result (Vec Audit Global) EpochFault). IsAuditOfAll first later declared r text) is whole)
+all_say_yes first later declared tables given objects Hs outcome objects_are histories_are given_are are audits lines text_is them is No text this = absurd (let clash = this.0 in cc)
 
 -- ---- what was read
 
 -- what a source says stays while the files are read
 pub all_read : (holds behind_first behind_later : Held) → ((other : List ℕ) → behind_first other ≡ holds other) → ((other : List ℕ) → behind_later other ≡ behind_first other)
-    → (path : List ℕ) (others words : List (List ℕ)) (first : HistoryFile) (later : List HistoryFile) (files : List TypeFile) → IfSome (holds path) (λ text. DescribesHistory text first)
-    → AreHistoriesAt behind_first others later → AreFilesAt behind_later words files → AreAuditFiles holds path others words first later files
-all_read holds behind_first behind_later kept_first kept_later path others words first later files described histories types = record {
+    → (path : List ℕ) (others words : List (List ℕ)) (first : HistoryFile) (later : List HistoryFile) (declared : List Declaration) → IfSome (holds path) (λ text. DescribesHistory text first)
+    → AreHistoriesAt behind_first others later → AreDeclaredAt behind_later words declared → AreAuditFiles holds path others words first later declared
+all_read holds behind_first behind_later kept_first kept_later path others words first later declared described histories types = record {
   history_held = described;
   later_held = files_kept holds behind_first kept_first others later histories;
-  files_held = files_kept holds behind_later (λ other. kept_later other ∙ kept_first other) words files types;
+  types_held = files_kept holds behind_later (λ other. kept_later other ∙ kept_first other) words declared types;
 }
 
 -- ---- by how many there are
 
 -- none follows
-pub one_alone : (first : HistoryFile) (later : List HistoryFile) (files : List TypeFile) (v : Verdict) (text : List ℕ) → length later ≡ 0 → AuditsRead first files v text → AuditsAll first later files v text
-one_alone first [] files v text none says = says
-one_alone first (next ∷ later) files v text none says = absurd (omega (arith, none))
+pub one_alone : (first : HistoryFile) (later : List HistoryFile) (declared : List Declaration) (v : Verdict) (text : List ℕ) → length later ≡ 0 → AuditsRead first declared v text → AuditsAll first later declared v text
+one_alone first [] declared v text none says = says
+one_alone first (next ∷ later) declared v text none says = absurd (omega (arith, none))
 
 -- some do
-pub some_follow : (first : HistoryFile) (later : List HistoryFile) (files : List TypeFile) (v : Verdict) (text : List ℕ) → 0 < length later → AuditsEach first later files v text
-    → AuditsAll first later files v text
-some_follow first [] files v text some says = absurd (omega (arith, some))
-some_follow first (next ∷ later) files v text some says = says
+pub some_follow : (first : HistoryFile) (later : List HistoryFile) (declared : List Declaration) (v : Verdict) (text : List ℕ) → 0 < length later → AuditsEach first later declared v text
+    → AuditsAll first later declared v text
+some_follow first [] declared v text some says = absurd (omega (arith, some))
+some_follow first (next ∷ later) declared v text some says = says

@@ -3,7 +3,7 @@ use Rattle.std.specs.Prelude.{◌≡◌, ◌≢◌, ◌⊎◌, ℕ, List, [], �
 use Rattle.std.specs.declared.alloc.Global.{Global}
 use Rattle.std.specs.List.{AllByRecursion}
 use Rattle.type_table.specs.Table.{Table}
-use Rattle.type_text.specs.declared.type_file.TypeFile.{TypeFile}
+use Rattle.table_checker.specs.declared.declared_type.Declaration.{Declaration}
 use Rattle.history_text.specs.declared.history_file.HistoryFile.{HistoryFile}
 use Rattle.object_trait.specs.declared.event.Event.{Event}
 use Rattle.history_audit.specs.Audit.{Audits}
@@ -18,12 +18,12 @@ use Rattle.command_files.specs.Answers.{Answers}
 use Rattle.command_files.specs.declared.status.Verdict.TheVariants.{Yes, No}
 use Rattle.store_files.specs.Histories.{AreHistoriesAt, DescribesHistory, IsFaultyHistory, IsFirstFaultyHistory}
 use Rattle.object_types.specs.Types.{IsUnplaced}
-use Rattle.store_files.specs.Types.{Held, AreFilesAt, AreTablesOf, IsFirstFaulty}
+use Rattle.store_files.specs.Types.{Held, AreDeclaredAt, AreTablesOf, IsFirstFaultyDeclaration}
 
 -- the audit of a history with the tables of its objects has this outcome, and the text is its lines
-pub record IsAuditOf (history : HistoryFile) (files : List TypeFile) (outcome : Result Audit AuditFault) (text : List ℕ) : Type 0 where
+pub record IsAuditOf (history : HistoryFile) (declared : List Declaration) (outcome : Result Audit AuditFault) (text : List ℕ) : Type 0 where
   pub tables : List Table
-  pub are : AreTablesOf files history.objects.items tables
+  pub are : AreTablesOf declared history.objects.items tables
   pub audits : Audits tables history.events.items outcome
   pub is : text ≡ audit_text outcome
 
@@ -33,52 +33,52 @@ IsSaid outcome Yes text = (audit : Audit) × (outcome ≡ Ok audit) × (text ≡
 IsSaid outcome No text = (fault : AuditFault) × (outcome ≡ Err fault) × (fault ≢ NoMemory) × (text ≡ audit_text outcome)
 
 -- yes with the order and the states, or no with the first fault
-abbrev pub AuditsRead : HistoryFile → List TypeFile → Answers
-AuditsRead history files Yes text = (audit : Audit) × IsAuditOf history files (Ok audit) text
-AuditsRead history files No text = (fault : AuditFault) × (fault ≢ NoMemory) × IsAuditOf history files (Err fault) text
+abbrev pub AuditsRead : HistoryFile → List Declaration → Answers
+AuditsRead history declared Yes text = (audit : Audit) × IsAuditOf history declared (Ok audit) text
+AuditsRead history declared No text = (fault : AuditFault) × (fault ≢ NoMemory) × IsAuditOf history declared (Err fault) text
 
 -- the events of histories, the first and those that follow it
 abbrev pub events_of : HistoryFile → List HistoryFile → List (List Event)
 events_of first later = map (λ (h : HistoryFile). h.events.items) (first ∷ later)
 
 -- the audit of histories of the objects of the first, one after another, has this outcome, and the text is its lines
-pub record IsAuditOfAll (first : HistoryFile) (later : List HistoryFile) (files : List TypeFile) (outcome : Result (Vec Audit Global) EpochFault) (text : List ℕ) : Type 0 where
+pub record IsAuditOfAll (first : HistoryFile) (later : List HistoryFile) (declared : List Declaration) (outcome : Result (Vec Audit Global) EpochFault) (text : List ℕ) : Type 0 where
   pub tables : List Table
-  pub are : AreTablesOf files first.objects.items tables
+  pub are : AreTablesOf declared first.objects.items tables
   pub audits : AuditsEpochs tables (events_of first later) outcome
   pub is : text ≡ epochs_text outcome
 
 -- yes with the orders and the last states, or no with the first fault
-abbrev pub AuditsEach : HistoryFile → List HistoryFile → List TypeFile → Answers
-AuditsEach first later files Yes text = (audits : Vec Audit Global) × IsAuditOfAll first later files (Ok audits) text
-AuditsEach first later files No text = (fault : EpochFault) × (fault.fault ≢ NoMemory) × IsAuditOfAll first later files (Err fault) text
+abbrev pub AuditsEach : HistoryFile → List HistoryFile → List Declaration → Answers
+AuditsEach first later declared Yes text = (audits : Vec Audit Global) × IsAuditOfAll first later declared (Ok audits) text
+AuditsEach first later declared No text = (fault : EpochFault) × (fault.fault ≢ NoMemory) × IsAuditOfAll first later declared (Err fault) text
 
 -- a history alone is audited as one, and several one after another
-abbrev pub AuditsAll : HistoryFile → List HistoryFile → List TypeFile → Answers
-AuditsAll first [] files = AuditsRead first files
-AuditsAll first (next ∷ later) files = AuditsEach first (next ∷ later) files
+abbrev pub AuditsAll : HistoryFile → List HistoryFile → List Declaration → Answers
+AuditsAll first [] declared = AuditsRead first declared
+AuditsAll first (next ∷ later) declared = AuditsEach first (next ∷ later) declared
 
 -- each history that follows is of the objects of the first
 abbrev pub HaveObjects : HistoryFile → List HistoryFile → Type 0
 HaveObjects first later = AllByRecursion (λ (next : HistoryFile). next.objects.items ≡ first.objects.items) later
 
--- what was read for an audit: the first history at its path, those that follow it, and the files of the TYPE words
-pub record AreAuditFiles (holds : Held) (path : List ℕ) (others : List (List ℕ)) (words : List (List ℕ)) (first : HistoryFile) (later : List HistoryFile) (files : List TypeFile) : Type 0 where
+-- what was read for an audit: the first history at its path, those that follow it, and what is declared at the TYPE words
+pub record AreAuditFiles (holds : Held) (path : List ℕ) (others : List (List ℕ)) (words : List (List ℕ)) (first : HistoryFile) (later : List HistoryFile) (declared : List Declaration) : Type 0 where
   pub history_held : IfSome (holds path) (λ text. DescribesHistory text first)
   pub later_held : AreHistoriesAt holds others later
-  pub files_held : AreFilesAt holds words files
+  pub types_held : AreDeclaredAt holds words declared
 
 -- the answer to what was read
 abbrev pub AuditsFiles : Held → List ℕ → List (List ℕ) → List (List ℕ) → Answers
 AuditsFiles holds path others words verdict text =
-    (first : HistoryFile) × (later : List HistoryFile) × (files : List TypeFile)
-    × AreAuditFiles holds path others words first later files × HaveObjects first later × AuditsAll first later files verdict text
+    (first : HistoryFile) × (later : List HistoryFile) × (declared : List Declaration)
+    × AreAuditFiles holds path others words first later declared × HaveObjects first later × AuditsAll first later declared verdict text
 
 -- the text of a history has a fault, or the first of the types that has one; or a history that follows has other objects, or an object names no type
 abbrev pub HasAuditFault : Held → List ℕ → List (List ℕ) → List (List ℕ) → Type 0
 HasAuditFault holds path others words =
     IfSome (holds path) IsFaultyHistory
     ⊎ (IsFirstFaultyHistory holds others
-    ⊎ (IsFirstFaulty holds words
-    ⊎ ((first : HistoryFile) × (later : List HistoryFile) × (files : List TypeFile) × AreAuditFiles holds path others words first later files
-    × (¬ (HaveObjects first later) ⊎ IsUnplaced files first.objects.items))))
+    ⊎ (IsFirstFaultyDeclaration holds words
+    ⊎ ((first : HistoryFile) × (later : List HistoryFile) × (declared : List Declaration) × AreAuditFiles holds path others words first later declared
+    × (¬ (HaveObjects first later) ⊎ IsUnplaced declared first.objects.items))))

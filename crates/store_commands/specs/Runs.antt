@@ -74,6 +74,6 @@ BeginsRunFile holds path words text =
     ((script : Script) × (types : List Checked) × IsScriptAt holds path script × AreTypesAt holds words script.objects.items types × BeginsRun script types text)
     ⊎ RunsFile holds path words No text
 
--- the script's text has a fault; or it has none, and a type's text has one, or an object names no type
+-- the script's text has a fault; or it has none, and a type's text has one, or an object names no type, or a number without escrow
 abbrev pub HasRunFault : Held → List ℕ → List (List ℕ) → Type 0
 HasRunFault = HasFault DescribesScript IsFaultyScript (λ (script : Script). script.objects.items)

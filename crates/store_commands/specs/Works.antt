@@ -119,6 +119,6 @@ BeginsWorkFile holds workers tries path words text =
     ((file : JobsFile) × (types : List Checked) × AreJobsAt holds workers path file × AreTypesAt holds words file.objects.items types × BeginsWork file types tries text)
     ⊎ WorksFile holds workers tries path words No text
 
--- the text of the jobs has a fault; or it has none, and a type's text has one, or an object names no type
+-- the text of the jobs has a fault; or it has none, and a type's text has one, or an object names no type, or a number without escrow
 abbrev pub HasWorkFault : Held → ℕ → List ℕ → List (List ℕ) → Type 0
 HasWorkFault holds workers path words = HasFault (DescribesJobs workers) (IsFaultyJobs workers) (λ (file : JobsFile). file.objects.items) holds path words

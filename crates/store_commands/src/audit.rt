@@ -14,8 +14,8 @@ use history_audit::{Audit, AuditFault, audit, write_audit};
 use history_text::HistoryFile;
 use outputs::{Out, Sink};
 use std::alloc::Global;
-use store_files::{HistoryFormat, read_histories, read_types, tables_of};
-use type_text::TypeFile;
+use store_files::{HistoryFormat, declared_for, read_declared, read_histories};
+use table_checker::DeclaredType;
 
 /// `audit HISTORY [--then HISTORY]... TYPE...`: the histories are read in the order of the words and then the
 /// types, each parsed before the next is opened; then the objects of each history that follows are compared
@@ -39,28 +39,28 @@ pub fn audit_histories<'a, S: Source, W: Out>(
 {
     let first = read_file(alloc, &HistoryFormat, history, source)?;
     let later = read_histories(alloc, others, source)?;
-    let files = read_types(alloc, types, source)?;
+    let declared = read_declared(alloc, types, source)?;
     same_objects(history, &first, others, &later)?;
     if later.is_empty() {
-        audit_one(alloc, history, &first, &files, out)
+        audit_one(alloc, history, &first, &declared, out)
     } else {
-        audit_each(alloc, history, &first, &later, &files, out)
+        audit_each(alloc, history, &first, &later, &declared, out)
     }
 }
 
-/// The answer to one history, that was read at a path, with these type files.
+/// The answer to one history, that was read at a path, with these types.
 fn audit_one<'a, W: Out>(
     alloc: Global,
     path: &'a str,
     history: &HistoryFile,
-    files: &[TypeFile],
+    declared: &[DeclaredType],
     out: &mut W,
 ) -> Result<Verdict, Fault<'a>>
     requires { W.fault out.old ≡ None }
-    ensures { Comes (AuditsRead history.now files.now) (IsUnplaced files.now history.now.objects.items) result (W.taken out.old) (W.taken out.new) }
+    ensures { Comes (AuditsRead history.now declared.now) (IsUnplaced declared.now history.now.objects.items) result (W.taken out.old) (W.taken out.new) }
 {
-    let tables = tables_of(alloc, path, files, &history.objects)?;
-    let outcome = audit(alloc, &history.events, &tables);
+    let types = declared_for(alloc, path, declared, &history.objects)?;
+    let outcome = audit(alloc, &history.events, &types);
     put_audit(alloc, &outcome, out)
 }
 

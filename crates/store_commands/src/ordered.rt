@@ -14,8 +14,8 @@ use history_audit::{Audit, AuditFault, InOrderFault, OrderFault as AuditedOrder,
 use history_text::HistoryFile;
 use outputs::Out;
 use std::alloc::Global;
-use store_files::{HistoryFormat, read_types, tables_of};
-use type_text::TypeFile;
+use store_files::{HistoryFormat, declared_for, read_declared};
+use table_checker::DeclaredType;
 
 /// `audit --order T,T,.. HISTORY TYPE...`: the history is read and then the types, each parsed before the next is
 /// opened; then the place of each object is tested; no type is checked for a kind.
@@ -37,25 +37,25 @@ pub fn audit_ordered<'a, S: Source, W: Out>(
         Comes (AuditsOrdered holds order.now history.now words) (HasOrderedFault holds order.now history.now words) result (W.taken out.old) (W.taken out.new) }
 {
     let file = read_file(alloc, &HistoryFormat, history, source)?;
-    let files = read_types(alloc, types, source)?;
-    audit_read(alloc, order, history, &file, &files, out)
+    let declared = read_declared(alloc, types, source)?;
+    audit_read(alloc, order, history, &file, &declared, out)
 }
 
-/// The answer to a history, that was read at a path, with these type files.
+/// The answer to a history, that was read at a path, with these types.
 fn audit_read<'a, W: Out>(
     alloc: Global,
     order: &[u32],
     path: &'a str,
     history: &HistoryFile,
-    files: &[TypeFile],
+    declared: &[DeclaredType],
     out: &mut W,
 ) -> Result<Verdict, Fault<'a>>
     requires { W.fault out.old ≡ None }
-    ensures { Comes (AuditsOrderedRead history.now order.now files.now) (IsUnplaced files.now history.now.objects.items ⊎ IsOrderAmiss history.now order.now files.now)
+    ensures { Comes (AuditsOrderedRead history.now order.now declared.now) (IsUnplaced declared.now history.now.objects.items ⊎ IsOrderAmiss history.now order.now declared.now)
         result (W.taken out.old) (W.taken out.new) }
 {
-    let tables = tables_of(alloc, path, files, &history.objects)?;
-    let outcome = audit_in_order(alloc, &history.events, &tables, order);
+    let types = declared_for(alloc, path, declared, &history.objects)?;
+    let outcome = audit_in_order(alloc, &history.events, &types, order);
     let said = audited(path, outcome)?;
     put_audit(alloc, &said, out)
 }

@@ -2,6 +2,7 @@
 
 ghost use Rattle.std.specs.Prelude.{◌≡◌, None, map, IfOk};
 ghost use Rattle.history_audit.specs.Audit.{Audits};
+ghost use Rattle.table_checker.specs.Declarations.{table_of as declared_table};
 ghost use Rattle.object_types.specs.Types.{value_of};
 ghost use Rattle.store_commands.specs.Passing.{IsPassed, TellsAudit, table_of};
 
@@ -13,8 +14,7 @@ use serial_order::run_is_history;
 use std::alloc::{AllocError, Global};
 use std::sync::Arc;
 use store::Store;
-use table_checker::CheckedType;
-use type_table::TypeTable;
+use table_checker::{CheckedType, DeclaredType};
 
 /// Audits the whole history of a store of these types, and writes the lines.
 ///
@@ -57,7 +57,7 @@ pub(crate) fn audit_of<R: Recovery>(
     audit_types(alloc, types, store.history())
 }
 
-/// Audits events with the tables of these types.
+/// Audits events at objects of these types.
 pub fn audit_types(
     alloc: Global,
     types: &[Arc<CheckedType>],
@@ -65,22 +65,22 @@ pub fn audit_types(
 ) -> Result<Audit, AuditFault>
     ensures { Audits (map table_of types.now) events.now result }
 {
-    match tables_of(alloc, types) {
-        Ok(tables) => audit(alloc, events, &tables),
+    match declared_of(alloc, types) {
+        Ok(declared) => audit(alloc, events, &declared),
         Err(_) => Err(AuditFault::NoMemory),
     }
 }
 
-/// The tables of these types.
-fn tables_of<'a>(
+/// How these types were declared.
+fn declared_of<'a>(
     alloc: Global,
     types: &'a [Arc<CheckedType>],
-) -> Result<Vec<&'a TypeTable>, AllocError>
-    ensures { IfOk result (λ tables. map (λ t. t.now) tables.items ≡ map table_of types.now) }
+) -> Result<Vec<&'a DeclaredType>, AllocError>
+    ensures { IfOk result (λ declared. map (λ t. declared_table t.now) declared.items ≡ map table_of types.now) }
 {
-    let mut tables = Vec::with_capacity(alloc, types.len())?;
+    let mut declared = Vec::with_capacity(alloc, types.len())?;
     for checked in types {
-        tables.push_reserved(checked.table());
+        declared.push_reserved(checked.declared());
     }
-    Ok(tables)
+    Ok(declared)
 }

@@ -25,8 +25,8 @@ use table_checker::CheckedType;
 ///
 /// # Errors
 ///
-/// A file can't be read or its text has a fault, no TYPE word is at an object's place, memory was
-/// refused, or the output failed.
+/// A file can't be read or its text has a fault, no TYPE word is at an object's place, an object of another
+/// kind than escrow names a number, memory was refused, or the output failed.
 pub fn run_file<'a, S: Source, W: Out>(
     alloc: Global,
     script: &'a str,

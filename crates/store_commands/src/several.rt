@@ -14,9 +14,9 @@ use history_text::HistoryFile;
 use object_trait::Event;
 use outputs::{Out, Sink};
 use std::alloc::{AllocError, Global};
-use store_files::tables_of;
+use store_files::declared_for;
 use store_text::ObjectLine;
-use type_text::TypeFile;
+use table_checker::DeclaredType;
 
 /// Tests that each history that follows the one at a path is one of its objects.
 ///
@@ -51,21 +51,21 @@ fn same_lines(one: &[ObjectLine], other: &[ObjectLine]) -> bool
     one == other
 }
 
-/// The answer to several histories of the objects of the first, that was read at a path, with these type files.
+/// The answer to several histories of the objects of the first, that was read at a path, with these types.
 pub(crate) fn audit_each<'a, W: Out>(
     alloc: Global,
     path: &'a str,
     first: &HistoryFile,
     later: &[HistoryFile],
-    files: &[TypeFile],
+    declared: &[DeclaredType],
     out: &mut W,
 ) -> Result<Verdict, Fault<'a>>
     requires { W.fault out.old ≡ None }
-    ensures { Comes (AuditsEach first.now later.now files.now) (IsUnplaced files.now first.now.objects.items) result (W.taken out.old) (W.taken out.new) }
+    ensures { Comes (AuditsEach first.now later.now declared.now) (IsUnplaced declared.now first.now.objects.items) result (W.taken out.old) (W.taken out.new) }
 {
-    let tables = tables_of(alloc, path, files, &first.objects)?;
+    let types = declared_for(alloc, path, declared, &first.objects)?;
     let histories = events_of(alloc, first, later)?;
-    let outcome = audit_epochs(alloc, &histories, &tables);
+    let outcome = audit_epochs(alloc, &histories, &types);
     let text = text_of(alloc, &outcome)?;
     match outcome {
         Ok(_) => put_answer(Verdict::Yes, &text, out),

@@ -41,9 +41,10 @@ pub struct Work {
 ///
 /// # Errors
 ///
-/// A file can't be read or its text has a fault, no TYPE word is at an object's place, memory or a thread
-/// was refused, or the output failed. Where memory was refused before the first turn no text is written;
-/// where a later thread couldn't be started, the whole text is.
+/// A file can't be read or its text has a fault, no TYPE word is at an object's place, an object of another
+/// kind than escrow names a number, memory or a thread was refused, or the output failed. Where memory was
+/// refused before the first turn no text is written; where a later thread couldn't be started, the whole
+/// text is.
 pub fn work_file<'a, H: AllocGlobal + Threads + Wait + Sync, S: Source, W: Out>(
     rt: &H,
     work: Work,

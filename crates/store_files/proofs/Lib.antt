@@ -1,3 +1,3 @@
 pub mod Objects
-pub mod TwoFiles
+pub mod TwoTypes
 pub mod JobLists

@@ -1,9 +1,11 @@
--- The files of TYPE words, and the tables of the objects that name their places.
+-- What is declared at TYPE words, and the tables of the objects that name their places.
 use Rattle.std.specs.Prelude.{◌≡◌, ℕ, List, Option, Some, IfSome, length, take, slice_get}
 use Rattle.type_table.specs.Table.{Table}
-use Rattle.type_text.specs.declared.type_file.TypeFile.{TypeFile}
 use Rattle.store_text.specs.declared.line.ObjectLine.{ObjectLine}
-use Rattle.command_files.specs.Files.{Describes, IsFaulty}
+use Rattle.table_checker.specs.Declarations.{table_of}
+use Rattle.table_checker.specs.declared.declared_type.Declaration.{Declaration}
+use Rattle.declared_text.specs.Declared.{Declares}
+use Rattle.command_files.specs.Files.{IsFaultyDeclaration}
 
 -- ---- files
 
@@ -26,23 +28,23 @@ pub record IsFirstFaultyOf {T : Type 0} (describes : List ℕ → T → Type 0) 
   pub before : AreReadAt describes holds (take k paths) values
   pub faulty : IfSome (holds path) is_faulty
 
--- each path has its type file
-abbrev pub AreFilesAt : Held → List (List ℕ) → List TypeFile → Type 0
-AreFilesAt = AreReadAt Describes
+-- each path has what its text declares
+abbrev pub AreDeclaredAt : Held → List (List ℕ) → List Declaration → Type 0
+AreDeclaredAt = AreReadAt Declares
 
 -- the text of a type at this path is the first that has a fault
-abbrev pub IsFirstFaulty : Held → List (List ℕ) → Type 0
-IsFirstFaulty = IsFirstFaultyOf Describes IsFaulty
+abbrev pub IsFirstFaultyDeclaration : Held → List (List ℕ) → Type 0
+IsFirstFaultyDeclaration = IsFirstFaultyOf Declares IsFaultyDeclaration
 
 -- ---- the tables of objects
 
--- the table of an object: that of the file at the place that it names
-pub record IsTableOf (files : List TypeFile) (o : ObjectLine) (table : Table) : Type 0 where
-  pub file : TypeFile
-  pub there : slice_get files o.file ≡ Some file
-  pub is : table ≡ file.table
+-- the table of an object: that of the type at the place that it names
+pub record IsTableOf (declared : List Declaration) (o : ObjectLine) (table : Table) : Type 0 where
+  pub declaration : Declaration
+  pub there : slice_get declared o.file ≡ Some declaration
+  pub is : table ≡ table_of declaration
 
 -- one for each object
-pub record AreTablesOf (files : List TypeFile) (objects : List ObjectLine) (tables : List Table) : Type 0 where
+pub record AreTablesOf (declared : List Declaration) (objects : List ObjectLine) (tables : List Table) : Type 0 where
   pub as_many : length tables ≡ length objects
-  pub each : (x : ℕ) (o : ObjectLine) (table : Table) → slice_get objects x ≡ Some o → slice_get tables x ≡ Some table → IsTableOf files o table
+  pub each : (x : ℕ) (o : ObjectLine) (table : Table) → slice_get objects x ≡ Some o → slice_get tables x ≡ Some table → IsTableOf declared o table

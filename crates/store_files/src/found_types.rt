@@ -3,7 +3,7 @@
 ghost use Rattle.std.specs.Prelude.{map};
 ghost use Rattle.store_files.specs.ObjectTypes.{FindsTypes};
 
-use crate::reading::read_types;
+use crate::reading::read_declared;
 use command_files::{Fault, Source};
 use object_types::{ObjectFault, accept_types};
 use std::alloc::Global;
@@ -26,7 +26,8 @@ pub enum ObjectTypes {
 ///
 /// # Errors
 ///
-/// A type's text has a fault or can't be read, no TYPE word is at an object's place, or memory was refused.
+/// A type's text has a fault or can't be read, no TYPE word is at an object's place, an object of another kind
+/// than escrow names a number, or memory was refused.
 pub fn types_for<'a, S: Source>(
     alloc: Global,
     path: &'a str,
@@ -36,11 +37,12 @@ pub fn types_for<'a, S: Source>(
 ) -> Result<ObjectTypes, Fault<'a>>
     ensures { FindsTypes (S.holds source.old) (map (λ p. p.now) types.now) objects.now result }
 {
-    let files = read_types(alloc, types, source)?;
-    match accept_types(alloc, &files, objects) {
+    let declared = read_declared(alloc, types, source)?;
+    match accept_types(alloc, &declared, objects) {
         Ok(types) => Ok(ObjectTypes::Accepted(types)),
         Err(ObjectFault::Refused { x, refusal }) => Ok(ObjectTypes::Refused { x, refusal }),
         Err(ObjectFault::NoType { x, place }) => Err(Fault::NoType { path, x, place }),
+        Err(ObjectFault::NeedsEscrow { x }) => Err(Fault::ObjectNeedsEscrow { path, x }),
         Err(ObjectFault::NoMemory) => Err(Fault::NoMemory),
     }
 }

@@ -1,5 +1,5 @@
 //! The files of a store's objects: scripts, jobs and histories, the type files that are named with them,
-//! and the types or the tables of the objects.
+//! and the types of the objects, checked or as they are declared.
 #![tactic(auto)]
 
 mod formats;
@@ -10,9 +10,9 @@ mod tables;
 
 pub use formats::{HistoryFormat, JobsFormat, ScriptFormat};
 pub use found_types::{ObjectTypes, types_for};
-pub use reading::{read_histories, read_types};
+pub use reading::{read_declared, read_histories};
 pub use refused_line::object_line;
-pub use tables::tables_of;
+pub use tables::declared_for;
 
 pub mod worked;
 pub mod worked_histories;

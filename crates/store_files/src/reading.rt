@@ -3,32 +3,32 @@
 ghost use Rattle.std.specs.Prelude.{◌≡◌, ℕ, List, map, IfOk, IfErr};
 ghost use Rattle.command_files.specs.Answers.{Refuses};
 ghost use Rattle.store_files.specs.Histories.{AreHistoriesAt, IsFirstFaultyHistory};
-ghost use Rattle.store_files.specs.Types.{AreFilesAt, AreReadAt, IsFirstFaulty, IsFirstFaultyOf};
+ghost use Rattle.store_files.specs.Types.{AreDeclaredAt, AreReadAt, IsFirstFaultyDeclaration, IsFirstFaultyOf};
 
 use crate::formats::HistoryFormat;
-use command_files::{Fault, Format, Source, TypeFormat, read_file};
+use command_files::{DeclaredFormat, Fault, Format, Source, read_file};
 use history_text::HistoryFile;
 use std::alloc::Global;
-use type_text::TypeFile;
+use table_checker::DeclaredType;
 
-/// The type files at these paths, in their order, each read before the next is opened.
+/// What declares the types at these paths, in their order, each read before the next is opened.
 ///
 /// # Errors
 ///
 /// The fault of the first text that has one or can't be read, or that memory was refused.
-pub fn read_types<'a, S: Source>(
+pub fn read_declared<'a, S: Source>(
     alloc: Global,
     paths: &[&'a str],
     source: &mut S,
-) -> Result<Vec<TypeFile>, Fault<'a>>
-    ensures read { IfOk result (λ files. AreFilesAt (S.holds source.old) (map (λ p. p.now) paths.now) files.items) }
-    ensures refused { IfErr result (Refuses (IsFirstFaulty (S.holds source.old) (map (λ p. p.now) paths.now))) }
+) -> Result<Vec<DeclaredType>, Fault<'a>>
+    ensures read { IfOk result (λ types. AreDeclaredAt (S.holds source.old) (map (λ p. p.now) paths.now) types.items) }
+    ensures refused { IfErr result (Refuses (IsFirstFaultyDeclaration (S.holds source.old) (map (λ p. p.now) paths.now))) }
     ensures kept { (other : List ℕ) → S.holds source.new other ≡ S.holds source.old other }
 {
-    read_files(alloc, &TypeFormat, paths, source)
+    read_files(alloc, &DeclaredFormat, paths, source)
 }
 
-/// The histories at these paths, as `read_types` reads type files.
+/// The histories at these paths, as `read_declared` reads types.
 pub fn read_histories<'a, S: Source>(
     alloc: Global,
     paths: &[&'a str],

@@ -1,6 +1,7 @@
-//! The tables of a store's objects, whose types aren't checked.
+//! The types of a store's objects, which aren't checked.
 
 ghost use Rattle.std.specs.Prelude.{◌≡◌, map, IfOk, IfErr};
+ghost use Rattle.table_checker.specs.Declarations.{table_of};
 ghost use Rattle.command_files.specs.Answers.{Refuses};
 ghost use Rattle.object_types.specs.Types.{IsUnplaced};
 ghost use Rattle.store_files.specs.Types.{AreTablesOf};
@@ -8,27 +9,26 @@ ghost use Rattle.store_files.specs.Types.{AreTablesOf};
 use command_files::Fault;
 use std::alloc::Global;
 use store_text::ObjectLine;
-use type_table::TypeTable;
-use type_text::TypeFile;
+use table_checker::DeclaredType;
 
-/// The tables of the objects that the text at a path names, in their order.
+/// The types of the objects that the text at a path names, in their order.
 ///
 /// # Errors
 ///
-/// The first object whose place isn't that of a file; or memory was refused.
-pub fn tables_of<'a, 'p>(
+/// The first object whose place isn't that of a type; or memory was refused.
+pub fn declared_for<'a, 'p>(
     alloc: Global,
     path: &'p str,
-    files: &'a [TypeFile],
+    declared: &'a [DeclaredType],
     objects: &[ObjectLine],
-) -> Result<Vec<&'a TypeTable>, Fault<'p>>
-    ensures tables { IfOk result (λ tables. AreTablesOf files.now objects.now (map (λ t. t.now) tables.items)) }
-    ensures refused { IfErr result (Refuses (IsUnplaced files.now objects.now)) }
+) -> Result<Vec<&'a DeclaredType>, Fault<'p>>
+    ensures tables { IfOk result (λ types. AreTablesOf declared.now objects.now (map (λ t. table_of t.now) types.items)) }
+    ensures refused { IfErr result (Refuses (IsUnplaced declared.now objects.now)) }
 {
-    let mut tables = Vec::new(alloc);
+    let mut types = Vec::new(alloc);
     for (x, object) in objects.iter().enumerate() {
-        match files.get(object.file as usize) {
-            Some(file) => tables.push(&file.table)?,
+        match declared.get(object.file as usize) {
+            Some(found) => types.push(found)?,
             None => {
                 return Err(Fault::NoType {
                     path,
@@ -38,5 +38,5 @@ pub fn tables_of<'a, 'p>(
             }
         }
     }
-    Ok(tables)
+    Ok(types)
 }

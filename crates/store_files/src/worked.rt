@@ -6,9 +6,9 @@ ghost use Rattle.type_table.specs.Examples.{counter, one_way};
 ghost use Rattle.script_text.specs.declared.script.Script.{Script as ScriptValue};
 ghost use Rattle.script_text.specs.Examples.{ended, script_text};
 ghost use Rattle.command_files.specs.Examples.{endless_bytes};
-ghost use Rattle.object_types.specs.Examples.{two_files, at_place};
+ghost use Rattle.object_types.specs.Examples.{two_types, at_place};
 ghost use Rattle.store_files.specs.Lines.{object_line};
-ghost use Rattle.store_files.specs.Types.{AreTablesOf, IsFirstFaulty};
+ghost use Rattle.store_files.specs.Types.{AreTablesOf, IsFirstFaultyDeclaration};
 ghost use Rattle.store_files.specs.Scripts.{DescribesScript, IsFaultyScript};
 ghost use Rattle.store_files.specs.Examples.{Has, endless_script, everywhere, script_objects, script_commands};
 
@@ -21,17 +21,17 @@ pub fn line_of_an_object()
     ensures { object_line 12 (CheckRefusal.NotCommuting 1 0 2) ≡ codes "# object 12 no NotCommuting 1 0 2\n" }
 {}
 
-/// Objects have the tables of the files at their places.
+/// Objects have the tables of the types at their places.
 pub fn objects_have_their_tables()
-    ensures tables { AreTablesOf two_files (at_place 1 ∷ at_place 0 ∷ []) (one_way ∷ counter ∷ []) }
-    ensures exchanged { AreTablesOf two_files (at_place 1 ∷ at_place 0 ∷ []) (counter ∷ one_way ∷ []) → ⊥ }
-    ensures fewer { AreTablesOf two_files (at_place 1 ∷ at_place 0 ∷ []) (one_way ∷ []) → ⊥ }
+    ensures tables { AreTablesOf two_types (at_place 1 ∷ at_place 0 ∷ []) (one_way ∷ counter ∷ []) }
+    ensures exchanged { AreTablesOf two_types (at_place 1 ∷ at_place 0 ∷ []) (counter ∷ one_way ∷ []) → ⊥ }
+    ensures fewer { AreTablesOf two_types (at_place 1 ∷ at_place 0 ∷ []) (one_way ∷ []) → ⊥ }
 {}
 
 /// The first of two types has a fault. None of no types has one.
 pub fn the_first_type_has_the_fault()
-    ensures first { IsFirstFaulty (everywhere endless_bytes) (codes "a" ∷ codes "b" ∷ []) }
-    ensures none { IsFirstFaulty (everywhere endless_bytes) [] → ⊥ }
+    ensures first { IsFirstFaultyDeclaration (everywhere endless_bytes) (codes "a" ∷ codes "b" ∷ []) }
+    ensures none { IsFirstFaultyDeclaration (everywhere endless_bytes) [] → ⊥ }
 {
     a_text_with_a_fault();
 }

@@ -52,7 +52,7 @@ const ENTRY_RANK: usize = 2;
 const END_RANK: usize = 3;
 
 /// The grammar of a text with these entries.
-#[derive(Clone, Copy, Debug)]
+#[derive(Clone, Copy)]
 pub struct StoreGrammar<E> {
     pub entries: E,
 }

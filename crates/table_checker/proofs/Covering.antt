@@ -1,6 +1,8 @@
 -- From the finite condition to all lists of operations.
-use Rattle.std.proofs.Common.{◌≡◌, ℕ, ◌-◌, nat_lt, Bool, true, false, not, ◌&&◌, ◌||◌, List, [], ◌∷◌, Option, Some, None, IsSome, is_some, refl, sym, ◌∙◌}
-use Rattle.std.proofs.lemmas.Bool.{false≢true, not-false, lt-ltb}
+use Rattle.std.proofs.Common.{◌≡◌, ℕ, ◌-◌, ◌≤◌, nat_lt, Bool, true, false, not, ◌&&◌, ◌||◌, List, [], ◌∷◌, Option, Some, None, IsSome, is_some, refl, sym, ◌∙◌, arith}
+use Rattle.std.specs.Prelude.{slice_get}
+use Rattle.std.proofs.lemmas.Option.{none-some}
+use Rattle.std.proofs.lemmas.Bool.{false≢true, not-false, lt-ltb, ltb-true}
 use Rattle.equi_cert.specs.Laws.{EndsLook}
 use Rattle.equi_cert.specs.Relation.{relates}
 use Rattle.equi_cert.specs.Simulation.{IsSimulation}
@@ -15,7 +17,9 @@ use Rattle.type_table.specs.declared.kind.Kind.TheVariants as kinds
 use Rattle.type_table.specs.declared.table_kind.TableKind.{TableKind}
 use Rattle.type_table.specs.declared.table_kind.TableKind.TheVariants.{Undo, Intentions}
 use Rattle.type_table.proofs.Legal.{some_state, is_there}
-use Rattle.escrow_laws.specs.Bounds.{bounds_of}
+use Rattle.escrow_laws.specs.Bounds.{moved_by, IsWithin, AreBounds, bounds_of}
+use Rattle.escrow_laws.specs.declared.bounded.Bounded.{Bounded}
+use Rattle.escrow_laws.proofs.Numbers.{within as inside_bounds, moves_by}
 use Rattle.escrow_laws.specs.Laws.{BoundsAreNumeric}
 use Rattle.type_text.specs.declared.type_file.TypeFile.{TypeFile}
 use Rattle.table_checker.specs.Condition.{ends_relate, end_of, passes, passes_forward, passes_backward, passes_both_ways, AreInside, PassesEverywhere}
@@ -175,17 +179,31 @@ covers_strongly within ends kind file h strong = record {
   commute = commutes_strongly within ends kind file h.table h.certified.simulation strong;
 }
 
+-- an operation between bounds leads to no number above the greatest
+found-below : (found : Option Bounded) (top s t : ℕ) → ((b : Bounded) → found ≡ Some b → IsWithin top b) → moved_by found s ≡ Some t → t ≤ top
+found-below None top s t fits step = absurd (none-some t step)
+found-below (Some b) top s t fits step =
+    let fit = fits b refl in
+    let between = inside_bounds b s (is_there (moved_by (Some b) s) t step) in
+    let moved = moves_by b s t fit.enough step in
+    let high = between.1 in
+    let room = fit.room in
+    omega (arith, moved, high, room)
+
 -- no step leaves the set of all states
-all-closed : StepsWithin → (T : Table) → IsTable T → IsClosed T (λ s. nat_lt s T.states)
-all-closed within T table = λ s k t member step. lt-ltb t T.states (within T s k t table step).2
+all-closed : (T : Table) (ops : List Bounded) → AreBounds T (T.states - 1) ops → IsClosed T (λ s. nat_lt s T.states)
+all-closed T ops bounds = λ s k t member step.
+    let most = found-below (slice_get ops k) (T.states - 1) s t (bounds.within k) (sym (bounds.steps s k) ∙ step) in
+    let some = ltb-true s T.states member in
+    lt-ltb t T.states (omega (arith, most, some))
 
 -- a yes gives covering
 covers_by : StepsWithin → EndsLook → BoundsAreNumeric → (kind : Kind) (file : TypeFile) → IsCheckedBy kind file → CoversType kind file
 covers_by within ends numeric kinds.Undo file h = covers within ends Undo file h
 covers_by within ends numeric kinds.Intentions file h = covers within ends Intentions file h
 covers_by within ends numeric kinds.Escrow file h = record {
-  begins_inside = lt-ltb file.table.initial file.table.states h.table.initial_inside;
-  closed = all-closed within file.table h.table;
+  begins_inside = lt-ltb file.table.initial file.table.states h.initial_inside;
+  closed = all-closed file.table (bounds_of file.table) h.bounds;
   numeric = numeric file.table (file.table.states - 1) (bounds_of file.table) h.bounds;
 }
 

@@ -6,3 +6,4 @@ pub mod Examples
 pub mod Answers
 pub mod BeginsAt
 pub mod Yeses
+pub mod Declared

@@ -1,7 +1,8 @@
 -- What a yes of the checker is.
-use Rattle.std.specs.Prelude.{◌≡◌, ℕ, ◌-◌, Bool, true, nat_lt}
+use Rattle.std.specs.Prelude.{◌≡◌, ℕ, ◌-◌, ◌<◌, ◌≤◌, length, Bool, true, nat_lt}
 use Rattle.equi_cert.specs.Relation.{relates}
 use Rattle.equi_cert.specs.Simulation.{IsSimulation}
+use Rattle.type_table.specs.Limits.{most_ops}
 use Rattle.type_table.specs.StateSet.{has}
 use Rattle.type_table.specs.Table.{Table, IsTable}
 use Rattle.type_table.specs.declared.kind.Kind.{Kind}
@@ -43,9 +44,12 @@ pub record IsCommuting (kind : TableKind) (file : TypeFile) : Type 0 where
   pub certified : IsCertified file
   pub passes : PassesEverywhere (condition_of kind) file (conflicts_of kind file)
 
--- and for escrow: that each operation moves all states as far, and is legal in each between two in which it is
+-- and for escrow: that each operation moves all states as far, and is legal in each between two in which it is. Of states there may be as
+-- many as a word of 32 bits has values
 pub record IsNumericType (T : Table) : Type 0 where
-  pub table : IsTable T
+  pub states_fit : T.states ≤ 4294967296
+  pub ops_fit : length T.ops ≤ most_ops
+  pub initial_inside : T.initial < T.states
   pub bounds : AreBounds T (T.states - 1) (bounds_of T)
 
 -- the states that are looked at: with a conflict table those of the file's set, for escrow all

@@ -7,3 +7,4 @@ pub mod Answer
 pub mod Laws
 pub mod Examples
 pub mod At
+pub mod Declarations

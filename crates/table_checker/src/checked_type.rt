@@ -1,44 +1,49 @@
-ghost use Rattle.std.specs.Prelude.{◌≡◌, ◌↔◌, ◌-◌, true, length, is_some, IfOk, IfSome, OnErr};
+ghost use Rattle.std.specs.Prelude.{◌≡◌, ◌↔◌, ◌≤◌, ◌<◌, ◌-◌, true, length, is_some, IfOk, IfSome, OnErr};
 ghost use Rattle.type_table.specs.Kind.{of_table};
+ghost use Rattle.type_table.specs.Limits.{most_ops};
+ghost use Rattle.type_table.specs.StateSet.{has};
+ghost use Rattle.type_table.specs.Table.{IsTable};
 ghost use Rattle.type_table.specs.declared.kind.Kind.TheVariants as kinds;
 ghost use Rattle.escrow_laws.specs.Bounds.{AreBounds, bounds_of};
 ghost use Rattle.table_checker.specs.Checked.{condition_of};
 
 use crate::condition::Condition;
-use crate::laws::at_is_checked;
+use crate::declared_type::DeclaredType;
+use crate::laws::{at_is_checked, number_is_checked};
 use crate::scan::passes_everywhere;
 use escrow_laws::OpBounds;
+use number_text::{NumberFile, number_tells_bounds};
 use std::alloc::{AllocError, Global};
 use std::marker::Model;
-use type_table::{ConflictTable, Kind, TableKind, TypeTable};
-use type_text::{TypeFile, parts_tell_the_file};
+use type_table::{ConflictTable, Kind, Op, TableKind, TypeTable};
+use type_text::TypeFile;
 
-/// A type file that the checker accepted for a kind of recovery. Only the checker makes one.
+/// A type that the checker accepted for a kind of recovery. Only the checker makes one. Contracts see
+/// the kind and a file; of a number that is one of a table which is written nowhere.
 #[derive(Drop)]
 pub struct CheckedType {
     kind: Kind,
-    file: TypeFile,
-    // For escrow those of the table's operations, and else those of none.
+    declared: DeclaredType,
+    // For escrow those of the type's operations, and else those of none.
     bounds: OpBounds,
 }
 
 impl Model for CheckedType {
-    ghost use Rattle.std.specs.Prelude.{◌≡◌};
-    ghost use Rattle.type_table.specs.declared.kind.Kind.TheVariants.{Escrow};
-    ghost use Rattle.escrow_laws.specs.Bounds.{bounds_of};
-    ghost use Rattle.table_checker.specs.Checked.{Checked, IsChecked};
+    ghost use Rattle.table_checker.specs.Checked.{Checked};
+    ghost use Rattle.table_checker.specs.Declarations.{file_of, IsAccepted};
 
     ghost Value = { Checked };
 
-    ghost view = { λ a. record { kind = a.kind; file = a.file } };
+    ghost view = { λ a. record { kind = a.kind; file = file_of a.declared } };
 
-    ghost invariant = { λ a. IsChecked (record { kind = a.kind; file = a.file }) × (a.kind ≡ Escrow → a.bounds ≡ bounds_of a.file.table) };
+    ghost invariant = { λ a. IsAccepted a.kind a.declared a.bounds };
 }
 
 impl CheckedType {
     ghost use Rattle.table_checker.specs.Checked.{IsChecked, IsCommuting, IsNumericType, IsStrong};
     ghost use Rattle.table_checker.specs.At.{checked_at, is_inside};
-    ghost use Rattle.type_table.specs.Table.{IsTable};
+    ghost use Rattle.table_checker.specs.Declarations.{file_of, number_file, IsDeclaredFor, IsByTable};
+    ghost use Rattle.number_text.specs.Operations.{is_listed};
     ghost use Rattle.type_table.specs.ConflictTable.{IsSquare};
     ghost use Rattle.type_text.specs.TypeFile.{conflicts_of};
 
@@ -49,7 +54,7 @@ impl CheckedType {
     {
         CheckedType {
             kind: kind.into(),
-            file,
+            declared: DeclaredType::table(file),
             bounds: OpBounds::none(),
         }
     }
@@ -60,9 +65,28 @@ impl CheckedType {
         requires bounds { bounds ≡ bounds_of file.table }
         ensures { result ≡ record { kind = kinds.Escrow; file = file } }
     {
+        // (read for its clause on what is known of a table)
+        let _states = file.table.states();
         CheckedType {
             kind: Kind::Escrow,
-            file,
+            declared: DeclaredType::table(file),
+            bounds,
+        }
+    }
+
+    /// A number, as a value.
+    pub(crate) fn number(number: NumberFile) -> CheckedType
+        requires { is_listed number ≡ true }
+        ensures { result ≡ record { kind = kinds.Escrow; file = number_file number } }
+    {
+        number_tells_bounds();
+        number_is_checked();
+        // (read for its clause on what is known of a number)
+        let _calls = number.calls();
+        let bounds = number.bounds();
+        CheckedType {
+            kind: Kind::Escrow,
+            declared: DeclaredType::number(number),
             bounds,
         }
     }
@@ -72,7 +96,7 @@ impl CheckedType {
     /// # Errors
     ///
     /// Memory was refused, which is asked for only where it may.
-    pub fn at(&self, alloc: Global, state: u16) -> Result<Option<CheckedType>, AllocError>
+    pub fn at(&self, alloc: Global, state: u32) -> Result<Option<CheckedType>, AllocError>
         ensures there { IfOk result (λ found. is_some found ≡ is_inside self.now state) }
         ensures same { IfOk result (λ found. IfSome found (λ c. c ≡ checked_at self.now state)) }
         ensures refused { OnErr result (is_inside self.now state ≡ true) }
@@ -80,61 +104,52 @@ impl CheckedType {
         if !self.is_inside(state) {
             return Ok(None);
         }
-        let mut checked = self.copy(alloc)?;
-        checked.begin_at(state);
-        Ok(Some(checked))
+        let declared = self.declared.copy(alloc)?;
+        Ok(Some(self.begun(declared, state)))
     }
 
-    /// An equal type.
-    fn copy(&self, alloc: Global) -> Result<CheckedType, AllocError>
-        ensures { IfOk result (λ c. c ≡ self.now) }
+    /// The type of a copy of its declaration, beginning at this state.
+    fn begun(&self, copied: DeclaredType, state: u32) -> CheckedType
+        requires copied { file_of copied ≡ self.now.file }
+        requires kind { IsDeclaredFor self.now.kind copied }
+        requires inside { is_inside self.now state ≡ true }
+        ensures { result ≡ checked_at self.now state }
     {
-        let file = self.file.copy(alloc)?;
-        Ok(CheckedType {
+        at_is_checked();
+        let mut declared = copied;
+        declared.begin_at(state);
+        CheckedType {
             kind: self.kind,
-            file,
+            declared,
             bounds: self.bounds.copy(),
-        })
+        }
     }
 
     /// Whether it may begin at this state.
-    fn is_inside(&self, state: u16) -> bool
+    fn is_inside(&self, state: u32) -> bool
         ensures { result ≡ is_inside self.now state }
     {
-        if state >= self.file.table.states() {
-            return false;
-        }
         match self.kind {
-            Kind::Undo | Kind::Intentions => self.file.reach.has(state),
-            Kind::Escrow => true,
+            Kind::Undo | Kind::Intentions => is_in_reach(self.file(), state),
+            Kind::Escrow => state <= self.greatest(),
         }
-    }
-
-    /// It begins at this state from now on.
-    fn begin_at(&mut self, state: u16)
-        requires { is_inside self.old state ≡ true }
-        ensures { self.new ≡ checked_at self.old state }
-    {
-        at_is_checked();
-        parts_tell_the_file();
-        self.file.table.begin_at(state);
     }
 
     /// Whether it is the other type, beginning at this state.
-    pub fn is_at(&self, other: &CheckedType, state: u16) -> bool
+    pub fn is_at(&self, other: &CheckedType, state: u32) -> bool
         ensures { result ≡ true → self.now ≡ checked_at other.now state }
     {
         if self.kind != other.kind {
             return false;
         }
-        self.file.is_at(&other.file, state)
+        self.declared.is_at(&other.declared, state)
     }
 
     /// Whether it is the same type as another.
     pub fn is_same(&self, other: &CheckedType) -> bool
         ensures { result ≡ true → self.now ≡ other.now }
     {
-        self.is_at(other, other.table().initial())
+        self.is_at(other, other.initial())
     }
 
     /// The kind of recovery for which the file was accepted.
@@ -144,28 +159,68 @@ impl CheckedType {
         self.kind
     }
 
-    /// The accepted file, and what was tested of it.
+    /// What declares it: a number only for escrow.
+    pub fn declared(&self) -> &DeclaredType
+        ensures exact { file_of result.now ≡ self.now.file }
+        ensures kind { IsDeclaredFor self.now.kind result.now }
+        ensures checked { IsChecked self.now }
+    {
+        &self.declared
+    }
+
+    /// Its operations, at most 64, by their numbers.
+    pub fn ops(&self) -> &[Op]
+        ensures exact { result.now ≡ self.now.file.table.ops }
+        ensures few { length result.now ≤ most_ops }
+        ensures checked { IsChecked self.now }
+    {
+        self.declared.ops()
+    }
+
+    /// The state at which it begins.
+    pub fn initial(&self) -> u32
+        ensures exact { result ≡ self.now.file.table.initial }
+        ensures checked { IsChecked self.now }
+    {
+        self.declared.initial()
+    }
+
+    /// The greatest of its states, which are the numbers from 0.
+    pub fn greatest(&self) -> u32
+        ensures exact { result ≡ self.now.file.table.states - 1 }
+        ensures below { result < self.now.file.table.states }
+    {
+        self.declared.greatest()
+    }
+
+    /// The accepted file of a kind whose types are declared by tables, and what was tested of it.
     pub fn file(&self) -> &TypeFile
+        requires { IsByTable self.now.kind }
         ensures exact { result.now ≡ self.now.file }
         ensures table { IsTable self.now.file.table }
         ensures checked { IsChecked self.now }
     {
-        &self.file
+        match self.declared.file() {
+            Some(file) => known(file),
+            None => unreachable!(),
+        }
     }
 
-    /// The file's table.
+    /// That file's table.
     pub fn table(&self) -> &TypeTable
+        requires { IsByTable self.now.kind }
         ensures { result.now ≡ self.now.file.table }
     {
-        &self.file.table
+        &self.file().table
     }
 
-    /// The file's conflict table for a kind, which is of the table's operations.
+    /// That file's conflict table for a kind, which is of the table's operations.
     pub fn conflicts(&self, kind: TableKind) -> &ConflictTable
+        requires { IsByTable self.now.kind }
         ensures exact { result.now ≡ conflicts_of kind self.now.file }
         ensures fits { IsSquare (length self.now.file.table.ops) result.now }
     {
-        let conflicts = self.file.conflicts(kind);
+        let conflicts = self.file().conflicts(kind);
         // for its clause that the table is square
         conflicts.ops();
         conflicts
@@ -187,11 +242,32 @@ impl CheckedType {
     {
         match self.kind {
             Kind::Undo => {
-                passes_everywhere(Condition::BackwardBothWays, &self.file, &self.file.undo)
+                let file = self.file();
+                passes_everywhere(Condition::BackwardBothWays, file, &file.undo)
             }
             Kind::Intentions | Kind::Escrow => true,
         }
     }
+}
+
+/// A file, and what is known of its table.
+fn known(file: &TypeFile) -> &TypeFile
+    ensures exact { result.now ≡ file.now }
+    ensures table { IsTable file.now.table }
+{
+    let _states = file.table.states();
+    file
+}
+
+/// Whether a state is of the file's set.
+fn is_in_reach(file: &TypeFile, state: u32) -> bool
+    ensures { result ≡ has file.now.reach state }
+{
+    // (read for its clause on what is known of a table)
+    if state >= u32::from(file.table.states()) {
+        return false;
+    }
+    file.reach.has(state as u16)
 }
 
 /// What a kind asks of each pair outside its conflict table.

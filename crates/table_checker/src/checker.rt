@@ -1,21 +1,24 @@
-ghost use Rattle.std.specs.Prelude.{◌≡◌, length, MatchOption, OnOk};
+ghost use Rattle.std.specs.Prelude.{◌≡◌, true, length, MatchOption, OnOk};
 ghost use Rattle.type_table.specs.Kind.{of_table};
 ghost use Rattle.type_table.specs.StateSet.{has};
 ghost use Rattle.type_text.specs.TypeFile.{conflicts_of};
 ghost use Rattle.table_checker.specs.Answer.{IsAnswer};
 ghost use Rattle.table_checker.specs.Condition.{PassesEverywhere, IsFirstFailure};
-ghost use Rattle.table_checker.specs.Checked.{IsCertified, condition_of};
+ghost use Rattle.table_checker.specs.Checked.{IsCertified, IsStrong, condition_of};
+ghost use Rattle.table_checker.specs.Declarations.{number_file};
+ghost use Rattle.number_text.specs.Operations.{is_listed};
 ghost use Rattle.table_checker.specs.Laws.{CoversType};
 ghost use Rattle.table_checker.specs.Refusal.{IsFirstOfCertificate};
 
 use crate::checked_type::{CheckedType, condition_of};
-use crate::laws::yes_covers;
+use crate::laws::{number_is_checked, yes_covers};
 use crate::parallel::first_failure_parallel;
 use crate::reach::{Leave, first_leave};
 use crate::refusal::CheckRefusal;
 use crate::scan::{Triple, first_failure};
 use equi_cert::{CertFault, check_simulation};
 use escrow_laws::{NumericFault, numeric};
+use number_text::NumberFile;
 use std::thread::Threads;
 use type_table::{Kind, StateSet, TableKind, TypeTable};
 use type_text::TypeFile;
@@ -61,6 +64,21 @@ pub fn check_parallel(
         Some(kind) => check_commuting_parallel(rt, file, kind),
         None => check_numeric(file),
     }
+}
+
+/// Accepts a number for escrow, whose calls list their amounts: a number is numeric. It takes no memory.
+pub fn check_number(number: NumberFile) -> CheckedType
+    requires { is_listed number ≡ true }
+    ensures exact { result ≡ record { kind = Kind.Escrow; file = number_file number } }
+    ensures strong { IsStrong result }
+    // Over all lists of operations.
+    ensures covers { CoversType Kind.Escrow (number_file number) }
+{
+    yes_covers();
+    number_is_checked();
+    // (read for its clause on what is known of a number)
+    let _calls = number.calls();
+    CheckedType::number(number)
 }
 
 /// The check of a conflict table.

@@ -3,10 +3,12 @@
 
 ghost use Rattle.table_checker.specs.At.{AtIsChecked, AtIsStrong};
 ghost use Rattle.table_checker.specs.Answer.{OneAnswer};
+ghost use Rattle.table_checker.specs.Declarations.{NumberIsChecked};
 ghost use Rattle.table_checker.specs.Laws.{YesCovers, StrongYesCovers};
 
 use equi_cert::ends_look;
 use escrow_laws::{bounds_are_numeric, numeric_is_faultless};
+use number_text::{number_has_table, number_tells_bounds};
 use type_table::steps_within;
 
 /// A yes gives covering over all lists of operations, or that the type is numeric.
@@ -47,3 +49,11 @@ pub fn at_is_checked()
 pub fn at_is_strong()
     ensures { AtIsStrong }
 {}
+
+/// A number whose calls list their amounts is accepted for escrow, and strongly.
+pub fn number_is_checked()
+    ensures { NumberIsChecked }
+{
+    number_has_table();
+    number_tells_bounds();
+}

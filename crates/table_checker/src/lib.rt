@@ -5,6 +5,7 @@
 mod checked_type;
 mod checker;
 mod condition;
+mod declared_type;
 mod laws;
 mod parallel;
 mod reach;
@@ -12,9 +13,12 @@ mod refusal;
 mod scan;
 
 pub use checked_type::{CheckedType, condition_of};
-pub use checker::{check, check_parallel};
+pub use checker::{check, check_number, check_parallel};
 pub use condition::Condition;
-pub use laws::{at_is_checked, at_is_strong, one_answer, strong_yes_covers, yes_covers};
+pub use declared_type::{Declaration, DeclaredType};
+pub use laws::{
+    at_is_checked, at_is_strong, number_is_checked, one_answer, strong_yes_covers, yes_covers,
+};
 pub use refusal::CheckRefusal;
 pub use scan::first_failing_state;
 pub use type_table::Kind;

@@ -5,3 +5,4 @@ pub mod QueueSteps
 pub mod QueueFacts
 pub mod Threes
 pub mod SeatFacts
+pub mod NumberFacts

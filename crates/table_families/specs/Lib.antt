@@ -1,3 +1,4 @@
 pub mod Stock
 pub mod Queue
 pub mod Seats
+pub mod Number

@@ -3,6 +3,8 @@
 
 ghost use Rattle.std.specs.Prelude.{◌≡◌, [], ◌∷◌, Some, None, length, codes};
 ghost use Rattle.table_maker.specs.Made.{op_of, entries_of};
+ghost use Rattle.number_text.specs.declared.number_call.NumberCall.TheVariants.{Take, Give};
+ghost use Rattle.table_families.specs.Number.{amounts_number};
 ghost use Rattle.table_families.specs.Queue.{list_at, queue, state_of};
 ghost use Rattle.table_families.specs.Seats.{seats};
 ghost use Rattle.table_families.specs.Stock.{stock};
@@ -43,4 +45,9 @@ pub fn two_seats()
     ensures not_held { (seats 2).step 7 7 ≡ None }
     ensures one_free { (seats 2).step 6 11 ≡ Some 6 }
     ensures not_two_free { (seats 2).step 6 12 ≡ None }
+{}
+
+pub fn number_of_a_million()
+    ensures parts { amounts_number 1000000 (1 ∷ 5 ∷ [])
+        ≡ record { name = codes "number"; max = 1000000; initial = 0; calls = Take 1 ∷ Take 5 ∷ Give 1 ∷ Give 5 ∷ [] } }
 {}

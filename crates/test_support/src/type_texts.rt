@@ -336,3 +336,14 @@ step 4 1 2
 step 5 1 3
 end
 ";
+
+/// Credit in cents, with a refund and a question: a number that has no table.
+pub const CREDIT: &str = "number credit
+max 4294967295
+initial 4294967290
+take 5
+take 4294967295
+give 5
+atleast 1000000000
+end
+";

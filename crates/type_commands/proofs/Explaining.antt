@@ -4,21 +4,29 @@ use Rattle.std.specs.Prelude.{IfSome}
 use Rattle.std.proofs.KnownBytes.{Appends-trans}
 use Rattle.std.specs.Io.KnownBytes.{Appends}
 use Rattle.command_files.specs.Answers.{IsThis}
-use Rattle.command_files.specs.Files.{IsFaulty, IsFileAt}
+use Rattle.command_files.specs.Files.{IsDeclaredAt}
 use Rattle.command_files.specs.Refusals.{no_line}
 use Rattle.command_files.specs.declared.status.Verdict.{Verdict}
 use Rattle.command_files.specs.declared.status.Verdict.TheVariants.{Yes, No}
 use Rattle.table_checker.specs.Checked.{Checked}
+use Rattle.table_checker.specs.Declarations.{IsByTable, table_of}
 use Rattle.table_checker.specs.Laws.{CoversType}
 use Rattle.table_checker.specs.Refusal.{IsFirstOfNumeric, IsFirstReason}
+use Rattle.table_checker.specs.declared.declared_type.Declaration.{Declaration}
 use Rattle.table_checker.specs.declared.refusal.CheckRefusal.{CheckRefusal}
-use Rattle.type_table.specs.Kind.{table_kind}
+use Rattle.type_table.specs.Kind.{of_table, table_kind}
 use Rattle.type_table.specs.declared.kind.Kind.{Kind}
 use Rattle.type_table.specs.declared.kind.Kind.TheVariants.{Undo, Intentions, Escrow}
 use Rattle.type_table.specs.declared.table_kind.TableKind.{TableKind}
 use Rattle.type_table.specs.declared.table_kind.TableKind.TheVariants as tabled
 use Rattle.type_text.specs.declared.type_file.TypeFile.{TypeFile}
 use Rattle.type_commands.specs.Explain.{Adds, CannotBeExplained, Explains, ExplainsBy, ExplainsNumber, ExplainsPairs, IsYesLine, SaysThen, asked_of}
+use Rattle.type_commands.specs.Verdict.{CannotBeChecked}
+
+-- a kind of a conflict table is one whose types are declared by tables
+pub is_by_table : (kind : TableKind) → IsByTable (of_table kind)
+is_by_table tabled.Undo = tt
+is_by_table tabled.Intentions = tt
 
 -- ---- texts that are added
 
@@ -86,12 +94,12 @@ no_explains kind file refusal asked all first says Yes text this = absurd (let c
 -- ---- what can't be explained
 
 -- words that name no operations
-pub bad_words : (held : Option (List ℕ)) (words : Option (List ℕ × List ℕ)) (file : TypeFile) → IsFileAt held file → asked_of file.table words ≡ None
-    → IfSome held (CannotBeExplained words)
-bad_words None words file there none = there
-bad_words (Some text) words file there none = inr (file, there, none)
+pub bad_words : (held : Option (List ℕ)) (kind : Kind) (words : Option (List ℕ × List ℕ)) (declaration : Declaration) → IsDeclaredAt held declaration
+    → asked_of (table_of declaration) words ≡ None → IfSome held (CannotBeExplained kind words)
+bad_words None kind words declaration there none = there
+bad_words (Some text) kind words declaration there none = inr (declaration, there, none)
 
--- a text with a fault
-pub bad_text : (held : Option (List ℕ)) (words : Option (List ℕ × List ℕ)) → IfSome held IsFaulty → IfSome held (CannotBeExplained words)
-bad_text None words faulty = faulty
-bad_text (Some text) words faulty = inl faulty
+-- a text that can't be checked
+pub bad_text : (held : Option (List ℕ)) (kind : Kind) (words : Option (List ℕ × List ℕ)) → IfSome held (CannotBeChecked kind) → IfSome held (CannotBeExplained kind words)
+bad_text None kind words bad = bad
+bad_text (Some text) kind words bad = inl bad

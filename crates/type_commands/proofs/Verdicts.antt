@@ -5,6 +5,8 @@ use Rattle.command_files.specs.declared.status.Verdict.{Verdict}
 use Rattle.command_files.specs.declared.status.Verdict.TheVariants.{Yes, No}
 use Rattle.table_checker.specs.Checked.{IsStrong}
 use Rattle.table_checker.specs.Laws.{CoversType}
+use Rattle.declared_text.specs.Canonical.{canonical_text as declared_text}
+use Rattle.table_checker.specs.declared.declared_type.Declaration.{Declaration}
 use Rattle.type_table.specs.declared.kind.Kind.{Kind}
 use Rattle.type_text.specs.Canonical.{canonical_text}
 use Rattle.type_text.specs.declared.type_file.TypeFile.{TypeFile}
@@ -19,11 +21,11 @@ pub line_says : (kind : Kind) (file : TypeFile) (strong : Bool) (line : List ℕ
 line_says kind file strong line exact covers is Yes text this = record { strong = strong; is_strong = exact; covers = covers; line = this.1 ∙ is }
 line_says kind file strong line exact covers is No text this = absurd (let clash = this.0 in cc)
 
--- the text of a family's file
-pub family_says : (wanted : Option Wanted) (file : TypeFile) → MakesFor wanted (Ok file) → (v : Verdict) (text : List ℕ) → IsThis Yes (canonical_text file) v text → MakesFamily wanted v text
-family_says None file makes v text this = absurd makes
-family_says (Some wanted) file makes Yes text this = (file, makes, this.1)
-family_says (Some wanted) file makes No text this = absurd (let clash = this.0 in cc)
+-- the text of what is made
+pub family_says : (wanted : Option Wanted) (made : Declaration) → MakesFor wanted (Ok made) → (v : Verdict) (text : List ℕ) → IsThis Yes (declared_text made) v text → MakesFamily wanted v text
+family_says None made makes v text this = absurd makes
+family_says (Some wanted) made makes Yes text this = (made, makes, this.1)
+family_says (Some wanted) made makes No text this = absurd (let clash = this.0 in cc)
 
 -- what is asked for out of its range can't be made
 pub bad_parameter : (wanted : Option Wanted) → MakesFor wanted (Err BadParameter) → CannotBeMade wanted

@@ -3,10 +3,10 @@ use Rattle.std.specs.Prelude.{◌≡◌, ◌⊎◌, ◌↔◌, ℕ, ◌<◌, Boo
 use Rattle.std.specs.List.{position, range_with_len}
 use Rattle.std.specs.Option.{option_map, option_and_then}
 use Rattle.std.specs.Str.{bytes_eq}
-use Rattle.command_files.specs.Answers.{Answers}
-use Rattle.command_files.specs.Files.{Describes, IsFileAt, IsFaulty}
+use Rattle.command_files.specs.Files.{IsDeclaredAt}
 use Rattle.command_files.specs.declared.status.Verdict.{Verdict}
 use Rattle.command_files.specs.declared.status.Verdict.TheVariants.{Yes, No}
+use Rattle.declared_text.specs.Declared.{Declares}
 use Rattle.escrow_laws.specs.Faults.{IsFirstNumericFault}
 use Rattle.explaining.specs.Explained.{IsExplained, AreRows}
 use Rattle.explaining.specs.Leads.{IsLedSet}
@@ -26,8 +26,10 @@ use Rattle.type_text.specs.declared.type_file.TypeFile.{TypeFile}
 use Rattle.std.specs.Borrow.{Bor}
 use Rattle.std.specs.Io.KnownBytes.{Appends}
 use Rattle.table_checker.specs.Checked.{Checked, IsStrong}
+use Rattle.table_checker.specs.Declarations.{IsDeclaredFor, file_of, table_of}
+use Rattle.table_checker.specs.declared.declared_type.Declaration.{Declaration}
 use Rattle.type_commands.specs.declared.explain.Asked.{Asked}
-use Rattle.type_commands.specs.Verdict.{SaysOf, yes_line}
+use Rattle.type_commands.specs.Verdict.{CannotBeChecked, SaysOf, yes_line}
 
 -- ---- which pair
 
@@ -106,14 +108,19 @@ pub record Explains (kind : Kind) (file : TypeFile) (asked : Option (ℕ × ℕ)
   pub explained : ExplainsBy kind file asked verdict rest
   pub whole : text ≡ first ++ rest
 
--- the answer to the file of a path, by what is held there
-abbrev pub ExplainsFile : Option (List ℕ) → Kind → Option (List ℕ × List ℕ) → Answers
-ExplainsFile held kind words verdict text =
-    (file : TypeFile) × (asked : Option (ℕ × ℕ)) × IsFileAt held file × (asked_of file.table words ≡ Some asked) × Explains kind file asked verdict text
+-- the answer to what is declared at a path, by what is held there
+pub record ExplainsFile (held : Option (List ℕ)) (kind : Kind) (words : Option (List ℕ × List ℕ)) (verdict : Verdict) (text : List ℕ) : Type 0 where
+  pub declaration : Declaration
+  pub asked : Option (ℕ × ℕ)
+  pub declared : IsDeclaredAt held declaration
+  pub fits : IsDeclaredFor kind declaration
+  pub names : asked_of (table_of declaration) words ≡ Some asked
+  pub explains : Explains kind (file_of declaration) asked verdict text
 
--- the text has a fault, or the words name no operations of its type
-abbrev pub CannotBeExplained : Option (List ℕ × List ℕ) → List ℕ → Type 0
-CannotBeExplained words text = IsFaulty text ⊎ ((file : TypeFile) × Describes text file × (asked_of file.table words ≡ None))
+-- the text has a fault, or declares a number, and the kind isn't escrow; or the words name no operations of its type
+abbrev pub CannotBeExplained : Kind → Option (List ℕ × List ℕ) → List ℕ → Type 0
+CannotBeExplained kind words text =
+    CannotBeChecked kind text ⊎ ((declaration : Declaration) × Declares text declaration × (asked_of (table_of declaration) words ≡ None))
 
 -- ---- how it is put together
 

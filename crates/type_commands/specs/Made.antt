@@ -8,30 +8,44 @@ use Rattle.table_maker.specs.Made.{IsFileOfFamily}
 use Rattle.table_maker.specs.MadeConflicts.{AreMadeConflicts}
 use Rattle.table_maker.specs.declared.make_error.MakeError.{MakeError}
 use Rattle.table_maker.specs.declared.make_error.MakeError.TheVariants.{BadParameter, TooLarge, NoMemory}
+use Rattle.declared_text.specs.Canonical.{canonical_text as declared_text}
+use Rattle.table_checker.specs.declared.declared_type.Declaration.{Declaration}
+use Rattle.table_checker.specs.declared.declared_type.Declaration.TheVariants.{Table, Number}
 use Rattle.type_text.specs.Canonical.{canonical_text}
 use Rattle.type_text.specs.declared.type_file.TypeFile.{TypeFile}
-use Rattle.type_commands.specs.Request.{Fits, IsGood, Wanted, family_of}
+use Rattle.type_commands.specs.Request.{Fits, Formula, IsGood, Wanted, formula_of, table, value}
 
 -- ---- `make`
 
--- the parameters are good, the family isn't too large at them, and the file is the family's
-pub record IsMadeFor (wanted : Wanted) (file : TypeFile) : Type 0 where
+-- a file that is a family's, or this number
+abbrev pub Follows : Formula → Declaration → Type 0
+Follows (table f) (Table file) = IsFileOfFamily f file
+Follows (value v) (Number number) = number ≡ v
+Follows _ _ = ⊥
+
+-- the parameters are good, the family isn't too large at them, and this is made by its formula
+pub record IsMadeFor (wanted : Wanted) (made : Declaration) : Type 0 where
   pub good : IsGood wanted
   pub fits : Fits wanted
-  pub is_family : IsFileOfFamily (family_of wanted) file
+  pub follows : Follows (formula_of wanted) made
 
--- the file of what is asked for, or why there is none; memory is refused only where something is asked for
-abbrev pub MakesFor : Option Wanted → Result TypeFile MakeError → Type 0
+-- what is made, or why there is nothing
+abbrev pub MakesWanted : Wanted → Result Declaration MakeError → Type 0
+MakesWanted wanted (Ok made) = IsMadeFor wanted made
+MakesWanted wanted (Err BadParameter) = IsGood wanted → ⊥
+MakesWanted wanted (Err TooLarge) = IsGood wanted × (Fits wanted → ⊥)
+MakesWanted wanted (Err NoMemory) = IsGood wanted × Fits wanted
+
+-- and so of words, where memory is refused only where something is asked for
+abbrev pub MakesFor : Option Wanted → Result Declaration MakeError → Type 0
 MakesFor None (Err BadParameter) = Unit {0}
 MakesFor None _ = ⊥
-MakesFor (Some wanted) (Ok file) = IsMadeFor wanted file
-MakesFor (Some wanted) (Err BadParameter) = IsGood wanted → ⊥
-MakesFor (Some wanted) (Err TooLarge) = IsGood wanted × (Fits wanted → ⊥)
 MakesFor (Some wanted) (Err NoMemory) = Unit {0}
+MakesFor (Some wanted) made = MakesWanted wanted made
 
--- what is asked for is made, and the text is that of its file
+-- what is asked for is made, and the text is its canonical one
 abbrev pub MakesFamily : Option Wanted → Answers
-MakesFamily (Some wanted) Yes text = (file : TypeFile) × IsMadeFor wanted file × (text ≡ canonical_text file)
+MakesFamily (Some wanted) Yes text = (made : Declaration) × IsMadeFor wanted made × (text ≡ declared_text made)
 MakesFamily wanted verdict text = ⊥
 
 -- the words ask for nothing, or what can't be made

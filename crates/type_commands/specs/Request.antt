@@ -3,6 +3,8 @@ use Rattle.std.specs.Borrow.{Bor}
 use Rattle.std.specs.Prelude.{map, ◌≡◌, ◌≢◌, ℕ, ◌^◌, List, [], ◌∷◌, nat_lt, Option, Some, None, Result, Ok, Err, option_map, option_and_then, codes, length, ◌==◌, if◌then◌else◌}
 use Rattle.std.specs.Str.{bytes_eq}
 use Rattle.line_text.specs.Text.{number_of}
+use Rattle.number_text.specs.Digits.{long_number_of}
+use Rattle.number_text.specs.NumberFile.{Number}
 use Rattle.type_table.specs.Name.{is_name}
 use Rattle.table_maker.specs.Account.{account as account_family, AccountFits}
 use Rattle.table_maker.specs.Amounts.{AreAmounts}
@@ -11,6 +13,7 @@ use Rattle.table_maker.specs.Elements.{AreElements}
 use Rattle.table_maker.specs.Made.{Family}
 use Rattle.table_maker.specs.Semiqueue.{semiqueue as semiqueue_family, AreSemiqueueParameters, SemiqueueFits}
 use Rattle.table_maker.specs.Set.{set as set_family, SetFits}
+use Rattle.table_families.specs.Number.{amounts_number, AreNumberAmounts, NumberFits}
 use Rattle.table_families.specs.Queue.{queue as queue_family, QueueFits}
 use Rattle.table_families.specs.Seats.{seats as seats_family, AreSeats, SeatsFit}
 use Rattle.table_families.specs.Stock.{stock as stock_family, StockFits}
@@ -36,6 +39,7 @@ pub data Wanted : Type 0 where
   semiqueue : List Text → ℕ → Wanted
   queue : List Text → ℕ → Wanted
   seats : ℕ → Wanted
+  number : ℕ → List ℕ → Wanted
 
 -- what a request asks for
 abbrev pub wanted_by : Request → Wanted
@@ -46,12 +50,17 @@ wanted_by (request.Set elements) = set elements.items
 wanted_by (request.Semiqueue elements capacity) = semiqueue elements.items capacity
 wanted_by (request.Queue elements capacity) = queue elements.items capacity
 wanted_by (request.Seats count) = seats count
+wanted_by (request.Number max amounts) = number max amounts.items
 
 -- ---- words
 
 -- the number that a word is, below 65,536, which no parameter reaches
 abbrev pub parameter_of : Text → Option ℕ
 parameter_of word = option_and_then (λ n. if nat_lt n (2 ^ 16) then Some n else None) (number_of word)
+
+-- the number that a word is, of up to ten digits, at most 4,294,967,295
+abbrev pub long_parameter_of : Text → Option ℕ
+long_parameter_of word = option_and_then (λ n. if nat_lt n (2 ^ 32) then Some n else None) (long_number_of word)
 
 -- the name that a word is
 abbrev pub name_of : Text → Option Text
@@ -79,6 +88,10 @@ of_set size items = if bytes_eq size (codes "0") then option_map set (each_of na
 abbrev pub of_seats : Text → List Text → Option Wanted
 of_seats size items = if length items == 0 then option_map seats (parameter_of size) else None
 
+-- a greatest value and amounts, each of up to ten digits
+abbrev pub of_number : Text → List Text → Option Wanted
+of_number size items = option_and_then (λ max. option_map (number max) (each_of long_parameter_of items)) (long_parameter_of size)
+
 -- what FAMILY, SIZE and the ITEMs ask for
 abbrev pub wanted_of : Text → Text → List Text → Option Wanted
 wanted_of family size items =
@@ -89,6 +102,7 @@ wanted_of family size items =
     else if bytes_eq family (codes "semiqueue") then of_elements semiqueue size items
     else if bytes_eq family (codes "queue") then of_elements queue size items
     else if bytes_eq family (codes "seats") then of_seats size items
+    else if bytes_eq family (codes "number") then of_number size items
     else None
 
 -- the result is what the words say, or `BadParameter` where they say nothing; memory is refused only where they say something
@@ -109,6 +123,7 @@ IsGood (set elements) = AreElements 25 elements
 IsGood (semiqueue elements capacity) = AreSemiqueueParameters elements capacity
 IsGood (queue elements capacity) = AreSemiqueueParameters elements capacity
 IsGood (seats count) = AreSeats count
+IsGood (number max amounts) = AreNumberAmounts max amounts
 
 -- the family isn't too large at them
 abbrev pub Fits : Wanted → Type 0
@@ -119,13 +134,20 @@ Fits (set elements) = SetFits elements
 Fits (semiqueue elements capacity) = SemiqueueFits elements capacity
 Fits (queue elements capacity) = QueueFits elements capacity
 Fits (seats count) = SeatsFit count
+Fits (number max amounts) = NumberFits amounts
 
--- the family at them
-abbrev pub family_of : Wanted → Family
-family_of (account cap amounts) = account_family cap amounts
-family_of (counter cap amounts) = counter_family cap amounts
-family_of (stock cap amounts) = stock_family cap amounts
-family_of (set elements) = set_family elements
-family_of (semiqueue elements capacity) = semiqueue_family elements capacity
-family_of (queue elements capacity) = queue_family elements capacity
-family_of (seats count) = seats_family count
+-- what is made: the file of a family, or a number, which has no table
+pub data Formula : Type 0 where
+  table : Family → Formula
+  value : Number → Formula
+
+-- the formula at them
+abbrev pub formula_of : Wanted → Formula
+formula_of (account cap amounts) = table (account_family cap amounts)
+formula_of (counter cap amounts) = table (counter_family cap amounts)
+formula_of (stock cap amounts) = table (stock_family cap amounts)
+formula_of (set elements) = table (set_family elements)
+formula_of (semiqueue elements capacity) = table (semiqueue_family elements capacity)
+formula_of (queue elements capacity) = table (queue_family elements capacity)
+formula_of (seats count) = table (seats_family count)
+formula_of (number max amounts) = value (amounts_number max amounts)

@@ -1,21 +1,24 @@
-//! `check`: whether a type file is good for a kind of recovery.
+//! `check`: whether what a text declares is good for a kind of recovery.
 
 ghost use Rattle.std.specs.Prelude.{◌≡◌, None, IfSome};
 ghost use Rattle.command_files.specs.Answers.{Comes};
-ghost use Rattle.command_files.specs.Files.{IsFaulty};
-ghost use Rattle.type_commands.specs.Verdict.{ChecksFile, SaysOf, yes_line};
+ghost use Rattle.table_checker.specs.Declarations.{IsDeclaredFor, file_of};
+ghost use Rattle.type_commands.specs.Verdict.{CannotBeChecked, ChecksFile, IsToldEscrow, NeedsEscrow, SaysOf, yes_line};
 
-use command_files::{Fault, Source, TypeFormat, Verdict, no_line, put_answer, read_file};
+use crate::asked_type::{check_declared, copied, read_for};
+use command_files::{Fault, Source, Verdict, no_line, put_answer};
 use std::thread::Threads;
-use table_checker::check_parallel;
+use table_checker::DeclaredType;
 use type_table::Kind;
-use type_text::{Out, TypeFile};
+use type_text::Out;
 
-/// `check KIND FILE`: yes with its line, strong or not, or no with the line of the first reason.
+/// `check KIND FILE`: yes with its line, strong or not, or no with the line of the first reason. A number is
+/// asked about for escrow alone, and the answer is a strong yes.
 ///
 /// # Errors
 ///
-/// The file can't be read or its text has a fault, memory was refused, or the output failed.
+/// The file can't be read or its text has a fault, it declares a number and the kind isn't escrow, memory was
+/// refused, or the output failed.
 pub fn check_file<'a, R: AllocGlobal + Threads + Sync, S: Source, W: Out>(
     rt: &R,
     kind: Kind,
@@ -24,24 +27,27 @@ pub fn check_file<'a, R: AllocGlobal + Threads + Sync, S: Source, W: Out>(
     out: &mut W,
 ) -> Result<Verdict, Fault<'a>>
     requires { W.fault out.old ≡ None }
-    ensures { let held = S.holds source.old path.now in
-        Comes (ChecksFile held kind) (IfSome held IsFaulty) result (W.taken out.old) (W.taken out.new) }
+    ensures comes { let held = S.holds source.old path.now in
+        Comes (ChecksFile held kind) (IfSome held (CannotBeChecked kind)) result (W.taken out.old) (W.taken out.new) }
+    ensures told { IfSome (S.holds source.old path.now) (λ text. NeedsEscrow kind text → IsToldEscrow path.now result) }
 {
-    let file = read_file(rt.alloc(), &TypeFormat, path, source)?;
-    check_read(rt, kind, file, out)
+    let declared = read_for(rt.alloc(), kind, path, source)?;
+    check_read(rt, kind, &declared, out)
 }
 
-/// The answer to a file that was read.
+/// The answer to what was read.
 fn check_read<'a, R: AllocGlobal + Threads + Sync, W: Out>(
     rt: &R,
     kind: Kind,
-    file: TypeFile,
+    declared: &DeclaredType,
     out: &mut W,
 ) -> Result<Verdict, Fault<'a>>
-    requires { W.fault out.old ≡ None }
-    ensures { Comes (SaysOf kind file) ⊥ result (W.taken out.old) (W.taken out.new) }
+    requires no_fault { W.fault out.old ≡ None }
+    requires fits { IsDeclaredFor kind declared.now }
+    ensures { Comes (SaysOf kind (file_of declared.now)) ⊥ result (W.taken out.old) (W.taken out.new) }
 {
-    match check_parallel(rt, file, kind) {
+    let declaration = copied(rt.alloc(), declared)?;
+    match check_declared(rt, kind, declaration) {
         Ok(checked) => {
             let line = yes_line(checked.is_strong());
             put_answer(Verdict::Yes, line.as_bytes(), out)

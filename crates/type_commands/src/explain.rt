@@ -9,19 +9,22 @@ ghost use Rattle.command_files.specs.declared.status.Verdict.TheVariants as verd
 ghost use Rattle.escrow_laws.specs.Faults.{IsFirstNumericFault};
 ghost use Rattle.explaining.specs.Explainers.{IsExplainer};
 ghost use Rattle.explaining.specs.Text.{word_of};
+ghost use Rattle.table_checker.specs.Declarations.{IsDeclaredFor, file_of, table_of};
 ghost use Rattle.table_checker.specs.Laws.{CoversType};
 ghost use Rattle.table_checker.specs.Refusal.{IsFirstOfNumeric, IsFirstReason};
 ghost use Rattle.type_table.specs.Limits.{most_ops};
 ghost use Rattle.type_table.specs.declared.kind.Kind.TheVariants as kinds;
 ghost use Rattle.type_commands.specs.Explain.{Adds, AreOps, CannotBeExplained, Explains, ExplainsBy, ExplainsFile, ExplainsNumber, ExplainsPairs, IsYesLine, SaysThen, asked_as, asked_of, is_asked, op_of, pair_as, worded, words_as};
+ghost use Rattle.type_commands.specs.Verdict.{IsToldEscrow, NeedsEscrow};
 
+use crate::asked_type::{check_declared, copied, read_for};
 use crate::check::yes_line;
-use command_files::{Fault, Source, TypeFormat, Verdict, no_line, put_answer, read_file};
+use command_files::{Fault, Source, Verdict, no_line, put_answer};
 use explaining::{Explainer, why_not, write_bounds, write_pair, write_rows, write_why_not};
 use line_text::number_of;
 use std::alloc::{AllocError, Global};
 use std::thread::Threads;
-use table_checker::{CheckRefusal, CheckedType, check_parallel};
+use table_checker::{CheckRefusal, CheckedType, DeclaredType};
 use type_table::{Kind, Op, TableKind, TypeTable};
 use type_text::{Out, OutFault, Sink, TypeFile, put};
 
@@ -50,12 +53,13 @@ impl From<OutFault> for NoText {
 
 /// `explain KIND FILE [P Q]`: the line of `check`, and why each pair of operations has to be in the
 /// file's conflict table for the kind; with two words, P requested and Q held, the lines on this pair.
-/// A word is an operation's number, or CALL/REPLY. For escrow, the bounds of the operations.
+/// A word is an operation's number, or CALL/REPLY. For escrow, the bounds of the operations. A number is
+/// asked about for escrow alone.
 ///
 /// # Errors
 ///
-/// The file can't be read or its text has a fault, a word names no operation, memory was refused, or the
-/// output failed.
+/// The file can't be read or its text has a fault, it declares a number and the kind isn't escrow, a word
+/// names no operation, memory was refused, or the output failed.
 pub fn explain_file<'a, R: AllocGlobal + Threads + Sync, S: Source, W: Out>(
     rt: &R,
     kind: Kind,
@@ -65,40 +69,41 @@ pub fn explain_file<'a, R: AllocGlobal + Threads + Sync, S: Source, W: Out>(
     out: &mut W,
 ) -> Result<Verdict, Fault<'a>>
     requires { W.fault out.old ≡ None }
-    ensures { let held = S.holds source.old path.now in
-        Comes (ExplainsFile held kind (words_as words.entry)) (IfSome held (CannotBeExplained (words_as words.entry))) result (W.taken out.old) (W.taken out.new) }
+    ensures comes { let held = S.holds source.old path.now in
+        Comes (ExplainsFile held kind (words_as words.entry)) (IfSome held (CannotBeExplained kind (words_as words.entry))) result (W.taken out.old) (W.taken out.new) }
+    ensures told { IfSome (S.holds source.old path.now) (λ text. NeedsEscrow kind text → IsToldEscrow path.now result) }
 {
-    let file = read_file(rt.alloc(), &TypeFormat, path, source)?;
-    match asked_of(&file.table, words) {
+    let declared = read_for(rt.alloc(), kind, path, source)?;
+    match asked_of(&declared, words) {
         None => Err(Fault::BadParameter),
-        Some(asked) => explain_read(rt, kind, file, asked, out),
+        Some(asked) => explain_read(rt, kind, &declared, asked, out),
     }
 }
 
 /// The pair that two words ask for, or all where there are none; None where they name no operations.
-fn asked_of(table: &TypeTable, words: Option<(&str, &str)>) -> Option<Option<Asked>>
-    ensures exact { asked_of table.now (words_as words.entry) ≡ asked_as result }
-    ensures inside { IfSome result (λ asked. IfSome asked (AreOps table.now)) }
+fn asked_of(declared: &DeclaredType, words: Option<(&str, &str)>) -> Option<Option<Asked>>
+    ensures exact { asked_of (table_of declared.now) (words_as words.entry) ≡ asked_as result }
+    ensures inside { IfSome result (λ asked. IfSome asked (AreOps (table_of declared.now))) }
 {
     match words {
         None => Some(None),
         Some((p, q)) => {
-            let p = op_of(table, p)?;
-            let q = op_of(table, q)?;
+            let p = op_of(declared, p)?;
+            let q = op_of(declared, q)?;
             Some(Some(Asked { p, q }))
         }
     }
 }
 
 /// The operation that a word names.
-fn op_of(table: &TypeTable, word: &str) -> Option<u8>
-    ensures exact { result ≡ op_of table.now word.now }
-    ensures inside { IfSome result (λ k. k < length table.now.ops) }
+fn op_of(declared: &DeclaredType, word: &str) -> Option<u8>
+    ensures exact { result ≡ op_of (table_of declared.now) word.now }
+    ensures inside { IfSome result (λ k. k < length (table_of declared.now).ops) }
 {
-    let count = table.op_count();
+    let count = declared.op_count();
     match number_of(word.as_bytes()) {
         Some(n) => below(n, count),
-        None => worded(table.ops(), word.as_bytes()),
+        None => worded(declared.ops(), word.as_bytes()),
     }
 }
 
@@ -151,19 +156,21 @@ fn is_reply(op: &Op, rest: &[u8]) -> bool
     }
 }
 
-/// The answer to a file that was read.
+/// The answer to what was read.
 fn explain_read<'a, R: AllocGlobal + Threads + Sync, W: Out>(
     rt: &R,
     kind: Kind,
-    file: TypeFile,
+    declared: &DeclaredType,
     asked: Option<Asked>,
     out: &mut W,
 ) -> Result<Verdict, Fault<'a>>
     requires no_fault { W.fault out.old ≡ None }
-    requires asked { IfSome asked (AreOps file.table) }
-    ensures { Comes (Explains kind file (pair_as asked)) ⊥ result (W.taken out.old) (W.taken out.new) }
+    requires fits { IsDeclaredFor kind declared.now }
+    requires asked { IfSome asked (AreOps (table_of declared.now)) }
+    ensures { Comes (Explains kind (file_of declared.now) (pair_as asked)) ⊥ result (W.taken out.old) (W.taken out.new) }
 {
-    match check_parallel(rt, file, kind) {
+    let declaration = copied(rt.alloc(), declared)?;
+    match check_declared(rt, kind, declaration) {
         Ok(checked) => explain_yes(rt.alloc(), &checked, asked, out),
         Err((file, refusal)) => explain_no(rt.alloc(), kind, &file, refusal, asked, out),
     }
@@ -375,19 +382,23 @@ fn put_bounds<W: Out>(
     requires numeric { checked.now.kind ≡ kinds.Escrow }
     ensures { OnOk result (Adds (W.taken out.old) (W.taken out.new) (ExplainsNumber checked.now.file.table (pair_as asked) verdicts.Yes)) }
 {
-    let table = checked.table();
-    let ops = asked_ops(alloc, table, asked)?;
-    write_bounds(table, checked.bounds().as_slice(), &ops, out)?;
+    let declared = checked.declared();
+    let ops = asked_ops(alloc, declared, asked)?;
+    write_bounds(declared, checked.bounds().as_slice(), &ops, out)?;
     Ok(())
 }
 
 /// The operations that are asked for.
-fn asked_ops(alloc: Global, table: &TypeTable, asked: Option<Asked>) -> Result<Vec<u8>, AllocError>
-    ensures exact { IfOk result (λ ops. ops.items ≡ filter (is_asked (pair_as asked)) (range_with_len 0 (length table.now.ops))) }
-    ensures inside { IfOk result (λ ops. All (λ k. k < length table.now.ops) ops.items) }
+fn asked_ops(
+    alloc: Global,
+    declared: &DeclaredType,
+    asked: Option<Asked>,
+) -> Result<Vec<u8>, AllocError>
+    ensures exact { IfOk result (λ ops. ops.items ≡ filter (is_asked (pair_as asked)) (range_with_len 0 (length (table_of declared.now).ops))) }
+    ensures inside { IfOk result (λ ops. All (λ k. k < length (table_of declared.now).ops) ops.items) }
 {
     let mut ops = Vec::new(alloc);
-    for k in 0..table.op_count() {
+    for k in 0..declared.op_count() {
         if is_asked(asked, k) {
             ops.push(k)?;
         }

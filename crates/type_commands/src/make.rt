@@ -1,4 +1,4 @@
-//! `make`: type files of families.
+//! `make`: type files of families, and numbers.
 
 ghost use Rattle.std.specs.Prelude.{◌≡◌, None};
 ghost use Rattle.command_files.specs.Answers.{Comes};
@@ -6,13 +6,14 @@ ghost use Rattle.type_commands.specs.Made.{CannotBeMade, MakesFor, MakesFamily};
 ghost use Rattle.type_commands.specs.Request.{texts, wanted_of};
 
 use crate::request::{make, request_of};
-use crate::write::answer_file;
+use crate::write::answer_declared;
 use command_files::{Fault, Verdict};
 use std::alloc::Global;
+use table_checker::DeclaredType;
 use table_maker::MakeError;
-use type_text::{Out, TypeFile};
+use type_text::Out;
 
-/// `make FAMILY SIZE ITEM...`: the type file of the family.
+/// `make FAMILY SIZE ITEM...`: the type file of the family, or the number.
 ///
 /// # Errors
 ///
@@ -28,16 +29,21 @@ pub fn make_family<'a, W: Out>(
     ensures { let wanted = wanted_of family.now size.now (texts items.now) in
         Comes (MakesFamily wanted) (CannotBeMade wanted) result (W.taken out.old) (W.taken out.new) }
 {
-    match file_of(alloc, family, size, items) {
-        Ok(file) => answer_file(alloc, &file, out),
+    match made_of(alloc, family, size, items) {
+        Ok(made) => answer_declared(alloc, &made, out),
         Err(MakeError::BadParameter) => Err(Fault::BadParameter),
         Err(MakeError::TooLarge) => Err(Fault::TooLarge),
         Err(MakeError::NoMemory) => Err(Fault::NoMemory),
     }
 }
 
-/// The type file that the words ask for.
-fn file_of(alloc: Global, family: &str, size: &str, items: &[&str]) -> Result<TypeFile, MakeError>
+/// What the words ask for.
+fn made_of(
+    alloc: Global,
+    family: &str,
+    size: &str,
+    items: &[&str],
+) -> Result<DeclaredType, MakeError>
     ensures { MakesFor (wanted_of family.now size.now (texts items.now)) result }
 {
     let request = request_of(alloc, family, size, items)?;

@@ -2,12 +2,18 @@
 
 ghost use Rattle.std.specs.Prelude.{◌≡◌, None, IfOk, IfErr, filter_map, is_some};
 ghost use Rattle.std.specs.List.{list_all};
-ghost use Rattle.type_commands.specs.Request.{Fits, Gives, IsGood, each_of, family_of, name_of, of_seats, of_set, parameter_of, texts, wanted_by, wanted_of};
-ghost use Rattle.table_maker.specs.Made.{Makes};
+ghost use Rattle.type_commands.specs.Made.{MakesWanted};
+ghost use Rattle.type_commands.specs.Request.{Fits, Gives, IsGood, Wanted, each_of, formula_of, long_parameter_of, name_of, of_seats, of_set, parameter_of, table, texts, value, wanted_by, wanted_of};
+ghost use Rattle.table_families.specs.Number.{MakesNumber};
+ghost use Rattle.table_maker.specs.Made.{Family, Makes};
+ghost use Rattle.number_text.specs.NumberFile.{Number};
 
+use crate::long_number::long_number_of;
 use line_text::number_of;
+use number_text::{NumberFile, numbers_are_listed};
 use std::alloc::{AllocError, Global};
-use table_families::{make_queue, make_seats, make_stock};
+use table_checker::DeclaredType;
+use table_families::{make_number, make_queue, make_seats, make_stock};
 use table_maker::{MakeError, make_account, make_counter, make_semiqueue, make_set};
 use type_table::Name;
 use type_text::TypeFile;
@@ -60,18 +66,25 @@ pub enum Request {
         /// How many there are.
         count: u16,
     },
+    /// A number from 0 to a greatest one, of which some amounts are taken and given. It has no table.
+    Number {
+        /// The greatest number.
+        max: u32,
+        /// What is taken and given.
+        amounts: Vec<u32>,
+    },
 }
 
 /// The request of the words of `make`: FAMILY, SIZE and the ITEMs.
 ///
 /// SIZE is the cap of an account, a counter or a stock, the capacity of a semiqueue or a queue, how many
-/// seats there are, and `0` for a set.
+/// seats there are, the greatest number, and `0` for a set.
 ///
 /// # Errors
 ///
-/// `BadParameter` where the family is none of the seven, a word isn't a number below 65,536 or a name
-/// where one is asked for, the SIZE of a set isn't `0`, or seats have an ITEM. Otherwise `NoMemory` where
-/// memory is refused.
+/// `BadParameter` where the family is none of the eight, a word isn't a number below 65,536 or a name
+/// where one is asked for, the SIZE of a set isn't `0`, or seats have an ITEM; of a number, where a word
+/// isn't one up to 4,294,967,295. Otherwise `NoMemory` where memory is refused.
 pub fn request_of(
     alloc: Global,
     family: &str,
@@ -103,6 +116,10 @@ pub fn request_of(
             elements: elements_of(alloc, items)?,
         }),
         "seats" => seats_of(size, items),
+        "number" => Ok(Request::Number {
+            max: long_parameter_of(size)?,
+            amounts: long_amounts_of(alloc, items)?,
+        }),
         _ => Err(MakeError::BadParameter),
     }
 }
@@ -178,6 +195,53 @@ fn parameters_among(alloc: Global, words: &[&str]) -> Result<Vec<u16>, AllocErro
         .collect(alloc)
 }
 
+/// The number that a word is, of up to ten digits, where it is at most 4,294,967,295.
+fn long_parameter_of(word: &str) -> Result<u32, MakeError>
+    ensures number { IfOk result (λ number. long_parameter_of word.now ≡ Some number) }
+    ensures other { IfErr result (λ error. (error ≡ MakeError.BadParameter) × (long_parameter_of word.now ≡ None)) }
+{
+    match long_number(word) {
+        Some(number) => Ok(number),
+        None => Err(MakeError::BadParameter),
+    }
+}
+
+fn long_number(word: &str) -> Option<u32>
+    ensures { result ≡ long_parameter_of word.now }
+{
+    let number = long_number_of(word.as_bytes())?;
+    if number <= u64::from(u32::MAX) {
+        Some(number as u32)
+    } else {
+        None
+    }
+}
+
+/// The numbers of up to ten digits that the words are. Memory is taken only where each of them is one.
+fn long_amounts_of(alloc: Global, words: &[&str]) -> Result<Vec<u32>, MakeError>
+    ensures { Gives (each_of long_parameter_of (texts words.now)) (λ amounts. amounts.items) result }
+{
+    if !are_long_parameters(words) {
+        return Err(MakeError::BadParameter);
+    }
+    Ok(long_parameters_among(alloc, words)?)
+}
+
+fn are_long_parameters(words: &[&str]) -> bool
+    ensures { result ≡ list_all (λ word. is_some (long_parameter_of word.now)) words.now }
+{
+    words.iter().all(|word| long_number(word).is_some())
+}
+
+fn long_parameters_among(alloc: Global, words: &[&str]) -> Result<Vec<u32>, AllocError>
+    ensures { IfOk result (λ numbers. numbers.items ≡ filter_map (λ word. long_parameter_of word.now) words.now) }
+{
+    words
+        .iter()
+        .filter_map(|word| long_number(word))
+        .collect(alloc)
+}
+
 /// The names that the words are. Memory is taken only where each of them is one.
 fn elements_of(alloc: Global, words: &[&str]) -> Result<Vec<Name>, MakeError>
     ensures { Gives (each_of name_of (texts words.now)) (λ elements. elements.items) result }
@@ -203,22 +267,50 @@ fn names_among(alloc: Global, words: &[&str]) -> Result<Vec<Name>, AllocError>
         .collect(alloc)
 }
 
-/// The type file that is asked for, with the set of all states.
+/// The type file that is asked for, with the set of all states, or the number.
 ///
 /// # Errors
 ///
 /// The first that holds of `BadParameter` where a parameter is out of its range, `TooLarge` where the
 /// family has more than 64 operations or 1,024 states, and `NoMemory`.
-pub fn make(alloc: Global, request: &Request) -> Result<TypeFile, MakeError>
-    ensures { Makes result (IsGood (wanted_by request.now)) (Fits (wanted_by request.now)) (family_of (wanted_by request.now)) }
+pub fn make(alloc: Global, request: &Request) -> Result<DeclaredType, MakeError>
+    ensures { MakesWanted (wanted_by request.now) result }
 {
     match request {
-        Request::Account { cap, amounts } => make_account(alloc, *cap, amounts),
-        Request::Counter { cap, amounts } => make_counter(alloc, *cap, amounts),
-        Request::Stock { cap, amounts } => make_stock(alloc, *cap, amounts),
-        Request::Set { elements } => make_set(alloc, elements),
-        Request::Semiqueue { elements, capacity } => make_semiqueue(alloc, elements, *capacity),
-        Request::Queue { elements, capacity } => make_queue(alloc, elements, *capacity),
-        Request::Seats { count } => make_seats(alloc, *count),
+        Request::Account { cap, amounts } => by_table(make_account(alloc, *cap, amounts)),
+        Request::Counter { cap, amounts } => by_table(make_counter(alloc, *cap, amounts)),
+        Request::Stock { cap, amounts } => by_table(make_stock(alloc, *cap, amounts)),
+        Request::Set { elements } => by_table(make_set(alloc, elements)),
+        Request::Semiqueue { elements, capacity } => {
+            by_table(make_semiqueue(alloc, elements, *capacity))
+        }
+        Request::Queue { elements, capacity } => by_table(make_queue(alloc, elements, *capacity)),
+        Request::Seats { count } => by_table(make_seats(alloc, *count)),
+        Request::Number { max, amounts } => by_number(make_number(alloc, *max, amounts)),
+    }
+}
+
+/// What is made of a family with a table.
+fn by_table(made: Result<TypeFile, MakeError>) -> Result<DeclaredType, MakeError>
+    ensures { (wanted : Wanted) (f : Family) → formula_of wanted ≡ table f → Makes made (IsGood wanted) (Fits wanted) f → MakesWanted wanted result }
+{
+    match made {
+        Ok(file) => Ok(DeclaredType::table(file)),
+        Err(error) => Err(error),
+    }
+}
+
+/// What is made of a number.
+fn by_number(made: Result<NumberFile, MakeError>) -> Result<DeclaredType, MakeError>
+    ensures { (wanted : Wanted) (v : Number) → formula_of wanted ≡ value v → MakesNumber made (IsGood wanted) (Fits wanted) v → MakesWanted wanted result }
+{
+    match made {
+        Ok(number) => {
+            numbers_are_listed();
+            // (read for its clause on what is known of a number)
+            let _calls = number.calls();
+            Ok(DeclaredType::number(number))
+        }
+        Err(error) => Err(error),
     }
 }

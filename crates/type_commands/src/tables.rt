@@ -5,9 +5,10 @@ ghost use Rattle.command_files.specs.Answers.{Comes};
 ghost use Rattle.command_files.specs.Files.{IsFaulty};
 ghost use Rattle.type_commands.specs.Made.{MakesTables, MakesTablesOf};
 
-use crate::write::answer_file;
+use crate::write::answer_declared;
 use command_files::{Fault, Source, TypeFormat, Verdict, read_file};
 use std::alloc::Global;
+use table_checker::DeclaredType;
 use table_maker::make_tables;
 use type_text::{Out, TypeFile};
 
@@ -40,7 +41,10 @@ fn answer_made<'a, W: Out>(
     ensures { Comes (MakesTables file.now) ⊥ result (W.taken out.old) (W.taken out.new) }
 {
     match make_tables(alloc, &file.table, file.reach) {
-        Ok(made) => answer_file(alloc, &made, out),
+        Ok(made) => {
+            let declared = DeclaredType::table(made);
+            answer_declared(alloc, &declared, out)
+        }
         // memory was refused: it has no other error
         Err(_) => Err(Fault::NoMemory),
     }

@@ -2,6 +2,7 @@
 
 mod apart;
 mod checked;
+mod checked_numbers;
 mod lines;
 mod number_files;
 mod numbers;

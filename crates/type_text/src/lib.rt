@@ -21,6 +21,6 @@ pub use outputs::{
 };
 pub use read::read_type;
 pub use type_file::TypeFile;
-pub use write::write_type;
+pub use write::{is_whole, write_type};
 
 pub mod worked;

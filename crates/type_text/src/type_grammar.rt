@@ -56,7 +56,7 @@ const INTENTIONS_RANK: usize = 8;
 const END_RANK: usize = 9;
 
 /// The grammar of type files.
-#[derive(Clone, Copy, Debug)]
+#[derive(Clone, Copy)]
 pub struct TypeGrammar;
 
 impl Grammar for TypeGrammar {

@@ -210,8 +210,8 @@ fn line_where(is_entry: bool, line: TypeLine) -> Option<TypeLine>
     if is_entry { Some(line) } else { None }
 }
 
-/// Whether a set is that of all states.
-fn is_whole(set: &StateSet, states: u16) -> bool
+/// Whether a set is that of all states, so that a text has no `reach` line of it. `states` is how many there are.
+pub fn is_whole(set: &StateSet, states: u16) -> bool
     requires { length set.now ≡ states }
     ensures { result ≡ is_whole set.now }
 {

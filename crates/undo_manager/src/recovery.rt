@@ -31,9 +31,7 @@ impl Recovery for UndoManager {
     ghost meaning = { λ m. m };
 
     fn ops(&self) -> &[Op] {
-        // (read for its clause that the type was accepted)
-        let _file = self.checked.file();
-        self.checked.table().ops()
+        self.checked.ops()
     }
 
     fn state(&self) -> u32 {
@@ -106,7 +104,7 @@ impl Recovery for UndoManager {
     }
 
     fn is_fresh(&self) -> bool {
-        self.base == self.checked.table().initial() && self.log.is_empty()
+        u32::from(self.base) == self.checked.initial() && self.log.is_empty()
     }
 }
 

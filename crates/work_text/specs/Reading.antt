@@ -20,6 +20,10 @@ use Rattle.work_text.specs.Text.{work_text}
 abbrev pub IsShort : ℕ → Type 0
 IsShort n = n < 10 ^ 7
 
+-- and of 32 bits
+abbrev pub IsWord : ℕ → Type 0
+IsWord n = n < 2 ^ 32
+
 abbrev pub IsShortOutcome : Outcome → Type 0
 IsShortOutcome (Committed t) = IsShort t
 IsShortOutcome GaveUp = Unit {0}
@@ -33,7 +37,7 @@ pub record IsShortReport (r : Report) : Type 0 where
 pub record IsShortYes (a : Audit) : Type 0 where
   pub order : AllByRecursion IsShort a.order.items
   pub objects : IsShort (length a.finals.items)
-  pub finals : AllByRecursion IsShort a.finals.items
+  pub finals : AllByRecursion IsWord a.finals.items
 
 abbrev pub IsShortAudit : Result Audit AuditFault → Type 0
 IsShortAudit (Ok a) = IsShortYes a
@@ -41,10 +45,10 @@ IsShortAudit (Err (BadEvent at)) = IsShort at
 IsShortAudit (Err (IllegalOp i x j)) = IsShort i × IsShort x × IsShort j
 IsShortAudit (Err NoMemory) = Unit {0}
 
--- all numbers of the comments are
+-- all numbers of the comments are, but for states, which have 32 bits
 pub record AreShort (kept : List ℕ) (audit : Result Audit AuditFault) (reports : List Report) : Type 0 where
   pub objects : IsShort (length kept)
-  pub states : AllByRecursion IsShort kept
+  pub states : AllByRecursion IsWord kept
   pub said : IsShortAudit audit
   pub workers : IsShort (length reports)
   pub jobs : AllByRecursion IsShortReport reports

@@ -1,7 +1,7 @@
 use serial_order::Refusal;
 
 /// Where a worker is in the job that it does.
-#[derive(Clone, Copy, Debug, PartialEq, Eq)]
+#[derive(Clone, Copy)]
 pub enum Phase {
     /// Before a try.
     Idle,

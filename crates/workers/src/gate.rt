@@ -6,7 +6,7 @@ pub trait Gate: Sync {
 }
 
 /// Lets everyone pass at once.
-#[derive(Clone, Copy, Debug)]
+#[derive(Clone, Copy)]
 pub struct NoGate;
 
 impl Gate for NoGate {

@@ -4,7 +4,7 @@
 use std::ffi::c_void;
 
 /// The version of these calls, which [`colock_version`] has to return too.
-pub const VERSION: u32 = 1;
+pub const VERSION: u32 = 2;
 
 /// The codes that a call returns.
 pub mod code {
@@ -34,6 +34,7 @@ pub mod code {
     pub const NO_OPERATION: u32 = 23;
     pub const NOT_LEGAL: u32 = 24;
     pub const NO_ROOM: u32 = 25;
+    pub const NEEDS_ESCROW: u32 = 26;
 }
 
 /// Of zeros before its first call. It may be moved, and never be used as two.
@@ -97,6 +98,7 @@ extern "C" {
     pub fn colock_type_semiqueue(slot: *mut Handle, kind: u32, elements: *const u8, elements_count: usize, capacity: u64, fault: *mut Fault) -> u32;
     pub fn colock_type_queue(slot: *mut Handle, kind: u32, elements: *const u8, elements_count: usize, capacity: u64, fault: *mut Fault) -> u32;
     pub fn colock_type_seats(slot: *mut Handle, kind: u32, count: u64, fault: *mut Fault) -> u32;
+    pub fn colock_type_number(slot: *mut Handle, kind: u32, max: u32, amounts: *const u32, amounts_count: usize, fault: *mut Fault) -> u32;
     pub fn colock_type_shape(slot: *mut Handle, shape: *mut Shape) -> u32;
     pub fn colock_type_name(slot: *mut Handle, room: *mut u8, room_count: usize, count: *mut u64) -> u32;
     pub fn colock_type_call(slot: *mut Handle, k: u64, room: *mut u8, room_count: usize, count: *mut u64) -> u32;

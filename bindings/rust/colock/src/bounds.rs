@@ -3,7 +3,7 @@
 use crate::error::Error;
 use crate::types::Type;
 
-/// An operation of a numeric type: it is legal from `low` to `high`, and moves each of these as far.
+/// An operation of a numeric type: it is legal from `low` to `high`, and moves each of these as far. All are below 2^33.
 #[derive(Clone, Copy, Debug, PartialEq, Eq)]
 pub(crate) struct Bounds {
     low: i64,
@@ -14,8 +14,10 @@ pub(crate) struct Bounds {
 impl Bounds {
     /// Those of an operation of a numeric type; `None` where it is legal nowhere.
     pub(crate) fn of(of: &Type, operation: u64) -> Result<Option<Bounds>, Error> {
-        let (low, high) = (first_step(of, operation, 0..of.states())?, first_step(of, operation, (0..of.states()).rev())?);
-        Ok(low.zip(high).map(|((low, to), (high, _))| Bounds { low, high, moves: to - low }))
+        let greatest = of.states() - 1;
+        let Some((state, to)) = some_step(of, operation, greatest)? else { return Ok(None) };
+        let (low, high) = (farthest(of, operation, state, 0)?, farthest(of, operation, state, greatest)?);
+        Ok(Some(Bounds { low: low as i64, high: high as i64, moves: to as i64 - state as i64 }))
     }
 
     /// Whether there is a number at which both are legal, and one of them isn't legal after the other.
@@ -30,15 +32,32 @@ impl Bounds {
     }
 }
 
-/// The first of these states in which an operation is legal, and the state to which it leads.
-fn first_step(of: &Type, operation: u64, states: impl Iterator<Item = u64>) -> Result<Option<(i64, i64)>, Error> {
-    for state in states {
+/// A state in which an operation is legal, and the state to which it leads. Each operation of a number without a table is
+/// legal at 0 or at its greatest state, so only a table's states, of which there are few, are gone through.
+fn some_step(of: &Type, operation: u64, greatest: u64) -> Result<Option<(u64, u64)>, Error> {
+    for state in [0, greatest].into_iter().chain(1..greatest) {
         if let Some(to) = of.step(state, operation)? {
-            // there are at most 1,024 states
-            return Ok(Some((state as i64, to as i64)));
+            return Ok(Some((state, to)));
         }
     }
     Ok(None)
+}
+
+/// The last state, from one in which an operation is legal towards an end, in which it is: all between two such are.
+fn farthest(of: &Type, operation: u64, legal: u64, end: u64) -> Result<u64, Error> {
+    if of.step(end, operation)?.is_some() {
+        return Ok(end);
+    }
+    let (mut legal, mut illegal) = (legal, end);
+    while legal.abs_diff(illegal) > 1 {
+        let middle = (legal + illegal) / 2;
+        if of.step(middle, operation)?.is_some() {
+            legal = middle;
+        } else {
+            illegal = middle;
+        }
+    }
+    Ok(legal)
 }
 
 #[cfg(test)]
@@ -64,6 +83,23 @@ mod tests {
     fn what_is_legal_nowhere_has_none() {
         let never = Type::read("type never\nstates 2\ninitial 0\nop a b\nop c d\nstep 0 1 1\nend\n", Kind::Escrow).unwrap();
         assert_eq!(bounds_of(&never), [None, Some((0, 0, 1))]);
+    }
+
+    #[test]
+    fn what_is_legal_in_the_middle_has_bounds() {
+        let steps = (3..=5).map(|state| format!("step {state} 0 {}\n", state - 2)).collect::<String>();
+        let middle = Type::read(format!("type middle\nstates 9\ninitial 0\nop a b\n{steps}end\n"), Kind::Escrow).unwrap();
+        assert_eq!(bounds_of(&middle), [Some((3, 5, -2))]);
+    }
+
+    #[test]
+    fn a_number_of_32_bits_has_bounds() {
+        let most = i64::from(u32::MAX);
+        let text = format!("number large\nmax {most}\ninitial 0\ntake 1\ntake {most}\ngive 5\natleast 1000000\nend\n");
+        let bounds = bounds_of(&Type::read(text, Kind::Escrow).unwrap());
+        assert_eq!(bounds[..4], [Some((1, most, -1)), Some((0, 0, 0)), Some((most, most, -most)), Some((0, most - 1, 0))]);
+        assert_eq!(bounds[4..6], [Some((0, most - 5, 5)), Some((most - 4, most, 0))]);
+        assert_eq!(bounds[6..], [Some((1_000_000, most, 0)), Some((0, 999_999, 0))]);
     }
 
     #[test]

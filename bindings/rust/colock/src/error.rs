@@ -48,6 +48,8 @@ pub enum Error {
     NoState,
     /// The type has no operation of this number, or none of this call and reply.
     NoOperation,
+    /// The text declares a number, which is for [`Kind::Escrow`](crate::Kind::Escrow) alone.
+    NeedsEscrow,
     /// A call was busy, where [`Reply::executed`](crate::Reply::executed) asked for its operation.
     Busy {
         /// Who was in its way.
@@ -184,6 +186,7 @@ impl Error {
             code::TOO_LARGE => Error::TooLarge,
             code::NO_STATE => Error::NoState,
             code::NO_OPERATION => Error::NoOperation,
+            code::NEEDS_ESCROW => Error::NeedsEscrow,
             other => Error::Unknown(other.into()),
         }
     }
@@ -258,6 +261,7 @@ impl fmt::Display for Error {
             Error::TooLarge => f.write_str("the type would have too many operations or states"),
             Error::NoState => f.write_str("the type has no state of this number"),
             Error::NoOperation => f.write_str("the type has no such operation"),
+            Error::NeedsEscrow => f.write_str("the type is a number, which needs escrow"),
             Error::Unknown(number) => write!(f, "the library told {number}, which is unknown"),
             other => other.write_of_clients(f),
         }

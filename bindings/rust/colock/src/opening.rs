@@ -1,3 +1,4 @@
+use crate::bounds::Bounds;
 use crate::calls::Calls;
 use crate::child::{listed, Conversation, Link};
 use crate::creating;
@@ -17,7 +18,7 @@ use std::sync::Arc;
 use std::time::Duration;
 
 /// The version of what is spoken with a child.
-const VERSION: &str = "1";
+const VERSION: &str = "2";
 
 /// How a store in a file is opened. A child process serves it, the program `colock serve`, in a process group of its
 /// own.
@@ -268,12 +269,18 @@ impl Type {
         let shape = |of: &Type| (of.kind(), of.name(), of.states(), of.initial(), of.operations());
         let operations = self.operations();
         let name = |of: &Type, k| (of.call_name(k), of.reply_name(k));
-        let mut steps = (0..self.states()).flat_map(|state| (0..operations).map(move |k| (state, k)));
         let mut pairs = (0..operations).flat_map(|requested| (0..operations).map(move |held| (requested, held)));
         shape(self) == shape(other)
-            && (0..operations).all(|k| name(self, k) == name(other, k))
-            && steps.all(|(state, k)| self.step(state, k) == other.step(state, k))
+            && (0..operations).all(|k| name(self, k) == name(other, k) && self.has_steps_of(other, k))
             && pairs.all(|(requested, held)| self.conflicts(requested, held) == other.conflicts(requested, held))
+    }
+
+    /// Whether an operation has the steps that it has in another type of as many states. Of a number its bounds say so.
+    fn has_steps_of(&self, other: &Type, operation: u64) -> bool {
+        match self.kind() {
+            Kind::Escrow => Bounds::of(self, operation) == Bounds::of(other, operation),
+            Kind::Undo | Kind::Intentions => (0..self.states()).all(|state| self.step(state, operation) == other.step(state, operation)),
+        }
     }
 }
 
@@ -284,9 +291,9 @@ mod tests {
 
     #[test]
     fn greetings_are_read() {
-        assert_eq!(life_of("colock 1 12"), Ok(12));
-        assert_eq!(life_of("colock 2 12"), Err(Error::CannotOpen("the program speaks version 2, and this client version 1".to_string())));
-        for wrong in ["colock 1 x", "hello", "colock", "", "colock 1 1 1"] {
+        assert_eq!(life_of("colock 2 12"), Ok(12));
+        assert_eq!(life_of("colock 1 12"), Err(Error::CannotOpen("the program speaks version 1, and this client version 2".to_string())));
+        for wrong in ["colock 2 x", "hello", "colock", "", "colock 2 1 1"] {
             assert!(matches!(life_of(wrong), Err(Error::CannotOpen(_))), "{wrong}");
         }
     }
@@ -309,6 +316,10 @@ mod tests {
         assert!(!are_same(&[&five, &five], &[&again, &six]));
         assert!(!are_same(&[&five], &[&deferred]) && !are_same(&[&deferred], &[&escrow]));
         assert!(are_same(&[&escrow], &[&another]) && !are_same(&[&escrow], &[&make(6, Kind::Escrow)]));
+        let large = |take: u32| Type::read(format!("number large\nmax 4294967295\ninitial 7\ntake {take}\nend\n"), Kind::Escrow).unwrap();
+        assert!(are_same(&[&large(5)], &[&large(5)]) && !are_same(&[&large(5)], &[&large(6)]));
+        let moved = |step: &str| Type::read(format!("type c\nstates 3\ninitial 0\nop a b\nstep {step}\nend\n"), Kind::Escrow).unwrap();
+        assert!(are_same(&[&moved("0 0 1")], &[&moved("0 0 1")]) && !are_same(&[&moved("0 0 1")], &[&moved("1 0 2")]));
         let all = "type c\nstates 2\ninitial 0\nop a b\nstep 0 0 1\nconflict undo 0 0\nend\n";
         let none = all.replace("conflict undo 0 0\n", "");
         let other = all.replace("step 0 0 1", "step 1 0 0");

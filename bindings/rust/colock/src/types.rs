@@ -51,10 +51,15 @@ pub struct Type {
 }
 
 impl Type {
-    /// The type of a text, with its own conflicts, which for [`Kind::Escrow`] aren't looked at.
+    /// The type of a text, with its own conflicts, which for [`Kind::Escrow`] aren't looked at. A text whose first word is
+    /// `number` is of a number up to 4,294,967,295 with listed amounts, which has no table and is for [`Kind::Escrow`]
+    /// alone.
     ///
     /// ```
     /// use colock::{Error, FaultKind, Kind, Type};
+    ///
+    /// let cents = Type::read("number cents\nmax 100000\ninitial 500\ntake 250\ngive 250\nend\n", Kind::Escrow)?;
+    /// assert_eq!((cents.states(), cents.call_name(0)?, cents.step(500, 0)?), (100_001, "take:250".into(), Some(250)));
     ///
     /// let text = "type flag\nstates 2\ninitial 0\nop raise ok\nstep 0 0 1\nconflict undo 0 0\nend\n";
     /// assert_eq!(Type::read(text, Kind::Undo)?.states(), 2);
@@ -65,7 +70,7 @@ impl Type {
     ///
     /// # Errors
     ///
-    /// [`Error::BadText`], [`Error::Refused`] or [`Error::NoMemory`].
+    /// [`Error::BadText`], [`Error::NeedsEscrow`], [`Error::Refused`] or [`Error::NoMemory`].
     pub fn read(text: impl AsRef<[u8]>, kind: Kind) -> Result<Type, Error> {
         let text = text.as_ref();
         // SAFETY: `made` gives pointers of its own, and the text is one slice.
@@ -85,7 +90,7 @@ impl Type {
     ///
     /// # Errors
     ///
-    /// As of [`Type::read`].
+    /// [`Error::BadText`], [`Error::Refused`] or [`Error::NoMemory`].
     pub fn with_made_tables(text: impl AsRef<[u8]>, kind: Kind) -> Result<Type, Error> {
         let text = text.as_ref();
         // SAFETY: as in `read`.
@@ -223,6 +228,25 @@ impl Type {
     pub fn seats(count: u64, kind: Kind) -> Result<Type, Error> {
         // SAFETY: as in `read`.
         Type::made(Source::family("seats", count, &[""; 0]), |handle, fault| unsafe { sys::colock_type_seats(handle, kind as u32, count, fault) })
+    }
+
+    /// A number of 0 to `max`, at 0, which has no table and is of [`Kind::Escrow`]: `take:A` and `give:A` for each amount A,
+    /// whose refusals, `short` and `full`, are replies. Amounts are 1 to `max`, ascending, at most 16.
+    ///
+    /// ```
+    /// let cents = colock::Type::number(u32::MAX, &[250, 1000])?;
+    /// assert_eq!((cents.states(), cents.call_name(4)?, cents.step(0, 4)?), (1 << 32, "give:250".into(), Some(250)));
+    /// # Ok::<(), colock::Error>(())
+    /// ```
+    ///
+    /// # Errors
+    ///
+    /// As of [`Type::account`].
+    pub fn number(max: u32, amounts: &[u32]) -> Result<Type, Error> {
+        // SAFETY: as in `read`.
+        Type::made(Source::family("number", max.into(), amounts), |handle, fault| unsafe {
+            sys::colock_type_number(handle, Kind::Escrow as u32, max, amounts.as_ptr(), amounts.len(), fault)
+        })
     }
 
     fn made(source: Source, make: impl FnOnce(*mut sys::Handle, *mut sys::Fault) -> u32) -> Result<Type, Error> {

@@ -79,6 +79,7 @@ fn numbers_are_accepted_for_escrow() {
         Type::account(5, &[1, 2], Kind::Escrow),
         Type::semiqueue(&["a"], 9, Kind::Escrow),
         Type::semiqueue(&["a", "b"], 1, Kind::Escrow),
+        Type::number(u32::MAX, &[1, 250]),
     ];
     for made in types {
         let made = made.unwrap();
@@ -95,6 +96,22 @@ fn numbers_are_accepted_for_escrow() {
     }
     let words: Vec<String> = [Kind::Undo, Kind::Intentions, Kind::Escrow].iter().map(Kind::to_string).collect();
     assert_eq!(words, ["undo", "intentions", "escrow"]);
+}
+
+#[test]
+fn a_number_needs_escrow() {
+    let text = "number cents\nmax 100000\ninitial 0\ntake 250\ngive 250\nend\n";
+    for kind in [Kind::Undo, Kind::Intentions] {
+        let error = Type::read(text, kind).unwrap_err();
+        assert_eq!((&error, error.to_string().as_str()), (&Error::NeedsEscrow, "the type is a number, which needs escrow"));
+    }
+    // the fault of a text is told first, and tables are made of type files alone
+    let faulty = Error::BadText { line: 2, kind: FaultKind::OutOfRange };
+    assert_eq!(Type::read("number cents\nmax 0\n", Kind::Undo).err(), Some(faulty));
+    let unknown = Error::BadText { line: 1, kind: FaultKind::UnknownWord };
+    assert_eq!(Type::with_made_tables(text, Kind::Escrow).err(), Some(unknown));
+    let cents = Type::read(text, Kind::Escrow).unwrap();
+    assert_eq!((cents.name().as_str(), cents.states(), cents.operations()), ("cents", 100_001, 4));
 }
 
 #[test]
@@ -140,6 +157,10 @@ fn families_have_ranges() {
         Type::queue(&["a"], u64::MAX, Kind::Undo),
         Type::seats(0, Kind::Undo),
         Type::seats(u64::MAX, Kind::Undo),
+        Type::number(5, &[2, 1]),
+        Type::number(5, &[6]),
+        Type::number(0, &[1]),
+        Type::number(5, &[]),
     ] {
         assert_eq!(wrong.err(), Some(Error::BadParameter));
     }
@@ -150,6 +171,7 @@ fn families_have_ranges() {
         Type::stock(1023, &many, Kind::Undo),
         Type::queue(&["a", "b"], 10, Kind::Undo),
         Type::seats(7, Kind::Undo),
+        Type::number(u32::MAX, &(1..=17).collect::<Vec<u32>>()),
     ] {
         assert_eq!(large.err(), Some(Error::TooLarge));
     }

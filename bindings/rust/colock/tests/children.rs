@@ -82,17 +82,18 @@ fn types_of_each_source_are_made() {
         Type::account(5, &[1, 2], Kind::Escrow).unwrap(),
         Type::read(texts, Kind::Escrow).unwrap(),
         Type::from_steps("box", 2, &[("put", "ok"), ("get", "ok")], Kind::Escrow, step_of_a_box).unwrap(),
+        Type::number(1_000_000, &[250]).unwrap(),
     ];
     let objects: Vec<&Type> = types.iter().chain([&types[0], &types[3]]).collect();
     let store = OpenOptions::new().objects(&objects).create(true).program(program()).open(folder.file("a.db")).unwrap();
     let mut t = store.begin().unwrap();
-    let calls = ["raise", "raise", "deposit:2", "insert:-a", "enq:mail", "tick", "deposit:1", "raise", "put", "raise", "member:b"];
+    let calls = ["raise", "raise", "deposit:2", "insert:-a", "enq:mail", "tick", "deposit:1", "raise", "put", "give:250", "raise", "member:b"];
     for (object, call) in calls.into_iter().enumerate() {
         assert!(matches!(t.call(object as u32, call), Ok(Reply::Operation(_))), "{call}");
     }
     assert_eq!(t.call(3, "member:-a"), Ok(Reply::Operation(types[3].operation("member:-a", "true").unwrap())));
     t.commit().unwrap();
-    assert_eq!((store.kept(6), store.kept(7), store.kept(8)), (Ok(1), Ok(1), Ok(3)));
+    assert_eq!((store.kept(6), store.kept(7), store.kept(8), store.kept(9)), (Ok(1), Ok(1), Ok(3), Ok(250)));
     store.close().unwrap();
 }
 

@@ -18,7 +18,7 @@ const SOON: Duration = Duration::from_secs(5);
 
 /// A program that greets, and serves one counter from 0 to 2, with more arms of its `case`.
 fn served(arms: &str) -> String {
-    format!("#!/bin/sh\necho \"colock 1 1\"\nwhile read -r tag verb rest; do\n    case \"$verb\" in\n{COUNTER_ARMS}\n    {arms}\n    esac\ndone\n")
+    format!("#!/bin/sh\necho \"colock 2 1\"\nwhile read -r tag verb rest; do\n    case \"$verb\" in\n{COUNTER_ARMS}\n    {arms}\n    esac\ndone\n")
 }
 
 /// A folder with a program. One test at a time, since they have half a second for an answer.
@@ -80,14 +80,14 @@ fn lost<T: std::fmt::Debug>(act: impl FnOnce() -> Result<T, Error>) -> String {
 #[test]
 fn greetings_are_looked_at() {
     let rows = [
-        ("#!/bin/sh\necho 'colock 2 1'\nexec sleep 60\n", "version 2"),
+        ("#!/bin/sh\necho 'colock 1 1'\nexec sleep 60\n", "version 1"),
         ("#!/bin/sh\necho hello\nexec sleep 60\n", "no greeting: hello"),
         ("#!/bin/sh\necho 'colock: a.db: cannot open' >&2\nexit 3\n", "colock: a.db: cannot open"),
         ("#!/bin/sh\nexec sleep 60\n", "no answer within"),
-        ("#!/bin/sh\nprintf 'colock 1 1'\n", "no whole line"),
+        ("#!/bin/sh\nprintf 'colock 2 1'\n", "no whole line"),
         ("#!/bin/sh\nprintf '\\377\\n'\nexec sleep 60\n", "no whole line"),
         ("#!/bin/sh\nhead -c 1000000 /dev/zero\nexec sleep 60\n", "no whole line"),
-        ("#!/bin/sh\necho 'colock 1 1'\necho '1 object redo 0'\necho '1 ok'\nexec sleep 60\n", ""),
+        ("#!/bin/sh\necho 'colock 2 1'\necho '1 object redo 0'\necho '1 ok'\nexec sleep 60\n", ""),
         ("#!/bin/sh\nexit 0\n", "the program ended"),
     ];
     for (text, words) in rows {

@@ -125,7 +125,7 @@ fn commands_at<M: Fresh>(
 /// The numbers of the calls of a type, as a store of it gives them.
 fn numbers_of<M: Fresh>(alloc: Global, checked: &Arc<CheckedType>) -> Result<Vec<u8>> {
     let store = store_of::<M>(alloc, checked, 1, MOST_EVENTS)?;
-    let numbers = numbers_in(alloc, &store, checked.table().ops());
+    let numbers = numbers_in(alloc, &store, checked.ops());
     let _ = store.close();
     Ok(numbers?)
 }

@@ -20,7 +20,7 @@ pub fn contents(
     rt: &(impl Abort + AllocGlobal),
     text: &str,
     lines: &[ObjectLine],
-    state: u16,
+    state: u32,
 ) -> FileContents {
     let alloc = rt.alloc();
     let mut types = Vec::new(alloc);
@@ -33,7 +33,7 @@ pub fn contents(
         .expect(rt, "no states");
     FileContents {
         header: Header {
-            format: 1,
+            format: 2,
             id: [7; 16],
             life: 0,
         },

@@ -56,7 +56,7 @@ fn first_epoch<S: NewTrees + Drop, R: Abort + AllocGlobal>(rt: &R) -> Durable<S>
 fn has_no_event<S: Alter + Drop>(
     rt: &(impl Abort + AllocGlobal),
     store: Durable<S>,
-    state: u16,
+    state: u32,
     life: u32,
 )
     requires { IsDurable S.Store store }

@@ -35,7 +35,7 @@ fn error_of_new<S: Alter + Drop>(
     trees: S,
     text: &str,
     lines: &[ObjectLine],
-    state: u16,
+    state: u32,
 ) -> Option<OpenError>
     requires { IsClean (S.Store.view trees) → IsTrue (S.Store.view trees).is_numbered }
 {
@@ -81,10 +81,13 @@ fn with_a_stray<S: Alter + Drop>(rt: &(impl Abort + AllocGlobal), trees: S) -> S
     journal.into_store()
 }
 
-/// A file of another format isn't opened.
+/// A file of the format before is opened, and one of another format isn't.
 fn another_format_is_told<S: NewTrees + Drop, R: Abort + AllocGlobal>(rt: &R) {
     let mut said = two_counters(rt);
-    said.header.format = 2;
+    said.header.format = 1;
+    let trees = created(rt, S::no_trees(rt), &said);
+    assert!(rt; error_of(rt, trees) == None);
+    said.header.format = 3;
     let trees = created(rt, S::no_trees(rt), &said);
     assert!(rt; error_of(rt, trees) == Some(OpenError::Journal(JournalError::Foreign)));
 }

@@ -15,6 +15,7 @@ mod in_place;
 mod jobs;
 mod many;
 mod memory;
+mod numbers;
 mod one_database;
 mod orders;
 mod processes;

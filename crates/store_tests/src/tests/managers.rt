@@ -36,7 +36,7 @@ pub fn deferred(rt: &(impl Abort + AllocGlobal), text: &str) -> IntentionsManage
 fn is_made<R: Renew>(rt: &impl Abort, object: &R, kind: Kind) {
     let checked = object.checked();
     assert!(rt; object.is_fresh());
-    assert!(rt; (checked.kind(), checked.table().states()) == (kind, 3));
+    assert!(rt; (checked.kind(), checked.greatest()) == (kind, 2));
     assert!(rt; (object.state(), object.open_count()) == (0, 0));
 }
 

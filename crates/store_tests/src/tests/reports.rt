@@ -17,7 +17,7 @@ use std::process::Abort;
 use std::sync::Wait;
 use std::thread::Threads;
 use store::Store;
-use type_table::TypeTable;
+use table_checker::DeclaredType;
 use workers::{NoGate, Outcome, Receipt, Report, WorkFault, Worked, run_workers, stress};
 
 /// Whose turn it is: that of whoever has the lock, or a worker's that is drawn by words from a seed.
@@ -120,32 +120,32 @@ pub fn are_reported(rt: &impl Abort, history: &[Event], from: usize, reports: &[
     }
 }
 
-/// The tables of objects.
-fn tables_of(alloc: Global, objects: &[Object]) -> Result<Vec<&TypeTable>, AllocError> {
+/// The declared types of objects.
+fn types_of(alloc: Global, objects: &[Object]) -> Result<Vec<&DeclaredType>, AllocError> {
     objects
         .iter()
-        .map(|object| object.checked().table())
+        .map(|object| object.checked().declared())
         .collect(alloc)
 }
 
 /// The audit of what was done. Where one allocation is refused, the next try has it.
 fn audit_of(rt: &(impl Abort + AllocGlobal), done: &Done) -> Audit {
-    let tables = match tables_of(rt.alloc(), &done.objects) {
-        Ok(tables) => tables,
-        Err(_) => tables_of(rt.alloc(), &done.objects).expect(rt, "no memory"),
+    let types = match types_of(rt.alloc(), &done.objects) {
+        Ok(types) => types,
+        Err(_) => types_of(rt.alloc(), &done.objects).expect(rt, "no memory"),
     };
-    let audited = match audit(rt.alloc(), &done.history, &tables) {
-        Err(AuditFault::NoMemory) => audit(rt.alloc(), &done.history, &tables),
+    let audited = match audit(rt.alloc(), &done.history, &types) {
+        Err(AuditFault::NoMemory) => audit(rt.alloc(), &done.history, &types),
         audited => audited,
     };
     audited.expect(rt, "no audit")
 }
 
 /// That each object is at the state in its place.
-pub fn are_at<R: Recovery>(rt: &impl Abort, objects: &[R], states: &[u16]) {
+pub fn are_at<R: Recovery>(rt: &impl Abort, objects: &[R], states: &[u32]) {
     assert!(rt; states.len() == objects.len());
     for (object, state) in objects.iter().zip(states) {
-        assert!(rt; object.state() == u32::from(*state));
+        assert!(rt; object.state() == *state);
     }
 }
 

@@ -6,6 +6,7 @@ mod closed;
 mod followed;
 mod forgotten;
 pub mod full;
+mod large;
 mod laws;
 mod made;
 mod numbers;
@@ -26,8 +27,7 @@ use std::alloc::{AllocError, Global};
 use std::process::Abort;
 use std::sync::Arc;
 use store::{RenewRefusal, Store};
-use table_checker::CheckedType;
-use type_table::TypeTable;
+use table_checker::{CheckedType, DeclaredType};
 
 /// New objects of these sorts. Where one allocation is refused, the next try has it.
 pub fn objects_of(rt: &(impl Abort + AllocGlobal), sorts: &[Sort]) -> Vec<Object> {
@@ -64,9 +64,15 @@ pub fn objects_over(rt: &(impl Abort + AllocGlobal), types: &[Arc<CheckedType>])
     objects
 }
 
-/// The tables of these types.
-pub fn tables_of(alloc: Global, types: &[Arc<CheckedType>]) -> Result<Vec<&TypeTable>, AllocError> {
-    types.iter().map(|checked| checked.table()).collect(alloc)
+/// How these types were declared.
+pub fn declared_of(
+    alloc: Global,
+    types: &[Arc<CheckedType>],
+) -> Result<Vec<&DeclaredType>, AllocError> {
+    types
+        .iter()
+        .map(|checked| checked.declared())
+        .collect(alloc)
 }
 
 /// A store that begins anew, and the events of its epoch; else the store, and why not.

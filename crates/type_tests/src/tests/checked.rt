@@ -11,7 +11,7 @@ use table_maker::MakeError;
 use test_support::printed::are_printed;
 use test_support::texts::changed;
 use test_support::type_texts::{COUNTER, IDLE, NUMBER_OF_FIVE, ONE_WAY};
-use type_table::{ConflictTable, Kind, TableKind};
+use type_table::{ConflictTable, Kind};
 use type_text::TypeFile;
 
 /// Whether these are the conflicts of two operations, of which each conflicts with itself alone.
@@ -23,18 +23,22 @@ fn are_of_two_alone(conflicts: &ConflictTable) -> bool {
         && conflicts.conflicts(1, 1)
 }
 
+/// The file of a type that isn't a number.
+fn declared_file<'a>(rt: &impl Abort, checked: &'a CheckedType) -> &'a TypeFile {
+    checked.declared().file().expect(rt, "a number")
+}
+
 /// That this is the counter, accepted for deferred update.
 fn is_counter<R: Abort + AllocGlobal>(rt: &R, checked: &CheckedType) {
-    assert!(rt;
-        is_strong_counter(checked) && are_of_two_alone(checked.conflicts(TableKind::Intentions))
-    );
-    is_written(rt, checked.file(), COUNTER.as_bytes());
+    let file = declared_file(rt, checked);
+    assert!(rt; is_strong_counter(checked) && are_of_two_alone(&file.intentions));
+    is_written(rt, file, COUNTER.as_bytes());
 }
 
 fn is_strong_counter(checked: &CheckedType) -> bool {
     (checked.kind() == Kind::Intentions)
         & checked.is_strong()
-        & (checked.table().name().as_bytes() == b"counter".as_slice())
+        & (checked.declared().name().as_bytes() == b"counter".as_slice())
 }
 
 #[test]
@@ -154,13 +158,13 @@ fn accepted_in_place(rt: &(impl Abort + AllocGlobal), text: &str) -> CheckedType
 }
 
 /// The state at which a type begins anew, where it may begin there.
-fn begun_at(rt: &(impl Abort + AllocGlobal), checked: &CheckedType, state: u16) -> Option<u16> {
+fn begun_at(rt: &(impl Abort + AllocGlobal), checked: &CheckedType, state: u32) -> Option<u32> {
     let begun = checked.at(rt.alloc(), state).expect(rt, "no memory")?;
-    Some(begun.table().initial())
+    Some(begun.initial())
 }
 
 /// That a type begins anew at these states, or doesn't.
-fn begin_at(rt: &(impl Abort + AllocGlobal), text: &str, states: &[u16], is_there: bool) {
+fn begin_at(rt: &(impl Abort + AllocGlobal), text: &str, states: &[u32], is_there: bool) {
     let checked = accepted_in_place(rt, text);
     for state in states {
         let begun = begun_at(rt, &checked, *state);
@@ -172,7 +176,7 @@ fn begin_at(rt: &(impl Abort + AllocGlobal), text: &str, states: &[u16], is_ther
 #[test]
 fn types_begin_at_states_of_their_set(rt: HostRuntime) {
     begin_at(&rt, IDLE, &[0], true);
-    begin_at(&rt, IDLE, &[1, 2, 3, u16::MAX], false);
+    begin_at(&rt, IDLE, &[1, 2, 3, 65_536, u32::MAX], false);
     begin_at(&rt, COUNTER, &[2], true);
     begin_at(&rt, COUNTER, &[3], false);
 }
@@ -206,8 +210,9 @@ fn types_are_compared(rt: HostRuntime) {
 }
 
 /// Whether two types have one file.
-fn are_of_one_file(one: &CheckedType, other: &CheckedType) -> bool {
-    one.file().is_same(other.file()) & one.table().is_same(other.table())
+fn are_of_one_file(rt: &impl Abort, one: &CheckedType, other: &CheckedType) -> bool {
+    let (one, other) = (declared_file(rt, one), declared_file(rt, other));
+    one.is_same(other) & one.table.is_same(&other.table)
 }
 
 /// Types of two kinds have one file.
@@ -215,7 +220,8 @@ fn are_of_one_file(one: &CheckedType, other: &CheckedType) -> bool {
 fn files_are_compared(rt: HostRuntime) {
     let counter = accepted_in_place(&rt, COUNTER);
     let deferred = accepted(&rt, COUNTER.as_bytes(), Kind::Intentions);
-    assert!(rt; are_compared(&counter, &deferred, false) & are_of_one_file(&counter, &deferred));
+    assert!(rt; are_compared(&counter, &deferred, false));
+    assert!(rt; are_of_one_file(&rt, &counter, &deferred));
 }
 
 /// Whether a type that begins at another state isn't the same, but is it at that state.

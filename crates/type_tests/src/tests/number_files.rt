@@ -7,50 +7,45 @@ use std::fmt::Write;
 use std::process::Abort;
 use std::test::Fail;
 use test_support::sinks::{AtEnd, narrow_sink};
+use type_table::Name;
 use type_text::{OutFault, Sink};
 
 /// The lines of a credit in cents, which has each kind of line.
-static CREDIT: [&[u8]; 11] = [
+static CREDIT: [&[u8]; 8] = [
     b"number credit\n",
     b"max 4294967295\n",
     b"initial 0\n",
     b"take 5\n",
     b"take 4294967295\n",
-    b"take any\n",
     b"give 5\n",
-    b"give any\n",
     b"atleast 1000000000\n",
-    b"value\n",
     b"end\n",
 ];
 
 /// What is put in place of a line of the credit's text, with the fault that the text then has.
-static FAULTS: [(usize, &[u8], usize, FaultKind); 37] = [
+static FAULTS: [(usize, &[u8], usize, FaultKind); 34] = [
     (1, b"\x80umber credit\n", 1, FaultKind::NotAscii),
-    (11, b"end", 11, FaultKind::Unterminated),
-    (11, b"end\nend\n", 12, FaultKind::AfterEnd),
-    (11, b"", 11, FaultKind::Missing),
+    (8, b"end", 8, FaultKind::Unterminated),
+    (8, b"end\nend\n", 9, FaultKind::AfterEnd),
+    (8, b"", 8, FaultKind::Missing),
     // Words.
     (1, b"type credit\n", 1, FaultKind::UnknownWord),
     (1, b"number Credit\n", 1, FaultKind::UnknownWord),
     (2, b"max\n", 2, FaultKind::UnknownWord),
     (4, b"take 5 5\n", 4, FaultKind::UnknownWord),
-    (6, b"take any 5\n", 6, FaultKind::UnknownWord),
-    (10, b"value 5\n", 10, FaultKind::UnknownWord),
-    (11, b"end 1\n", 11, FaultKind::UnknownWord),
+    (4, b"take any 5\n", 4, FaultKind::UnknownWord),
+    (7, b"value 5\n", 7, FaultKind::UnknownWord),
+    (8, b"end 1\n", 8, FaultKind::UnknownWord),
     (4, b"step 0 0 0\n", 4, FaultKind::UnknownWord),
     // Numbers.
     (2, b"max 10000000000\n", 2, FaultKind::BadNumber),
     (3, b"initial 00\n", 3, FaultKind::BadNumber),
     (4, b"take 05\n", 4, FaultKind::BadNumber),
-    (9, b"atleast any\n", 9, FaultKind::BadNumber),
-    (8, b"give anything\n", 8, FaultKind::BadNumber),
+    (7, b"atleast any\n", 7, FaultKind::BadNumber),
+    (6, b"give anything\n", 6, FaultKind::BadNumber),
     // The order of the sections.
     (3, b"initial 0\ninitial 0\n", 4, FaultKind::OutOfOrder),
-    (6, b"take any\ntake any\n", 7, FaultKind::OutOfOrder),
-    (8, b"give any\ngive any\n", 9, FaultKind::OutOfOrder),
-    (10, b"value\nvalue\n", 11, FaultKind::OutOfOrder),
-    (7, b"give 5\ntake 9999999999\n", 8, FaultKind::OutOfOrder),
+    (6, b"give 5\ntake 9999999999\n", 7, FaultKind::OutOfOrder),
     (1, b"", 1, FaultKind::Missing),
     (2, b"", 2, FaultKind::Missing),
     (3, b"", 3, FaultKind::Missing),
@@ -62,12 +57,24 @@ static FAULTS: [(usize, &[u8], usize, FaultKind); 37] = [
     (2, b"max 4\ninitial 4\ntake 5\n", 4, FaultKind::OutOfRange),
     (4, b"take 0\n", 4, FaultKind::OutOfRange),
     (5, b"take 4294967296\n", 5, FaultKind::OutOfRange),
-    (7, b"give 9999999999\n", 7, FaultKind::OutOfRange),
-    (9, b"atleast 0\n", 9, FaultKind::OutOfRange),
+    (6, b"give 9999999999\n", 6, FaultKind::OutOfRange),
+    (7, b"atleast 0\n", 7, FaultKind::OutOfRange),
     // The order of the entries.
     (5, b"take 5\n", 5, FaultKind::OutOfOrder),
     (5, b"take 4\n", 5, FaultKind::OutOfOrder),
-    (9, b"atleast 7\natleast 7\n", 10, FaultKind::OutOfOrder),
+    (7, b"atleast 7\natleast 7\n", 8, FaultKind::OutOfOrder),
+];
+
+/// The same of calls that list no amount: they are out of range wherever their section may be.
+static FREE: [(usize, &[u8], usize, FaultKind); 8] = [
+    (6, b"take any\n", 6, FaultKind::OutOfRange),
+    (7, b"give any\n", 7, FaultKind::OutOfRange),
+    (8, b"value\nend\n", 8, FaultKind::OutOfRange),
+    (4, b"take any\ntake any\n", 4, FaultKind::OutOfRange),
+    (7, b"take any\n", 7, FaultKind::OutOfOrder),
+    (8, b"give any\nend\n", 8, FaultKind::OutOfOrder),
+    (3, b"value\n", 3, FaultKind::Missing),
+    (2, b"max 1\ninitial 0\nvalue\n", 4, FaultKind::OutOfRange),
 ];
 
 /// The credit's text with other bytes in place of a line, which counts from 1.
@@ -101,6 +108,11 @@ fn have_faults(rt: &(impl Abort + AllocGlobal), rows: &[(usize, &[u8], usize, Fa
 #[test]
 fn names_each_fault_of_a_number(rt: HostRuntime) {
     have_faults(&rt, &FAULTS);
+}
+
+#[test]
+fn a_call_lists_its_amount(rt: HostRuntime) {
+    have_faults(&rt, &FREE);
 }
 
 /// A text of a number of 100 with this many amounts to take.
@@ -143,7 +155,7 @@ fn is_written(rt: &(impl Abort + AllocGlobal), file: &NumberFile, wanted: &[u8])
 fn numbers_are_written_canonically(rt: HostRuntime) {
     let credit = credit_with(&rt, 0, b"");
     is_written(&rt, &number_of(&rt, &credit), &credit);
-    let loose = credit_with(&rt, 6, b"# A note.\n  take  any \n\n");
+    let loose = credit_with(&rt, 6, b"# A note.\n  give  5 \n\n");
     is_written(&rt, &number_of(&rt, &loose), &credit);
 }
 
@@ -156,24 +168,19 @@ fn a_fault_stops_the_text_of_a_number(rt: HostRuntime) {
 }
 
 /// The call and the reply of each operation of the credit, in order.
-static OPS: [(&str, &str); 13] = [
+static OPS: [(&str, &str); 8] = [
     ("take:5", "ok"),
     ("take:5", "short"),
     ("take:4294967295", "ok"),
     ("take:4294967295", "short"),
-    ("take:any", "ok"),
-    ("take:any", "short"),
     ("give:5", "ok"),
     ("give:5", "full"),
-    ("give:any", "ok"),
-    ("give:any", "full"),
     ("atleast:1000000000", "yes"),
     ("atleast:1000000000", "no"),
-    ("value", "n"),
 ];
 
-/// The least and the greatest number at which each operation of the credit with a listed amount is
-/// legal, and what it gives and takes.
+/// The least and the greatest number at which each operation of the credit is legal, and what it gives
+/// and takes.
 static BOUNDS: [(u32, u32, u32, u32); 8] = [
     (5, 4_294_967_295, 0, 5),
     (0, 4, 0, 0),
@@ -188,7 +195,7 @@ static BOUNDS: [(u32, u32, u32, u32); 8] = [
 /// The operations of a number, a line for each.
 fn ops_text(alloc: Global, file: &NumberFile) -> Result<Vec<u8>, Fail> {
     let mut text = Vec::new(alloc);
-    for op in &file.ops(alloc)? {
+    for op in file.ops() {
         text.extend_from_slice(op.call.as_bytes())?;
         text.extend_from_slice(b" ")?;
         text.extend_from_slice(op.reply.as_bytes())?;
@@ -218,33 +225,59 @@ fn operations_are_numbered_in_order(rt: HostRuntime) -> Result<(), Fail> {
 }
 
 #[test]
-fn listed_amounts_have_bounds(rt: HostRuntime) -> Result<(), Fail> {
+fn listed_amounts_have_bounds(rt: HostRuntime) {
     let file = number_of(&rt, &credit_with(&rt, 0, b""));
-    let bounds = file.bounds(rt.alloc())?;
-    assert!(rt; bounds.len() == BOUNDS.len() && !file.is_listed());
-    for (bound, row) in bounds.iter().zip(BOUNDS.iter()) {
+    let bounds = file.bounds();
+    assert!(rt; bounds.as_slice().len() == BOUNDS.len() && file.is_listed());
+    for (bound, row) in bounds.as_slice().iter().zip(BOUNDS.iter()) {
         assert!(rt; (bound.low, bound.high, bound.gives, bound.takes) == *row);
     }
-    Ok(())
 }
 
-/// A text of a number with a call of each kind.
-static SMALL: &[u8] = b"number p
-max 9
-initial 0
-take 1
-take any
+#[test]
+fn a_number_begins_at_another_value(rt: HostRuntime) {
+    let file = number_of(&rt, &credit_with(&rt, 0, b""));
+    let mut other = file.copy(rt.alloc()).expect(&rt, "no memory");
+    assert!(rt; other.is_at(&file, file.initial()) && other.max() == u32::MAX);
+    other.begin_at(4_000_000_000);
+    assert!(rt; other.initial() == 4_000_000_000 && other.is_at(&file, 4_000_000_000));
+    assert!(rt; !other.is_at(&file, file.initial()));
+}
+
+/// A stock of 0 to 5, with a call of each kind.
+static FIVE: &[u8] = b"number five
+max 5
+initial 3
+take 2
 give 1
-give any
-atleast 9
-value
+atleast 5
 end
 ";
+
+/// The calls of the stock.
+static CALLS: [NumberCall; 3] = [
+    NumberCall::Take(2),
+    NumberCall::Give(1),
+    NumberCall::AtLeast(5),
+];
+
+#[test]
+fn a_number_is_made_of_its_parts(rt: HostRuntime) {
+    let name = Name::new("five").expect(&rt, "no name");
+    let calls = Vec::from_slice(rt.alloc(), &CALLS).expect(&rt, "no memory");
+    let five = number_with(rt.alloc(), name, 5, 3, calls).expect(&rt, "no memory");
+    is_written(&rt, &five, FIVE);
+}
 
 /// Where memory is refused the reader says so, at one of the lines.
 #[test]
 fn number_files_are_refused_memory(rt: HostRuntime) {
-    if let Err(fault) = read_number(rt.alloc(), SMALL) {
-        assert!(rt; fault.kind == FaultKind::NoMemory && 1 <= fault.line && fault.line <= 11);
+    if let Err(fault) = read_number(rt.alloc(), FIVE) {
+        assert!(rt; fault.kind == FaultKind::NoMemory && 1 <= fault.line && fault.line <= 7);
     }
+}
+
+#[test]
+fn laws_are_called() {
+    numbers_are_listed();
 }

@@ -1,14 +1,24 @@
-use Rattle.colock_c.specs.Types.{IsFaulty, IsFileOf}
+use Rattle.std.proofs.Common.{◌∙◌, inl, inr}
+use Rattle.colock_c.specs.Types.{faulty, not_for, HasNoFile, IsFileFor, IsFileOf, IsNotFor}
 use Rattle.colock_c.specs.Codes.{number}
-use Rattle.colock_c.proofs.Typings.{of_file, of_none}
+use Rattle.colock_c.proofs.Typings.{of_none, of_such}
 use Rattle.colock_c.proofs.typing.hold_text.Goals as goal
 
 pub returns-in-Ok : goal.returns-in-Ok
 returns-in-Ok c =
-    of_file (IsFileOf c.args.text.now) (IsFaulty c.args.text.now)
-    c.in-Ok.file c.args.kind c.args.fault.now _ (number c.hold_type.result) c.hold_type.new.fault c.hold_type.new.slot.handle.held c.in-Ok.ensures.read.0 c.in-Ok.ensures.read.1 c.hold_type.ensures
+    of_such (IsFileFor c.args.kind c.in-Ok.declared) (IsFileOf c.args.text.now c.args.kind)
+    (IsNotFor c.args.kind c.in-Ok.declared _) (HasNoFile c.args.text.now c.args.kind c.args.fault.now)
+    c.args.kind c.args.fault.now _ (number c.hold_declared.result) c.hold_declared.new.fault c.hold_declared.new.slot.handle.held
+    (λ file is. (c.in-Ok.declared, c.in-Ok.ensures.read.0, is))
+    (λ m words amiss. not_for c.in-Ok.declared c.in-Ok.ensures.read.0 (record { needs = amiss.needs; told = amiss.told; stay = amiss.stay ∙ c.in-Ok.ensures.read.1 }))
+    c.in-Ok.ensures.read.1 c.hold_declared.ensures
 
 pub returns-in-Err : goal.returns-in-Err
 returns-in-Err c =
-    of_none (IsFileOf c.args.text.now) (IsFaulty c.args.text.now)
-    c.args.kind c.args.fault.now c.in-Err.code _ c.args.slot.now.handle.held c.in-Err.ensures.refused c.requires
+    of_none (IsFileOf c.args.text.now c.args.kind) (HasNoFile c.args.text.now c.args.kind c.args.fault.now)
+    c.args.kind c.args.fault.now c.in-Err.code _ c.args.slot.now.handle.held
+    (elim c.in-Err.ensures.refused [
+      | inl memory ↦ inl memory
+      | inr text ↦ inr (faulty text)
+    ])
+    c.requires

@@ -4,7 +4,7 @@ use Rattle.database_commands.proofs.creating.make_store.Goals as goal
 
 pub returns-in-Ok-clause-made : goal.returns-in-Ok-clause-made
 returns-in-Ok-clause-made g c =
-    made c.publish.result _ _ _ _ c.args.files.now c.args.objects.items _ c.in_ok-texts.texts.items c.in_ok-texts.ensures.texts c.publish.ensures.clean c.publish.ensures.held c.in-Ok.ensures.made
+    made c.publish.result _ _ _ _ c.args.declared.now c.args.objects.items _ c.in_ok-texts.texts.items c.in_ok-texts.ensures.texts c.publish.ensures.clean c.publish.ensures.held c.in-Ok.ensures.made
 
 pub returns-in-Ok-clause-kept : goal.returns-in-Ok-clause-kept
 returns-in-Ok-clause-kept g c = kept c.publish.result _ _ _ c.publish.ensures.kept (c.in_ok-trees.ensures.kept ∙ c.in_ok-id.ensures.kept)

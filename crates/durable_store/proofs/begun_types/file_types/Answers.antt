@@ -15,16 +15,16 @@ types_at-requires-clause-alike c =
 pub returns-clause-types : goal.returns-clause-types
 returns-clause-types c =
     let said = contents c.args.said.now in
-    let files = c.in_ok-files.files.items in
+    let declared = c.in_ok-declared.declared.items in
     let types = map value_of c.in_ok-types.types.items in
     let begun = map value_of c.in_ok-begun.begun.items in
     let lines : c.deref-lines.result.now ≡ said.objects = c.deref-lines.ensures.value in
     let states : c.deref-4.result.now ≡ said.states = c.deref-4.ensures.value in
-    let read : AreRead said.types files = subst (λ ts. AreRead ts files) c.deref.ensures.value c.in_ok-files.ensures in
-    let of : AreTypesOf files said.objects types =
-    subst (λ ls. AreTypesOf files ls types) lines (subst (λ fs. AreTypesOf fs c.deref-lines.result.now types) c.deref-2.ensures.value c.in_ok-types.ensures.accepted) in
+    let read : AreRead said.types declared = subst (λ ts. AreRead ts declared) c.deref.ensures.value c.in_ok-declared.ensures in
+    let of : AreTypesOf declared said.objects types =
+    subst (λ ls. AreTypesOf declared ls types) lines (subst (λ fs. AreTypesOf fs c.deref-lines.result.now types) c.deref-2.ensures.value c.in_ok-types.ensures.accepted) in
     let at : AreAt types said.states begun =
     subst (λ ss. AreAt types ss begun) states (subst (λ ts. AreAt (map value_of ts) c.deref-4.result.now begun) c.deref-3.ensures.value c.in_ok-begun.ensures.at) in
     let as-many : length said.states ≡ length said.objects = sym (ap length states) ∙ c.in_ok-begun.ensures.states ∙ ap length lines in
     let long : length begun ≡ length said.objects = length-map c.in_ok-begun.begun.items value_of ∙ c.in_ok-begun.ensures.as_many ∙ ap length lines in
-    are-types said files types begun read of as-many long at
+    are-types said declared types begun read of as-many long at

@@ -14,14 +14,14 @@ pub returns : goal.returns
 returns c =
     let texts = c.args.texts.items in
     let lines = c.args.lines.items in
-    let files = c.in_ok-files.files.items in
+    let declared = c.in_ok-declared.declared.items in
     let types = map value_of c.in_ok-types.types.items in
     let states = c.in_ok-states.states.items in
-    let read : AreRead texts files = subst (λ ts. AreRead ts files) c.deref.ensures.value c.in_ok-files.ensures in
-    let of : AreTypesOf files lines types =
-    subst (λ ls. AreTypesOf files ls types) c.deref-3.ensures.value (subst (λ fs. AreTypesOf fs c.deref-3.result.now types) c.deref-2.ensures.value c.in_ok-types.ensures.accepted) in
+    let read : AreRead texts declared = subst (λ ts. AreRead ts declared) c.deref.ensures.value c.in_ok-declared.ensures in
+    let of : AreTypesOf declared lines types =
+    subst (λ ls. AreTypesOf declared ls types) c.deref-3.ensures.value (subst (λ fs. AreTypesOf fs c.deref-3.result.now types) c.deref-2.ensures.value c.in_ok-types.ensures.accepted) in
     let are : states ≡ firsts types = c.in_ok-states.ensures ∙ ap (λ ts. firsts (map value_of ts)) c.deref-4.ensures.value in
-    let at : AreAt types states types = subst (λ ss. AreAt types ss types) (sym are) (at-own types (types_checked files lines types of)) in
+    let at : AreAt types states types = subst (λ ss. AreAt types ss types) (sym are) (at-own types (types_checked declared lines types of)) in
     let as-many : length states ≡ length lines = ap length are ∙ length-map types first-of ∙ of.as_many in
     let said : Contents = record { events = c.new.result.items; headers = first_header c.args.id ∷ []; types = texts; objects = lines; states = states } in
     record {
@@ -30,6 +30,6 @@ returns c =
       objects = refl;
       none = c.new.ensures.items;
       types = types;
-      are = are-types said files types types read of as-many of.as_many at;
+      are = are-types said declared types types read of as-many of.as_many at;
       states = are;
     }

@@ -26,7 +26,7 @@ marked_if-mark-requires c =
     let within : i < length log = c.loop-entry-test.true in
     let fits : entry.op < length numeric.file.table.ops = subst (λ V. All (λ (e : LogEntry). e.op < length numeric.file.table.ops) V) (sym same) c.requires.operations i none within in
     let found : slice_get (bounds_in numeric) entry.op ≡ Some op = op-found (bounds_in numeric) c.bounds.result.now entry.op c.from.result (length numeric.file.table.ops) nothing (c.bounds.ensures.exact c.requires.kind) c.from.ensures fits (c.bounds.ensures.numeric c.requires.kind).count in
-    let states = (c.bounds.ensures.numeric c.requires.kind).table.states_fit in
+    let states = (c.bounds.ensures.numeric c.requires.kind).numeric.states_fit in
     λ mine. next-small c.marks_fit.ensures c.runs_along.ensures numeric.file.table (greatest numeric) c.args.base (bounds_in numeric) (c.bounds.ensures.numeric c.requires.kind).bounds c.requires.base (omega (arith, states)) log t i entry op
     c.loop-entry.mark within (get_or_default log i none entry within) found (sym c.is_of-mine.ensures ∙ mine) (subst (λ V. IsLegal numeric.file.table (Some c.args.base) (own_of V t)) (sym same) c.requires.legal)
     (c.loop-entry.invariant ∙ ap (λ V. mark_of (greatest numeric) (bounds_in numeric) (own_of (take i V) t)) (sym same))

@@ -1,5 +1,6 @@
 use Rattle.std.proofs.Common.{map, subst}
 use Rattle.std.proofs.lemmas.List.{take_all}
+use Rattle.table_checker.specs.Declarations.{table_of}
 use Rattle.history_audit.specs.Judged.{IsHanded}
 use Rattle.history_audit.proofs.Gathered.{gathered-none, gathered-some, numbers-below}
 use Rattle.history_audit.proofs.commits.gather.Goals.{in-Some+in_ok-push, in_default}
@@ -7,7 +8,7 @@ use Rattle.history_audit.proofs.commits.gather.Goals as goal
 
 pub loop-at-preserved : goal.loop-at-preserved
 loop-at-preserved c =
-    let tables = map (λ t. t.now) c.args.tables.now in
+    let tables = map (λ t. table_of t.now) c.args.types.now in
     let events = c.args.events.now in
     let at = c.loop-at.at in
     let said = c.in_ok-committed.ensures.taken in
@@ -26,4 +27,4 @@ loop-at-preserved c =
 pub returns-clause-below : goal.returns-clause-below
 returns-clause-below c =
     let all = take_all c.loop-at.at c.args.events.now c.loop-at-test.false in
-    numbers-below (map (λ t. t.now) c.args.tables.now) c.args.events.now c.loop-at.judge c.loop-at.commits.items (rw all at c.loop-at.invariant.judged) (rw all at c.loop-at.invariant.gathered)
+    numbers-below (map (λ t. table_of t.now) c.args.types.now) c.args.events.now c.loop-at.judge c.loop-at.commits.items (rw all at c.loop-at.invariant.judged) (rw all at c.loop-at.invariant.gathered)

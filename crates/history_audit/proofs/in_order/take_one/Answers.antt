@@ -1,4 +1,5 @@
 use Rattle.std.proofs.Common.{◌≡◌, List, map, get_or, subst, ◌∙◌}
+use Rattle.table_checker.specs.Declarations.{table_of}
 use Rattle.history_audit.specs.declared.committed.Committed.{Committed}
 use Rattle.history_audit.proofs.Gathered.{placed-operations}
 use Rattle.history_audit.proofs.RunOn.{run-taken}
@@ -6,7 +7,7 @@ use Rattle.history_audit.proofs.in_order.take_one.Goals as goal
 
 pub returns-in-Ok-clause-ok : goal.returns-in-Ok-clause-ok
 returns-in-Ok-clause-ok c = λ H ts are known.
-    let tables = map (λ t. t.now) c.args.tables.now in
+    let tables = map (λ t. table_of t.now) c.args.types.now in
     let its = c.as_slice-operations.result.now in
     let idle = c.index-as_slice-place.result in
     let same = subst (λ (them : List Committed). its ≡ (get_or them c.in-Some.place idle).operations) c.as_slice.ensures c.as_slice-operations.ensures in

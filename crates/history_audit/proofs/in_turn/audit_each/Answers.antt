@@ -1,6 +1,7 @@
 use Rattle.std.proofs.Common.{map, option_map, sym, ap, ◌∙◌}
 use Rattle.std.proofs.Math.Numerals.{add-one}
 use Rattle.std.proofs.lemmas.Option.{slice_get-get_or, slice_get-map}
+use Rattle.table_checker.specs.Declarations.{table_of}
 use Rattle.history_audit.specs.Epochs.{tables_at, tables_after}
 use Rattle.history_audit.proofs.EpochAudits.{audits-at, tables-more, faults-at}
 use Rattle.history_audit.proofs.in_turn.audit_each.Goals as goal
@@ -8,17 +9,17 @@ use Rattle.history_audit.proofs.in_turn.audit_each.Goals as goal
 pub returns-in_err-audit : goal.returns-in_err-audit
 returns-in_err-audit c =
     let n = c.loop-epoch.epoch in
-    faults-at c.args.tables.now.items c.loop-epoch.tables.items (map (λ h. h.now) c.args.histories.now) n c.loop-epoch.audits.items _ c.in_err-audit.field-0.0 c.from_residual.result
+    faults-at (map table_of c.args.types.now.items) (map table_of c.loop-epoch.types.items) (map (λ h. h.now) c.args.histories.now) n c.loop-epoch.audits.items _ c.in_err-audit.field-0.0 c.from_residual.result
     c.from_residual.ensures.1 c.in_err-audit.ensures.0 c.loop-epoch.invariant.audits c.loop-epoch.invariant.tables c.in_err-audit.ensures.1
     (slice_get-map (λ h. h.now) c.args.histories.now n ∙ ap (option_map (λ h. h.now)) (slice_get-get_or c.args.histories.now n _ c.loop-epoch-test.true))
 
 pub loop-epoch-preserved : goal.loop-epoch-preserved
 loop-epoch-preserved c =
     let n = c.loop-epoch.epoch in
-    let tables = c.args.tables.now.items in
+    let tables = (map table_of c.args.types.now.items) in
     let audits = c.loop-epoch.audits.items in
     let audit = c.in_ok-audit.audit in
-    let more = audits-at tables c.loop-epoch.tables.items (map (λ h. h.now) c.args.histories.now) n audits _ audit c.loop-epoch.invariant.audits c.loop-epoch.invariant.tables c.in_ok-audit.ensures.0
+    let more = audits-at tables (map table_of c.loop-epoch.types.items) (map (λ h. h.now) c.args.histories.now) n audits _ audit c.loop-epoch.invariant.audits c.loop-epoch.invariant.tables c.in_ok-audit.ensures.0
     (slice_get-map (λ h. h.now) c.args.histories.now n ∙ ap (option_map (λ h. h.now)) (slice_get-get_or c.args.histories.now n _ c.loop-epoch-test.true)) in
     record {
       audits = rw (add-one n, c.in_ok-push.ensures.items) more;

@@ -1,10 +1,11 @@
--- The first histories have their audits, and the tables begin where they end.
+-- The first histories have their audits, and the types begin where they end.
 use Rattle.std.proofs.Common.{◌≡◌, map, take}
+use Rattle.table_checker.specs.Declarations.{table_of}
 use Rattle.history_audit.specs.Epochs.{AreAudits, tables_after}
 use Rattle.history_audit.proofs.in_turn.audit_each.Given as goal
 
 abbrev pub invariant-loop-epoch : goal.invariant-loop-epoch
 invariant-loop-epoch l = record {
-  audits : AreAudits l.fn.tables.items (take l.epoch (map (λ h. h.now) l.histories)) l.audits.items;
-  tables : l.tables.items ≡ tables_after l.fn.tables.items l.audits.items;
+  audits : AreAudits (map table_of l.fn.types.items) (take l.epoch (map (λ h. h.now) l.histories)) l.audits.items;
+  tables : map table_of l.types.items ≡ tables_after (map table_of l.fn.types.items) l.audits.items;
 }

@@ -1,30 +1,60 @@
-use Rattle.std.proofs.Common.{length, take, get_or, slice_get, Some, sym, ap, ◌∙◌, arith}
+use Rattle.std.proofs.Common.{◌≡◌, ◌<◌, ℕ, List, length, map, take, set, get_or, slice_get, Some, sym, ap, ◌∙◌, arith}
+use Rattle.std.specs.Option.{option_map}
 use Rattle.std.proofs.Math.Numerals.{add-one}
-use Rattle.std.proofs.lemmas.Option.{slice_get-get_or}
+use Rattle.std.proofs.lemmas.List.{length-map, map-set}
+use Rattle.std.proofs.lemmas.Option.{slice_get-get_or, slice_get-map}
+use Rattle.type_table.specs.Table.{Table, table_at}
+use Rattle.type_text.specs.declared.type_file.TypeFile.{TypeFile}
+use Rattle.table_checker.specs.Declarations.{table_of}
+use Rattle.table_checker.specs.declared.declared_type.Declaration.{Declaration}
+use Rattle.history_audit.specs.Epochs.{tables_at}
 use Rattle.history_audit.proofs.EpochTables.{none-begun, begun-as_many, not_yet-begun, one-begun}
 use Rattle.history_audit.proofs.in_turn.begin_at.Goals as goal
 
 pub loop-x-init : goal.loop-x-init
-loop-x-init c = sym (none-begun c.args.tables.now.items)
+loop-x-init c = sym (none-begun (map table_of c.args.types.now.items))
+
+-- the table of the type at a place at which none began anew yet
+there : (types now : List Declaration) (states : List ℕ) (x : ℕ) (one : Declaration) → map table_of now ≡ tables_at (map table_of types) (take x states) → slice_get now x ≡ Some one
+    → slice_get (map table_of types) x ≡ Some (table_of one)
+there types now states x one kept at =
+    sym (not_yet-begun (map table_of types) states x) ∙ ap (λ them. slice_get them x) (sym kept) ∙ slice_get-map table_of now x ∙ ap (option_map table_of) at
+
+-- each state has a type
+below : (types now : List Declaration) (states : List ℕ) (x : ℕ) → map table_of now ≡ tables_at (map table_of types) (take x states) → length states ≡ length (map table_of types) → x < length states
+    → x < length now
+below types now states x kept many low =
+    let as_many = ap length kept ∙ begun-as_many (map table_of types) (take x states) in
+    omega (arith, as_many, length-map now table_of, many, low)
 
 pub index_mut-requires : goal.index_mut-requires
 index_mut-requires c =
-    let as_many = ap length c.loop-x.invariant ∙ begun-as_many c.args.tables.now.items (take c.loop-x.x c.args.states.now) in
-    omega (arith, as_many, c.requires.as_many, c.loop-x-test.true)
+    let low = below c.args.types.now.items c.loop-x.types.items c.args.states.now c.loop-x.x c.loop-x.invariant c.requires.as_many c.loop-x-test.true in
+    omega (arith, low)
 
 pub begin_at-requires : goal.begin_at-requires
 begin_at-requires c =
     let x = c.loop-x.x in
-    let as_many = ap length c.loop-x.invariant ∙ begun-as_many c.args.tables.now.items (take x c.args.states.now) in
-    let there = slice_get-get_or c.loop-x.tables.items x c.index_mut.result.now (omega (arith, as_many, c.requires.as_many, c.loop-x-test.true)) in
-    let table = sym (not_yet-begun c.args.tables.now.items c.args.states.now x) ∙ ap (λ them. slice_get them x) (sym c.loop-x.invariant) ∙ there ∙ ap Some (sym c.index_mut.ensures.value) in
-    c.requires.inside x c.index_mut.result.now (get_or c.args.states.now x 0) table (slice_get-get_or c.args.states.now x 0 c.loop-x-test.true)
+    let types = c.args.types.now.items in
+    let now = c.loop-x.types.items in
+    let states = c.args.states.now in
+    let one = c.index_mut.result.now in
+    let low = below types now states x c.loop-x.invariant c.requires.as_many c.loop-x-test.true in
+    c.requires.inside x (table_of one) (get_or states x 0) (there types now states x one c.loop-x.invariant (slice_get-get_or now x one low ∙ ap Some (sym c.index_mut.ensures.value)))
+    (slice_get-get_or states x 0 c.loop-x-test.true)
 
 pub loop-x-preserved : goal.loop-x-preserved
 loop-x-preserved c =
     let x = c.loop-x.x in
-    let as_many = ap length c.loop-x.invariant ∙ begun-as_many c.args.tables.now.items (take x c.args.states.now) in
-    let there = slice_get-get_or c.loop-x.tables.items x c.index_mut.result.now (omega (arith, as_many, c.requires.as_many, c.loop-x-test.true)) in
-    let table = sym (not_yet-begun c.args.tables.now.items c.args.states.now x) ∙ ap (λ them. slice_get them x) (sym c.loop-x.invariant) ∙ there ∙ ap Some (sym c.index_mut.ensures.value) in
-    rw (add-one x, c.begin_at.ensures, c.loop-x.invariant)
-    (one-begun c.args.tables.now.items c.args.states.now x c.index_mut.result.now (get_or c.args.states.now x 0) table (slice_get-get_or c.args.states.now x 0 c.loop-x-test.true))
+    let types = c.args.types.now.items in
+    let now = c.loop-x.types.items in
+    let states = c.args.states.now in
+    let one = c.index_mut.result.now in
+    let s = get_or states x 0 in
+    let low = below types now states x c.loop-x.invariant c.requires.as_many c.loop-x-test.true in
+    map-set table_of now x c.begin_at.new.self
+    ∙ ap (λ (T : Table). set (map table_of now) x T) (ap (λ (f : TypeFile). f.table) c.begin_at.ensures.exact)
+    ∙ ap (λ Ts. set Ts x (table_at (table_of one) s)) c.loop-x.invariant
+    ∙ one-begun (map table_of types) states x (table_of one) s (there types now states x one c.loop-x.invariant (slice_get-get_or now x one low ∙ ap Some (sym c.index_mut.ensures.value)))
+    (slice_get-get_or states x 0 c.loop-x-test.true)
+    ∙ ap (λ n. tables_at (map table_of types) (take n states)) (sym (add-one x))

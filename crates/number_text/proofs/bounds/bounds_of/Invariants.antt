@@ -5,4 +5,4 @@ use Rattle.number_text.specs.Operations.{bounds_of_call}
 use Rattle.number_text.proofs.bounds.bounds_of.Given as goal
 
 abbrev pub invariant-loop-call : goal.invariant-loop-call
-invariant-loop-call l = l.bounds.items ≡ flat_map (bounds_of_call l.max) (take l.call-index l.calls)
+invariant-loop-call l = l.bounds ≡ flat_map (bounds_of_call l.max) (take l.call-index l.calls)

@@ -9,11 +9,11 @@ use Rattle.object_types.proofs.accept.accept_types.Goals as goal
 pub returns-in_err-accepted-clause-refused : goal.returns-in_err-accepted-clause-refused
 returns-in_err-accepted-clause-refused c =
     let there = slice_get-get_or c.args.objects.now c.loop-x.x _ c.loop-x-test.true in
-    err_exit (IsFirstFault IsAccepted c.args.files.now c.args.objects.now) c.from_residual.result c.in_err-accepted.field-0.0 c.from_residual.ensures.1
-    (first_fault c.args.files.now c.args.objects.now c.loop-x.x _ _ c.in_err-accepted.field-0.0 there c.loop-x.invariant c.in_err-accepted.ensures.refused)
+    err_exit (IsFirstFault IsAccepted c.args.declared.now c.args.objects.now) c.from_residual.result c.in_err-accepted.field-0.0 c.from_residual.ensures.1
+    (first_fault c.args.declared.now c.args.objects.now c.loop-x.x _ _ c.in_err-accepted.field-0.0 there c.loop-x.invariant c.in_err-accepted.ensures.refused)
 
 pub loop-x-preserved : goal.loop-x-preserved
 loop-x-preserved c =
     let there = slice_get-get_or c.args.objects.now c.loop-x.x _ c.loop-x-test.true in
-    types_push c.args.files.now c.args.objects.now _ _ c.loop-x.x _ (value_of c.in_ok-accepted.accepted) there c.loop-x.invariant c.in_ok-accepted.ensures.accepted
+    types_push c.args.declared.now c.args.objects.now _ _ c.loop-x.x _ (value_of c.in_ok-accepted.accepted) there c.loop-x.invariant c.in_ok-accepted.ensures.accepted
     (ap (map value_of) c.in_ok-push.ensures.items ∙ map_push value_of c.loop-x.types.items c.in_ok-accepted.accepted)

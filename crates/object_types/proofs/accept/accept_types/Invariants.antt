@@ -4,4 +4,4 @@ use Rattle.object_types.specs.Types.{AreTypesOf, value_of}
 use Rattle.object_types.proofs.accept.accept_types.Given as goal
 
 abbrev pub invariant-loop-x : goal.invariant-loop-x
-invariant-loop-x l = AreTypesOf l.files (take l.x l.objects) (map value_of l.types.items)
+invariant-loop-x l = AreTypesOf l.declared (take l.x l.objects) (map value_of l.types.items)

@@ -1,4 +1,4 @@
-use Rattle.object_types.proofs.TwoFiles.{second-unplaced, third-not_first}
+use Rattle.object_types.proofs.TwoTypes.{second-unplaced, third-not_first}
 use Rattle.object_types.proofs.worked.the_first_object_has_the_fault.Goals as goal
 
 pub returns-clause-first : goal.returns-clause-first

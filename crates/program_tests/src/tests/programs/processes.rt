@@ -411,10 +411,11 @@ end
 
 Usage: colock tables FILE
 
-FILE is the path of a type file. What is written has its operations, states and
-steps and its set of states. The relation is made from the steps, and each
-conflict table has the pairs that can't change places at a state of the set.
-So a file of your own needs no equi and no conflict line.
+FILE is the path of a type file, and not of a number file, which has no tables.
+What is written has its operations, states and steps and its set of states. The
+relation is made from the steps, and each conflict table has the pairs that
+can't change places at a state of the set. So a file of your own needs no equi
+and no conflict line.
 
 Example: colock tables examples/ctr2.type
 

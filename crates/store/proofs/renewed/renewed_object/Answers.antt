@@ -1,4 +1,4 @@
-use Rattle.std.proofs.Common.{sym, ap, subst, ◌∙◌}
+use Rattle.std.proofs.Common.{sym, ap, subst, ◌∙◌, arith}
 use Rattle.table_checker.specs.Checked.{Checked}
 use Rattle.table_checker.specs.At.{checked_at, IsInside}
 use Rattle.store.proofs.renewed.renewed_object.Goals as goal
@@ -13,7 +13,7 @@ pub returns : goal.returns
 returns g c = record {
   kept = c.state-state.result;
   state = c.state-state.ensures.exact;
-  short = c.state-state.ensures.short;
+  fits = omega (arith, c.state-state.type_inv);
   fresh = c.renewed.ensures.fresh;
   checked = c.renewed.ensures.checked ∙ c.in_ok-shared.ensures ∙ ap (λ (k : Checked). checked_at k c.state-state.result) c.checked.ensures;
 }

@@ -1,6 +1,6 @@
 use Rattle.std.proofs.Common.{◌∙◌}
 use Rattle.command_files.proofs.Comes.{comes}
-use Rattle.store_commands.proofs.Audits.{said_no, said_yes}
+use Rattle.store_commands.proofs.Audits.{said_yes}
 use Rattle.store_commands.proofs.audit.put_audit.Goals as goal
 
 pub returns-in-Ok : goal.returns-in-Ok

@@ -5,7 +5,7 @@ use Rattle.store_commands.proofs.laws.works_are_read.Goals as goal
 
 pub returns : goal.returns
 returns c = λ holds words workers tries file types text jobs at its. (
-  works_read file types tries text jobs.fit (types_checked at.files file.objects.items types at.are) at.are.as_many its c.work_is_read.ensures c.run_is_in_range.ensures
+  works_read file types tries text jobs.fit (types_checked at.declared file.objects.items types at.are) at.are.as_many its c.work_is_read.ensures c.run_is_in_range.ensures
       c.numbers_in_run.ensures c.ends_within.ensures c.canonical_is_read.ensures,
   audited_as c.audits_agree.ensures.said c.audits_agree.ensures.lines its.left its.audit its.audited,
 )

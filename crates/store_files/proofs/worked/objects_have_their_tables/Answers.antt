@@ -1,7 +1,7 @@
 use Rattle.std.proofs.Common.{refl}
 use Rattle.type_table.specs.Examples.{counter}
 use Rattle.object_types.specs.Examples.{at_place}
-use Rattle.store_files.proofs.TwoFiles.{two-tables, counter-elsewhere}
+use Rattle.store_files.proofs.TwoTypes.{two-tables, counter-elsewhere}
 use Rattle.store_files.proofs.worked.objects_have_their_tables.Goals as goal
 
 pub returns-clause-tables : goal.returns-clause-tables

@@ -90,9 +90,7 @@ impl Recovery for OneEntry {
     ghost meaning = { λ o. of_one_entry (o.checked) o.entry };
 
     fn ops(&self) -> &[Op] {
-        // (read for its clause that the type was accepted)
-        let _file = self.checked.file();
-        self.checked.table().ops()
+        self.checked.ops()
     }
 
     fn state(&self) -> u32 {

@@ -187,9 +187,7 @@ impl Recovery for Replayed {
     ghost meaning = { λ m. m };
 
     fn ops(&self) -> &[Op] {
-        // (read for its clause that the type was accepted)
-        let _file = self.checked.file();
-        self.checked.table().ops()
+        self.checked.ops()
     }
 
     fn state(&self) -> u32 {

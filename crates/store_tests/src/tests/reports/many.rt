@@ -64,9 +64,9 @@ fn large_counter(rt: &(impl Abort + AllocGlobal)) -> Vec<Object> {
     objects
 }
 
-/// What is counted by the jobs of worker w that committed, modulo 2^16.
-fn counted_by(rt: &impl Abort, w: usize, report: &Report) -> u16 {
-    let mut count = 0u16;
+/// What is counted by the jobs of worker w that committed, modulo 2^32.
+fn counted_by(rt: &impl Abort, w: usize, report: &Report) -> u32 {
+    let mut count = 0u32;
     for (i, outcome) in report.outcomes.iter().enumerate() {
         match outcome {
             Outcome::Committed(_) if is_up(w, i) => count = count.wrapping_add(1),
@@ -78,8 +78,8 @@ fn counted_by(rt: &impl Abort, w: usize, report: &Report) -> u16 {
 }
 
 /// The same by all workers.
-fn counted(rt: &impl Abort, reports: &[Report]) -> u16 {
-    let mut count = 0u16;
+fn counted(rt: &impl Abort, reports: &[Report]) -> u32 {
+    let mut count = 0u32;
     for (w, report) in reports.iter().enumerate() {
         assert!(rt; report.outcomes.len() == JOBS);
         count = count.wrapping_add(counted_by(rt, w, report));

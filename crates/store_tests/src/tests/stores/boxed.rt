@@ -89,7 +89,7 @@ const HISTORY: &[Happened] = &[
 ];
 
 /// A store of these objects does what the rows say, and hands them back with these states.
-fn is_played<R: Recovery>(rt: &(impl Abort + AllocGlobal), objects: Vec<R>, kept: &[u16]) {
+fn is_played<R: Recovery>(rt: &(impl Abort + AllocGlobal), objects: Vec<R>, kept: &[u32]) {
     let mut store = store_of(rt, objects, 20);
     answers(rt, &mut store, ROWS);
     let objects = is_closed(rt, store, HISTORY);

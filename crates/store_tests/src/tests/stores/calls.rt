@@ -39,7 +39,7 @@ fn are_found(rt: &impl Abort, calls: &CallTable, rows: &[(&str, u8, Option<Call>
 #[test]
 fn calls_are_found(rt: HostRuntime) -> Result<(), Fail> {
     let checked = checked_of(rt.alloc(), SEMIQUEUE, Kind::Undo).expect(&rt, "no type");
-    let ops = checked.table().ops();
+    let ops = checked.ops();
     assert!(rt; ops.len() <= 64);
     let calls = CallTable::new(rt.alloc(), ops).expect(&rt, "no memory");
     are_found(&rt, &calls, &CALLS);

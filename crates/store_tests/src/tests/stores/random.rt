@@ -1,7 +1,7 @@
 //! Many commands from a generator, at stores and at lists of what happened.
 
 use super::scripts::{are_closed, called, outcome, store_of};
-use super::{objects_over, tables_of};
+use super::{declared_of, objects_over};
 use history_audit::audit;
 use object_trait::{Event, EventKind, Recovery};
 use objects::Object;
@@ -253,12 +253,12 @@ fn is_audited_alike(
     types: &[Arc<CheckedType>],
     reference: &Reference,
 ) {
-    let tables = tables_of(rt.alloc(), types).expect(rt, "no memory");
-    let audit = audit(rt.alloc(), reference.events(), &tables).expect(rt, "no audit");
+    let declared = declared_of(rt.alloc(), types).expect(rt, "no memory");
+    let audit = audit(rt.alloc(), reference.events(), &declared).expect(rt, "no audit");
     are_commits(rt, &audit.order, reference.events());
     for x in 0..7 {
         let state = audit.finals.get(x as usize).copied();
-        assert!(rt; state == reference.serial_state(x));
+        assert!(rt; state == reference.serial_state(x).map(u32::from));
     }
 }
 

@@ -1,7 +1,7 @@
 //! Epochs: stores that begin anew at the states that they kept.
 
 use super::scripts::{Row, answers, outcome, store_of};
-use super::{Renewed, next_of, objects_of, tables_of, types_of};
+use super::{Renewed, declared_of, next_of, objects_of, types_of};
 use crate::tests::reports::are_at;
 use history_audit::{Audit, audit_epochs};
 use object_trait::{Event, Recovery};
@@ -187,9 +187,9 @@ fn audits_of(
     sorts: &[Sort],
 ) -> Vec<Audit> {
     let types = types_of(rt, sorts);
-    let tables = tables_of(rt.alloc(), &types).expect(rt, "no memory");
+    let declared = declared_of(rt.alloc(), &types).expect(rt, "no memory");
     let slices = slices_of(rt.alloc(), histories).expect(rt, "no memory");
-    audit_epochs(rt.alloc(), &slices, &tables).expect(rt, "no audits")
+    audit_epochs(rt.alloc(), &slices, &declared).expect(rt, "no audits")
 }
 
 /// That the first two objects are at the serial states at the end of the last epoch.
@@ -198,7 +198,7 @@ fn are_serial(rt: &impl Abort, objects: &[Object], audits: &[Audit]) {
     let last = audits.last().expect(rt, "no epoch");
     assert!(rt; last.finals.len() == objects.len());
     for (object, state) in objects.iter().zip(&last.finals).take(2) {
-        assert!(rt; object.state() == u32::from(*state));
+        assert!(rt; object.state() == *state);
     }
 }
 

@@ -132,14 +132,14 @@ fn owners_in(rt: &impl Abort, store: Store<Counted>) -> (usize, usize, usize) {
 }
 
 /// The states at which the types of the first two counters begin.
-fn begins_in(store: &Store<Counted>) -> (Option<u16>, Option<u16>) {
+fn begins_in(store: &Store<Counted>) -> (Option<u32>, Option<u32>) {
     (begin_of(store, 0), begin_of(store, 1))
 }
 
 /// The state at which the type of this object begins.
-fn begin_of(store: &Store<Counted>, x: u32) -> Option<u16> {
+fn begin_of(store: &Store<Counted>, x: u32) -> Option<u32> {
     let checked = store.checked(x)?;
-    Some(checked.table().initial())
+    Some(checked.initial())
 }
 
 #[test]

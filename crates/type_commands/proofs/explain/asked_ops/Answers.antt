@@ -1,6 +1,7 @@
 use Rattle.std.proofs.Common.{◌≡◌, ◌<◌, Bool, ℕ, All, length, sym, ap, subst, ◌∙◌, arith}
 use Rattle.std.specs.List.{range_with_len}
 use Rattle.std.specs.Prelude.{filter, List}
+use Rattle.table_checker.specs.Declarations.{table_of}
 use Rattle.type_commands.specs.Explain.{is_asked, pair_as}
 use Rattle.type_commands.proofs.Asked.{all_below, one_fails, one_passes}
 use Rattle.type_commands.proofs.explain.asked_ops.Goals as goal
@@ -18,6 +19,6 @@ loop-k-preserved c =
 pub returns-clause-inside : goal.returns-clause-inside
 returns-clause-inside c =
     let test : ℕ → Bool = λ k. is_asked (pair_as c.args.asked) k in
-    let all : c.loop-k.k ≡ length c.args.table.now.ops = omega (arith, c.op_count-k-end.ensures.exact) in
-    subst (λ (xs : List ℕ). All (λ k. k < length c.args.table.now.ops) xs) (sym (c.loop-k.invariant ∙ ap (λ n. filter test (range_with_len 0 n)) all))
-    (all_below test (length c.args.table.now.ops))
+    let all : c.loop-k.k ≡ length (table_of c.args.declared.now).ops = omega (arith, c.op_count-k-end.ensures) in
+    subst (λ (xs : List ℕ). All (λ k. k < length (table_of c.args.declared.now).ops) xs) (sym (c.loop-k.invariant ∙ ap (λ n. filter test (range_with_len 0 n)) all))
+    (all_below test (length (table_of c.args.declared.now).ops))

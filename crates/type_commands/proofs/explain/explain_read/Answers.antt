@@ -1,14 +1,17 @@
 use Rattle.std.proofs.Common.{sym, subst, IfSome}
 use Rattle.command_files.specs.Answers.{Comes}
 use Rattle.table_checker.specs.Checked.{Checked}
+use Rattle.table_checker.specs.Declarations.{file_of, table_of}
 use Rattle.table_checker.specs.Laws.{CoversType}
+use Rattle.table_checker.specs.declared.declared_type.Declaration.{Declaration}
 use Rattle.type_commands.specs.Explain.{AreOps, Explains, pair_as}
 use Rattle.type_commands.proofs.explain.explain_read.Goals as goal
 
 pub explain_yes-requires-clause-asked : goal.explain_yes-requires-clause-asked
 explain_yes-requires-clause-asked g c =
     let P : Checked → Type 0 = λ checked. IfSome c.args.asked (AreOps checked.file.table) in
-    subst P (sym c.in-Ok.ensures.exact.0) c.requires.asked
+    let Q : Declaration → Type 0 = λ declaration. IfSome c.args.asked (AreOps (table_of declaration)) in
+    subst P (sym c.in-Ok.ensures.exact.0) (subst Q (sym c.in_ok-declaration.ensures.same) c.requires.asked)
 
 pub explain_yes-requires-clause-covers : goal.explain_yes-requires-clause-covers
 explain_yes-requires-clause-covers g c =
@@ -19,4 +22,6 @@ pub returns-in-Ok : goal.returns-in-Ok
 returns-in-Ok g c =
     let P : Checked → Type 0 = λ checked.
     Comes (Explains checked.kind checked.file (pair_as c.args.asked)) ⊥ c.explain_yes.result (g.W.Out.taken c.args.out.now) (g.W.Out.taken c.explain_yes.new.out) in
-    subst P c.in-Ok.ensures.exact.0 c.explain_yes.ensures
+    let Q : Declaration → Type 0 = λ declaration.
+    Comes (Explains c.args.kind (file_of declaration) (pair_as c.args.asked)) ⊥ c.explain_yes.result (g.W.Out.taken c.args.out.now) (g.W.Out.taken c.explain_yes.new.out) in
+    subst Q c.in_ok-declaration.ensures.same (subst P c.in-Ok.ensures.exact.0 c.explain_yes.ensures)

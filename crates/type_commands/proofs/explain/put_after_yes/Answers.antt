@@ -1,10 +1,14 @@
-use Rattle.std.proofs.Common.{◌≡◌, ◌∙◌, sym, ap, None, Some}
+use Rattle.std.proofs.Common.{◌≡◌, ◌∙◌, sym, ap, subst, None, Some}
 use Rattle.std.proofs.lemmas.Result.{on_ok_weaker}
 use Rattle.command_files.specs.declared.status.Verdict.TheVariants.{Yes}
 use Rattle.type_table.specs.Kind.{table_kind}
+use Rattle.table_checker.specs.Declarations.{IsByTable}
 use Rattle.type_commands.specs.Explain.{pair_as}
-use Rattle.type_commands.proofs.Explaining.{adds_weaker, by_number, by_table}
+use Rattle.type_commands.proofs.Explaining.{adds_weaker, by_number, by_table, is_by_table}
 use Rattle.type_commands.proofs.explain.put_after_yes.Goals as goal
+
+pub file-requires : goal.file-requires
+file-requires g c = subst IsByTable (c.in-Some.ensures.back ∙ c.kind.ensures) (is_by_table c.in-Some.kind)
 
 pub put_pairs-requires-clause-asked : goal.put_pairs-requires-clause-asked
 put_pairs-requires-clause-asked g c = rw c.file.ensures.exact c.requires.asked

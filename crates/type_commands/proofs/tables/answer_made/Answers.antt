@@ -1,4 +1,7 @@
+use Rattle.command_files.specs.Answers.{Comes, IsThis}
+use Rattle.command_files.specs.declared.status.Verdict.TheVariants.{Yes}
 use Rattle.command_files.proofs.Comes.{comes}
+use Rattle.type_text.specs.Canonical.{canonical_text}
 use Rattle.type_commands.specs.Made.{IsMadeOf}
 use Rattle.type_commands.proofs.Verdicts.{tables_say}
 use Rattle.type_commands.proofs.tables.answer_made.Goals as goal
@@ -10,4 +13,6 @@ returns-in-Ok g c =
       reach = c.in-Ok.ensures.set;
       tables = record { undo = c.in-Ok.ensures.undo; intentions = c.in-Ok.ensures.intentions };
     } in
-    comes _ _ _ _ c.answer_file.result _ _ (tables_say c.args.file.now c.in-Ok.made made) (λ bad. absurd bad) c.answer_file.ensures
+    let answered : Comes (IsThis Yes (canonical_text c.in-Ok.made)) ⊥ c.answer_declared.result (g.W.Out.taken c.args.out.now) (g.W.Out.taken c.answer_declared.new.out) =
+    rw c.table-declared.ensures at c.answer_declared.ensures in
+    comes _ _ _ _ c.answer_declared.result _ _ (tables_say c.args.file.now c.in-Ok.made made) (λ bad. absurd bad) answered

@@ -3,7 +3,8 @@
 use super::{counter_text, counter_with, file_of, is_written};
 use std::process::Abort;
 use test_support::sinks::{AtEnd, narrow_sink};
-use type_text::{OutFault, TypeFile, write_type};
+use type_table::StateSet;
+use type_text::{OutFault, TypeFile, is_whole, write_type};
 
 /// A type of three states. No run comes to state 1 or 2.
 static IDLE: &[u8] = b"type idle
@@ -119,6 +120,16 @@ fn texts_are_written_canonically(rt: HostRuntime) {
     is_written_as(&rt, LOOSE, &counter_text(&rt));
     is_written_as(&rt, IDLE, IDLE);
     is_written_as(&rt, ONE_WAY, ONE_WAY);
+}
+
+#[test]
+fn a_whole_set_has_each_state(rt: HostRuntime) {
+    let mut set = StateSet::empty(3);
+    set.add(1);
+    set.add(2);
+    assert!(rt; !is_whole(&set, 3));
+    set.add(0);
+    assert!(rt; is_whole(&set, 3) && !is_whole(&StateSet::empty(3), 3));
 }
 
 /// That a writer with room for one line, which ends so, has it and stops the text by this fault.

@@ -1,4 +1,4 @@
-use Rattle.std.proofs.Common.{◌≡◌, ◌+◌, ◌<◌, ◌≤◌, ◌++◌, ◌∷◌, [], false, List, slice_index_or, Some, length, refl, sym, ap, subst, ◌∙◌, arith}
+use Rattle.std.proofs.Common.{◌≡◌, ◌+◌, ◌<◌, ◌≤◌, ◌++◌, ◌∷◌, [], false, All, List, slice_index_or, Some, length, refl, sym, ap, subst, ◌∙◌, arith}
 use Rattle.std.specs.Prelude.{slice_get}
 use Rattle.escrow_laws.specs.Marks.{marked, fallen_of, risen_of}
 use Rattle.escrow_laws.specs.declared.bounded.Bounded.{Bounded}
@@ -10,10 +10,11 @@ use Rattle.object_trait.specs.Steps.{MayApply, applied}
 use Rattle.object_trait.specs.declared.log_entry.LogEntry.{LogEntry}
 use Rattle.escrow_manager.specs.Numeric.{bounds_in, greatest}
 use Rattle.escrow_manager.specs.Marks.{AreOrdered, mark_in, with_mark, IsSmall}
-use Rattle.escrow_manager.specs.Totals.{totals_of}
+use Rattle.escrow_manager.specs.Totals.{totals_of, IsShort}
 use Rattle.escrow_manager.specs.Kept.{IsKeptInEscrow}
 use Rattle.escrow_manager.specs.declared.totals.Totals.{Totals}
-use Rattle.escrow_manager.proofs.Keeping.{meant, mark_at, op-found, top-small, small-of, sums-of}
+use Rattle.escrow_manager.proofs.Keeping.{meant, mark_at, op-found, top-small, small-of, short-of, sums-of}
+use Rattle.escrow_manager.proofs.Telling.{small-short, more-short}
 use Rattle.escrow_manager.proofs.Blocking.{mark_with}
 use Rattle.escrow_manager.proofs.Changing.{totals_at, applied-kept, kept-told, told-with}
 use Rattle.escrow_manager.proofs.manager.EscrowManagerRecovery.apply.Goals as goal
@@ -56,24 +57,19 @@ mark_at-old-requires-clause-ordered c = subst (λ V. AreOrdered V) (sym c.in_ok-
 pub put_mark-requires-clause-ordered : goal.put_mark-requires-clause-ordered
 put_mark-requires-clause-ordered c = subst (λ V. AreOrdered V) (sym c.in_ok-reserve-2.ensures.items) c.self.invariant.listed.ordered
 
-pub marked-mark-requires-clause-enough : goal.marked-mark-requires-clause-enough
-marked-mark-requires-clause-enough c = (first_small c).enough
-
-pub marked-mark-requires-clause-low : goal.marked-mark-requires-clause-low
-marked-mark-requires-clause-low c =
+pub marked-mark-requires-clause-fall : goal.marked-mark-requires-clause-fall
+marked-mark-requires-clause-fall c =
     let one = first_small c in
-    let low = one.low in
     let fall = one.fall in
     let top = top-small c.self.invariant in
-    omega (arith, low, fall, top)
+    omega (arith, fall, top)
 
-pub marked-mark-requires-clause-high : goal.marked-mark-requires-clause-high
-marked-mark-requires-clause-high c =
+pub marked-mark-requires-clause-above : goal.marked-mark-requires-clause-above
+marked-mark-requires-clause-above c =
     let one = first_small c in
     let above = one.above in
-    let gives = one.gives in
     let top = top-small c.self.invariant in
-    omega (arith, above, gives, top)
+    omega (arith, above, top)
 
 may : (c : goal.After-after-arg-2-1) → MayApply (meant c.self.inside) c.args.t c.args.k
 may c = subst (λ (m : Meaning). MayApply m c.args.t c.args.k) (sym c.self.view_is) c.requires
@@ -124,6 +120,21 @@ after-self-inside-requires-clause-before c =
     let up = ap (λ (x : Totals). x.risen) c.self.invariant.summed in
     let top = top-small c.self.invariant in
     (omega (arith, fallen, down, top), omega (arith, risen, up, top))
+
+small : (c : goal.After-after-arg-2-1) → IsSmall (greatest c.self.inside.checked.value) c.mark_at-old.result (op c)
+small c =
+    subst (λ x. IsSmall (greatest c.self.inside.checked.value) x (op c)) (sym (exact c))
+    (small-of c.self.invariant c.marks_are_exact.ensures c.marks_fit.ensures c.firm_is_legal.ensures c.args.t c.args.k (op c) (found c) (may c).legal)
+
+pub after-self-inside-requires-clause-old : goal.after-self-inside-requires-clause-old
+after-self-inside-requires-clause-old c = small-short (greatest c.self.inside.checked.value) c.mark_at-old.result (op c) (top-small c.self.invariant) (small c)
+
+pub after-self-inside-requires-clause-new : goal.after-self-inside-requires-clause-new
+after-self-inside-requires-clause-new c = more-short (greatest c.self.inside.checked.value) c.mark_at-old.result c.marked-mark.result (op c) (top-small c.self.invariant) (small c) c.marked-mark.ensures
+
+pub after-self-inside-requires-clause-short : goal.after-self-inside-requires-clause-short
+after-self-inside-requires-clause-short c =
+    subst (λ (V : List OpenMark). All (λ (o : OpenMark). IsShort o.mark) V) (sym (now_is c)) (short-of (kept c) c.marks_fit.ensures c.firm_is_legal.ensures)
 
 pub after-self-inside-requires-clause-fallen : goal.after-self-inside-requires-clause-fallen
 after-self-inside-requires-clause-fallen c =

@@ -10,7 +10,7 @@ use Rattle.escrow_manager.specs.Numeric.{bounds_in, greatest}
 use Rattle.escrow_manager.specs.Marks.{IsSmall}
 use Rattle.escrow_manager.specs.Totals.{totals_with, AreFirm}
 use Rattle.escrow_manager.specs.declared.totals.Totals.{Totals}
-use Rattle.escrow_manager.proofs.Telling.{with-small}
+use Rattle.escrow_manager.proofs.Telling.{more-short, with-small}
 use Rattle.escrow_manager.proofs.Keeping.{meant, mark_at, op-found, top-small, small-of, sums-of}
 use Rattle.escrow_manager.proofs.Blocking.{mark_with, totals_after, first_of, stopper-none, stopper-marks}
 use Rattle.escrow_manager.proofs.manager.EscrowManagerRecovery.blocker.Goals as goal
@@ -35,21 +35,23 @@ small c =
     (small-of c.self.invariant c.marks_are_exact.ensures c.marks_fit.ensures c.firm_is_legal.ensures c.args.t c.args.k (op c) (found c)
     (subst (λ (m : Meaning). IsLegalFor m c.args.t c.args.k) (sym c.self.view_is) c.requires.legal))
 
-pub marked-mark-requires-clause-low : goal.marked-mark-requires-clause-low
-marked-mark-requires-clause-low c =
+pub marked-mark-requires-clause-fall : goal.marked-mark-requires-clause-fall
+marked-mark-requires-clause-fall c =
     let one = small c in
-    let low = one.low in
     let fall = one.fall in
     let top = top-small c.self.invariant in
-    omega (arith, low, fall, top)
+    omega (arith, fall, top)
 
-pub marked-mark-requires-clause-high : goal.marked-mark-requires-clause-high
-marked-mark-requires-clause-high c =
+pub marked-mark-requires-clause-above : goal.marked-mark-requires-clause-above
+marked-mark-requires-clause-above c =
     let one = small c in
     let above = one.above in
-    let gives = one.gives in
     let top = top-small c.self.invariant in
-    omega (arith, above, gives, top)
+    omega (arith, above, top)
+
+pub with-totals-requires-clause-short : goal.with-totals-requires-clause-short
+with-totals-requires-clause-short c =
+    more-short (greatest c.self.inside.checked.value) c.mark_of-old.result c.marked-mark.result (op c.before.before) (top-small c.self.invariant) (small c.before.before) c.marked-mark.ensures
 
 pub with-totals-requires-clause-fallen : goal.with-totals-requires-clause-fallen
 with-totals-requires-clause-fallen c =
@@ -68,7 +70,7 @@ with-totals-requires-clause-risen c =
     omega (arith, risen, same, top)
 
 -- the totals with the new mark are small
-bounded : (c : goal.After-with-totals) → (c.with-totals.result.fallen < 8000) × (c.with-totals.result.risen < 8000) × (c.with-totals.result.needed < 8000)
+bounded : (c : goal.After-with-totals) → (c.with-totals.result.fallen < 17179869184) × (c.with-totals.result.risen < 17179869184) × (c.with-totals.result.needed < 17179869184)
 bounded c =
     let h = c.self.invariant in
     with-small (greatest c.self.inside.checked.value) c.self.inside.marks.items c.self.inside.totals c.with-totals.result c.mark_of-old.result c.marked-mark.result (op c.before.before.before)

@@ -1,13 +1,13 @@
-use Rattle.std.proofs.Common.{◌≡◌, ◌≤◌, List, Some, refl, sym, ap, subst, ◌∙◌, arith}
+use Rattle.std.proofs.Common.{◌≡◌, ◌≤◌, All, List, Some, refl, sym, ap, subst, ◌∙◌, arith}
 use Rattle.escrow_laws.specs.Marks.{fallen_of, risen_of}
 use Rattle.escrow_laws.specs.declared.mark.OpenMark.{OpenMark}
 use Rattle.object_trait.specs.Meaning.{Meaning, view_of}
 use Rattle.object_trait.specs.Steps.{IsCommit}
 use Rattle.escrow_manager.specs.Numeric.{bounds_in, greatest}
 use Rattle.escrow_manager.specs.Marks.{without_mark}
-use Rattle.escrow_manager.specs.Totals.{totals_of}
+use Rattle.escrow_manager.specs.Totals.{totals_of, IsShort}
 use Rattle.escrow_manager.specs.Kept.{IsKeptInEscrow}
-use Rattle.escrow_manager.proofs.Keeping.{meant, all-open, top-small, sums-of}
+use Rattle.escrow_manager.proofs.Keeping.{meant, all-open, top-small, short-of, sums-of}
 use Rattle.escrow_manager.proofs.Changing.{totals_at, committed, commits-told, committed-kept, kept-told}
 use Rattle.escrow_manager.proofs.manager.EscrowManagerRecovery.commit.Goals as goal
 
@@ -26,6 +26,10 @@ take_out-requires c = all-open c.self.invariant
 
 pub drop_mark-requires : goal.drop_mark-requires
 drop_mark-requires c = c.self.invariant.listed.ordered
+
+pub of-self-inside-requires-clause-short : goal.of-self-inside-requires-clause-short
+of-self-inside-requires-clause-short c =
+    subst (λ (V : List OpenMark). All (λ (o : OpenMark). IsShort o.mark) V) (sym c.drop_mark.ensures) (short-of (kept c) c.marks_fit.ensures c.firm_is_legal.ensures)
 
 pub of-self-inside-requires-clause-fallen : goal.of-self-inside-requires-clause-fallen
 of-self-inside-requires-clause-fallen c =

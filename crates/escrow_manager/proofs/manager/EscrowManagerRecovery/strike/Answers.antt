@@ -10,9 +10,9 @@ use Rattle.object_trait.specs.declared.log_entry.LogEntry.{LogEntry}
 use Rattle.object_trait.proofs.Leaving.{each-left}
 use Rattle.escrow_manager.specs.Numeric.{bounds_in, greatest}
 use Rattle.escrow_manager.specs.Marks.{with_mark}
-use Rattle.escrow_manager.specs.Totals.{totals_of}
+use Rattle.escrow_manager.specs.Totals.{totals_of, IsShort}
 use Rattle.escrow_manager.specs.Kept.{IsKeptInEscrow}
-use Rattle.escrow_manager.proofs.Keeping.{meant, all-open, inside-of, top-small, sums-of}
+use Rattle.escrow_manager.proofs.Keeping.{meant, all-open, inside-of, top-small, short-of, sums-of}
 use Rattle.escrow_manager.proofs.Changing.{totals_at, with_log, left-keeps, struck-legal, rewound-kept, listed-some, kept-told}
 use Rattle.escrow_manager.proofs.manager.EscrowManagerRecovery.strike.Goals as goal
 
@@ -80,6 +80,10 @@ kept c =
     let some : 0 < n = omega (arith, count, more) in
     rewound-kept c.sound_after_strike.ensures c.keeps_first.ensures c.keeps_others.ensures c.self.invariant c.args.t n c.keep_first.new.log.items c.mark_of-mark.result many some (c.keep_first.ensures ∙ ap (λ n. keep_first (is_open_of c.args.t) (n - c.args.m) c.self.inside.log.items) c.count_of.ensures)
     (c.mark_of-mark.ensures ∙ ap (λ (x : Checked). mark_of (greatest x) (bounds_in x) (own_of c.keep_first.new.log.items c.args.t)) c.deref.ensures)
+
+pub of-self-inside-requires-clause-short : goal.of-self-inside-requires-clause-short
+of-self-inside-requires-clause-short c =
+    subst (λ (V : List OpenMark). All (λ (o : OpenMark). IsShort o.mark) V) (sym c.put_mark.ensures) (short-of (kept c) c.marks_fit.ensures c.firm_is_legal.ensures)
 
 pub of-self-inside-requires-clause-fallen : goal.of-self-inside-requires-clause-fallen
 of-self-inside-requires-clause-fallen c =

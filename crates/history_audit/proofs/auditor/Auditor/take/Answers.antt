@@ -1,4 +1,5 @@
 use Rattle.std.proofs.Common.{List, map, None, Some, subst}
+use Rattle.table_checker.specs.Declarations.{table_of}
 use Rattle.history_audit.specs.Judged.{IsHanded}
 use Rattle.history_audit.specs.SerialRun.{ReplaysFrom}
 use Rattle.history_audit.specs.declared.operation.Operation.{Operation}
@@ -7,7 +8,7 @@ use Rattle.history_audit.proofs.auditor.Auditor.take.Goals as goal
 
 pub returns-in-Ok-None : goal.returns-in-Ok-None
 returns-in-Ok-None c =
-    let tables = map (λ t. t.now) c.args.tables.now in
+    let tables = map (λ t. table_of t.now) c.args.types.now in
     let said = c.in-Ok-None.ensures.taken in
     record {
       judged = said.0;
@@ -17,7 +18,7 @@ returns-in-Ok-None c =
 
 pub returns-in-Ok : goal.returns-in-Ok
 returns-in-Ok c =
-    let tables = map (λ t. t.now) c.args.tables.now in
+    let tables = map (λ t. table_of t.now) c.args.types.now in
     let said = c.in-Ok-Some.ensures.taken in
     let old = c.args.self.now.serial in
     let new = c.take-in-Ok-Some.new.self in

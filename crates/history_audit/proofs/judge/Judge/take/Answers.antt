@@ -1,10 +1,11 @@
 use Rattle.std.proofs.Common.{map, get_or, Some, Ok, Err}
+use Rattle.table_checker.specs.Declarations.{table_of}
 use Rattle.history_audit.proofs.Taken.{start, judged-more, handed-none, handed-some, judge-stops, judged-of}
 use Rattle.history_audit.proofs.judge.Judge.take.Goals as goal
 
 pub returns-in-Ok-clause-taken : goal.returns-in-Ok-clause-taken
 returns-in-Ok-clause-taken c =
-    let tables = map (λ t. t.now) c.args.tables.now in
+    let tables = map (λ t. table_of t.now) c.args.types.now in
     let events = c.args.events.now in
     let at = c.args.at in (
       judged-more tables events at c.args.self.now c.commit.new.self c.requires.inside c.requires.so_far c.summary_after.ensures (Some c.in-Ok.operations)
@@ -14,7 +15,7 @@ returns-in-Ok-clause-taken c =
 
 pub returns-in-Err-clause-refused : goal.returns-in-Err-clause-refused
 returns-in-Err-clause-refused c =
-    let tables = map (λ t. t.now) c.args.tables.now in
+    let tables = map (λ t. table_of t.now) c.args.types.now in
     let events = c.args.events.now in
     rw (c.fault_at.ensures)
     (judge-stops tables events c.args.at c.args.self.now c.commit.new.self c.requires.inside c.requires.so_far c.in-Err.fault
@@ -22,7 +23,7 @@ returns-in-Err-clause-refused c =
 
 pub returns-in-Ok-judge : goal.returns-in-Ok-judge
 returns-in-Ok-judge c =
-    let tables = map (λ t. t.now) c.args.tables.now in
+    let tables = map (λ t. table_of t.now) c.args.types.now in
     let events = c.args.events.now in
     let (its, judged) = c.in-Ok-judge.ensures.judged in
     record {
@@ -35,7 +36,7 @@ returns-in-Ok-judge c =
 
 pub returns-in-Err-judge : goal.returns-in-Err-judge
 returns-in-Err-judge c =
-    let tables = map (λ t. t.now) c.args.tables.now in
+    let tables = map (λ t. table_of t.now) c.args.types.now in
     record {
       taken = tt;
       refused = rw (c.fault_at-in-Err-judge.ensures)

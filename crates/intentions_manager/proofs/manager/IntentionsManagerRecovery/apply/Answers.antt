@@ -11,7 +11,11 @@ use Rattle.intentions_manager.specs.Kept.{HasBits, IsKeptDeferred}
 use Rattle.intentions_manager.specs.declared.views.View.{View}
 use Rattle.intentions_manager.proofs.Bits.{bits-push}
 use Rattle.intentions_manager.proofs.Keeping.{meant, seen-count, next_view, applied-kept}
+use Rattle.table_checker.specs.Declarations.{IsByTable}
 use Rattle.intentions_manager.proofs.manager.IntentionsManagerRecovery.apply.Goals as goal
+
+pub table-requires : goal.table-requires
+table-requires c = subst IsByTable (sym (ap (λ (x : Checked). x.kind) c.deref.ensures ∙ c.self.invariant.0.deferred)) tt
 
 pub overflow_add-view : goal.overflow_add-view
 overflow_add-view c =

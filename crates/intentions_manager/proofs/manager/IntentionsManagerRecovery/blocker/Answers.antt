@@ -1,4 +1,4 @@
-use Rattle.std.proofs.Common.{not, ◌&&◌, ◌==◌, List, Bool, length, sym, ap, ◌∙◌, arith}
+use Rattle.std.proofs.Common.{not, ◌&&◌, ◌==◌, List, Bool, length, sym, ap, ◌∙◌, arith, subst}
 use Rattle.std.specs.List.{find}
 use Rattle.std.specs.Option.{option_map}
 use Rattle.type_table.specs.ConflictTable.{conflicts}
@@ -6,7 +6,11 @@ use Rattle.table_checker.specs.Checked.{Checked}
 use Rattle.object_trait.specs.declared.log_entry.LogEntry.{LogEntry}
 use Rattle.intentions_manager.proofs.Keeping.{meant, deferred-sound}
 use Rattle.intentions_manager.proofs.Blocking.{rows-deferred, stopper-told}
+use Rattle.table_checker.specs.Declarations.{IsByTable}
 use Rattle.intentions_manager.proofs.manager.IntentionsManagerRecovery.blocker.Goals as goal
+
+pub conflicts-requires : goal.conflicts-requires
+conflicts-requires c = subst IsByTable (sym (ap (λ (x : Checked). x.kind) c.deref.ensures ∙ c.self.invariant.0.deferred)) tt
 
 pub first_conflict-requires-clause-few : goal.first_conflict-requires-clause-few
 first_conflict-requires-clause-few c =

@@ -8,7 +8,11 @@ use Rattle.intentions_manager.specs.Walk.{carried, FitsTable}
 use Rattle.intentions_manager.specs.declared.views.View.{View}
 use Rattle.intentions_manager.proofs.Keeping.{meant, all-open}
 use Rattle.intentions_manager.proofs.Committing.{CommitLaws, IsCommitted, committed, committed-commits, committed-kept}
+use Rattle.table_checker.specs.Declarations.{IsByTable}
 use Rattle.intentions_manager.proofs.manager.IntentionsManagerRecovery.commit.Goals as goal
+
+pub table-requires : goal.table-requires
+table-requires c = subst IsByTable (sym (ap (λ (x : Checked). x.kind) c.deref.ensures ∙ c.self.invariant.0.deferred)) tt
 
 pub place_of_last-from-requires-clause-open : goal.place_of_last-from-requires-clause-open
 place_of_last-from-requires-clause-open c = all-open c.self.invariant.0

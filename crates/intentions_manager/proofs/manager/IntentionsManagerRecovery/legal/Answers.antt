@@ -1,5 +1,11 @@
+use Rattle.std.proofs.Common.{sym, ap, subst, ◌∙◌}
 use Rattle.intentions_manager.proofs.Keeping.{legal-told}
+use Rattle.table_checker.specs.Checked.{Checked}
+use Rattle.table_checker.specs.Declarations.{IsByTable}
 use Rattle.intentions_manager.proofs.manager.IntentionsManagerRecovery.legal.Goals as goal
+
+pub table-requires : goal.table-requires
+table-requires c = subst IsByTable (sym (ap (λ (x : Checked). x.kind) c.deref.ensures ∙ c.self.invariant.0.deferred)) tt
 
 pub returns : goal.returns
 returns c =

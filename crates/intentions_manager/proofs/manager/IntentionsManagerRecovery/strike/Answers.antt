@@ -11,7 +11,11 @@ use Rattle.intentions_manager.specs.declared.views.View.{View}
 use Rattle.intentions_manager.proofs.Seeing.{count-any}
 use Rattle.intentions_manager.proofs.Keeping.{meant, all-open, seen-count}
 use Rattle.intentions_manager.proofs.Rewinding.{StrikeLaws, RewindLaws, with_log, struck-keeps, dropped-kept, rewound-kept}
+use Rattle.table_checker.specs.Declarations.{IsByTable}
 use Rattle.intentions_manager.proofs.manager.IntentionsManagerRecovery.strike.Goals as goal
+
+pub table-requires : goal.table-requires
+table-requires c = subst IsByTable (sym (ap (λ (x : Checked). x.kind) c.deref.ensures ∙ c.self.invariant.0.deferred)) tt
 
 pub take_out-requires-clause-open : goal.take_out-requires-clause-open
 take_out-requires-clause-open c = all-open c.self.invariant.0

@@ -1,9 +1,12 @@
-use Rattle.std.proofs.Common.{◌≡◌, ◌↔◌, true, refl, subst}
-use Rattle.table_checker.specs.Checked.{Checked, IsStrong}
+use Rattle.std.proofs.Common.{◌≡◌, ◌↔◌, true, sym, ap, subst, ◌∙◌}
+use Rattle.type_text.specs.declared.type_file.TypeFile.{TypeFile}
+use Rattle.table_checker.specs.Checked.{Checked}
+use Rattle.table_checker.specs.Condition.{PassesEverywhere}
+use Rattle.table_checker.specs.declared.condition.Condition.TheVariants.{BackwardBothWays}
 use Rattle.table_checker.proofs.Failures.{strong-undo}
 use Rattle.table_checker.proofs.checked_type.CheckedType.is_strong.Goals as goal
 
 pub returns-in-Undo : goal.returns-in-Undo
 returns-in-Undo c =
-    let inside : Checked = record { kind = c.self.inside.kind; file = c.self.inside.file } in
-    subst (λ (v : Checked). (c.passes_everywhere.result ≡ true) ↔ IsStrong v) c.self.view_is (strong-undo inside c.passes_everywhere.result c.in-Undo.is c.passes_everywhere.ensures)
+    strong-undo c.args.self.now c.passes_everywhere.result (ap (λ (k : Checked). k.kind) (sym c.self.view_is) ∙ c.in-Undo.is)
+    (subst (λ (f : TypeFile). (c.passes_everywhere.result ≡ true) ↔ PassesEverywhere BackwardBothWays f f.undo) c.file-file.ensures.exact c.passes_everywhere.ensures)

@@ -1,4 +1,4 @@
-use Rattle.std.proofs.Common.{◌∙◌, ap, sym, false, List, [], ◌∷◌, ◌++◌, arith}
+use Rattle.std.proofs.Common.{◌∙◌, ap, sym, false, List, [], ◌∷◌, ◌++◌, arith, subst}
 use Rattle.object_trait.specs.Meaning.{Meaning}
 use Rattle.object_trait.specs.Steps.{applied}
 use Rattle.object_trait.specs.declared.log_entry.LogEntry.{LogEntry}
@@ -10,7 +10,12 @@ use Rattle.undo_manager.specs.Held.{held_in}
 use Rattle.undo_manager.proofs.Holding.{held-push}
 use Rattle.undo_manager.proofs.Keeping.{legal-next, count-length}
 use Rattle.undo_manager.proofs.Running.{entries-append}
+use Rattle.table_checker.specs.Checked.{Checked}
+use Rattle.table_checker.specs.Declarations.{IsByTable}
 use Rattle.undo_manager.proofs.recovery.UndoManagerRecovery.apply.Goals as goal
+
+pub table-requires : goal.table-requires
+table-requires c = subst IsByTable (sym (ap (λ (x : Checked). x.kind) c.deref.ensures ∙ c.self.invariant.0.in_place)) tt
 
 pub next_state-state-requires-clause-legal : goal.next_state-state-requires-clause-legal
 next_state-state-requires-clause-legal c =

@@ -8,7 +8,11 @@ use Rattle.undo_manager.specs.Log.{entries}
 use Rattle.undo_manager.proofs.Keeping.{meaning_of}
 use Rattle.undo_manager.proofs.Accepted.{rows-in_place}
 use Rattle.undo_manager.proofs.Blocking.{held-fits, stopper-told}
+use Rattle.table_checker.specs.Declarations.{IsByTable}
 use Rattle.undo_manager.proofs.recovery.UndoManagerRecovery.blocker.Goals as goal
+
+pub conflicts-requires : goal.conflicts-requires
+conflicts-requires c = subst IsByTable (sym (ap (λ (x : Checked). x.kind) c.deref.ensures ∙ c.self.invariant.0.in_place)) tt
 
 pub blocker-requires-clause-held : goal.blocker-requires-clause-held
 blocker-requires-clause-held c =

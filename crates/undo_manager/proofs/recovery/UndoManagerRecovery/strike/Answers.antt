@@ -1,4 +1,4 @@
-use Rattle.std.proofs.Common.{◌≡◌, ◌∙◌, ◌-◌, length, sym, ap}
+use Rattle.std.proofs.Common.{◌≡◌, ◌∙◌, ◌-◌, length, sym, ap, subst}
 use Rattle.object_trait.specs.Strike.{keep_first}
 use Rattle.object_trait.specs.Meaning.{is_open_of, open_of}
 use Rattle.op_locks.specs.Locks.{is_by}
@@ -7,7 +7,12 @@ use Rattle.undo_manager.specs.Log.{entries}
 use Rattle.undo_manager.specs.Opened.{count_of}
 use Rattle.undo_manager.proofs.Holding.{held-left, held-settled}
 use Rattle.undo_manager.proofs.Striking.{strike-legal, struck, rerun-entries}
+use Rattle.table_checker.specs.Checked.{Checked}
+use Rattle.table_checker.specs.Declarations.{IsByTable}
 use Rattle.undo_manager.proofs.recovery.UndoManagerRecovery.strike.Goals as goal
+
+pub table-requires : goal.table-requires
+table-requires c = subst IsByTable (sym (ap (λ (x : Checked). x.kind) c.deref-4.ensures ∙ c.self.invariant.0.in_place)) tt
 
 pub rerun-self-inside-requires-clause-legal : goal.rerun-self-inside-requires-clause-legal
 rerun-self-inside-requires-clause-legal c =

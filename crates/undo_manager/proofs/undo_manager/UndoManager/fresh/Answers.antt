@@ -1,6 +1,11 @@
-use Rattle.std.proofs.Common.{rules}
+use Rattle.std.proofs.Common.{sym, ap, subst, ◌∙◌}
+use Rattle.table_checker.specs.Checked.{Checked}
+use Rattle.table_checker.specs.Declarations.{IsByTable}
 use Rattle.undo_manager.proofs.Keeping.{fresh-kept}
 use Rattle.undo_manager.proofs.undo_manager.UndoManager.fresh.Goals as goal
+
+pub file-requires : goal.file-requires
+file-requires c = subst IsByTable (sym (ap (λ (x : Checked). x.kind) c.deref.ensures ∙ c.requires)) tt
 
 pub invariant_of-result : goal.invariant_of-result
 invariant_of-result c =

@@ -1,0 +1,2 @@
+mod FirstWords
+mod ReadBack

@@ -1,0 +1,34 @@
+//! Worked examples of the definitions: each function does nothing, and its contract is the example.
+#![tactic(auto)]
+
+ghost use Rattle.std.specs.Prelude.{◌≡◌, [], ◌∷◌, true, false, codes};
+ghost use Rattle.line_text.specs.Comments.{lines_text};
+ghost use Rattle.line_text.specs.Outcome.{fault_on};
+ghost use Rattle.line_text.specs.declared.fault.FaultKind.TheVariants.{Missing};
+ghost use Rattle.type_text.specs.declared.type_file.TypeFile.{TypeFile as FileValue};
+ghost use Rattle.table_checker.specs.declared.declared_type.Declaration.TheVariants.{Table, Number as Numbers};
+ghost use Rattle.number_text.specs.Examples.{credit};
+ghost use Rattle.declared_text.specs.Declared.{Declares, HasFault, is_of_number};
+ghost use Rattle.declared_text.specs.Examples.{commented_text, credit_bytes, endless_bytes, noted_text};
+
+use number_text::worked::{faults_of_the_credit, texts_say_their_lines};
+
+/// The first word that isn't in a comment chooses the grammar.
+pub fn the_first_word_chooses()
+    ensures after_a_comment { is_of_number commented_text ≡ true }
+    ensures in_a_comment { is_of_number noted_text ≡ false }
+    ensures second_word { is_of_number (lines_text (codes "type number" ∷ [])) ≡ false }
+    ensures longer_word { is_of_number (lines_text (codes "numbers credit" ∷ [])) ≡ false }
+    ensures no_word { is_of_number (lines_text ([] ∷ codes "   " ∷ codes "#" ∷ [])) ≡ false }
+    ensures no_byte { is_of_number [] ≡ false }
+{}
+
+/// The credit's text declares the credit and no table, and without its `end` it has a fault.
+pub fn a_text_declares_the_credit()
+    ensures declared { Declares credit_bytes (Numbers credit) }
+    ensures no_table { (file : FileValue) → Declares credit_bytes (Table file) → ⊥ }
+    ensures faulty { HasFault endless_bytes (fault_on 8 Missing) }
+{
+    texts_say_their_lines();
+    faults_of_the_credit();
+}

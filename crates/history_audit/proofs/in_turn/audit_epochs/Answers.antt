@@ -1,0 +1,10 @@
+use Rattle.std.proofs.Common.{map, sym, ap, subst, ◌∙◌}
+use Rattle.table_checker.specs.Declarations.{table_of}
+use Rattle.history_audit.specs.Epochs.{AuditsEpochs}
+use Rattle.history_audit.proofs.EpochTables.{tables-shown}
+use Rattle.history_audit.proofs.in_turn.audit_epochs.Goals as goal
+
+pub returns : goal.returns
+returns c =
+    subst (λ tables. AuditsEpochs tables (map (λ h. h.now) c.args.histories.now) c.audit_each.result)
+    (ap (map table_of) c.in_ok-own.ensures ∙ sym (tables-shown table_of c.args.types.now)) c.audit_each.ensures

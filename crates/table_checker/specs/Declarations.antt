@@ -1,0 +1,69 @@
+-- What declares a type: a table's file, or a number, whose table is written nowhere.
+use Rattle.std.specs.Prelude.{◌≡◌, ℕ, ◌+◌, nat_eq, Bool, true, List, [], ◌∷◌, map, replicate, suc, refl}
+use Rattle.std.proofs.Common.{add-one, ap, sym, ◌∙◌}
+use Rattle.std.proofs.lemmas.List.{length-map, length-replicate}
+use Rattle.std.specs.List.{range_with_len}
+use Rattle.std.proofs.lemmas.List.FromFn.{length-map-range_with_len}
+use Rattle.equi_cert.specs.Relation.{rows_by}
+use Rattle.type_table.specs.Table.{Table as TableValue}
+use Rattle.type_table.specs.declared.kind.Kind.{Kind}
+use Rattle.type_table.specs.declared.kind.Kind.TheVariants.{Undo, Intentions, Escrow}
+use Rattle.type_table.specs.declared.op.Op.{Op}
+use Rattle.escrow_laws.specs.Bounds.{bounds_of}
+use Rattle.escrow_laws.specs.declared.bounded.Bounded.{Bounded}
+use Rattle.type_text.specs.declared.type_file.TypeFile.{TypeFile}
+use Rattle.number_text.specs.NumberFile.{Number, IsNumber}
+use Rattle.number_text.specs.Operations.{number_ops, number_table, is_listed}
+use Rattle.table_checker.specs.Checked.{IsCheckedBy, IsStrongBy}
+use Rattle.table_checker.specs.declared.declared_type.Declaration.{Declaration}
+use Rattle.table_checker.specs.declared.declared_type.Declaration.TheVariants.{Table, Number as Numbers}
+
+-- the file of a number: at all its values, each of which looks like itself alone, and with no pair in conflict
+abbrev pub number_file : Number → TypeFile
+number_file v = record {
+  table = number_table v;
+  reach = true ∷ replicate v.max true;
+  relation = rows_by (v.max + 1) nat_eq;
+  undo = map (λ (op : Op). []) (number_ops v);
+  intentions = map (λ (op : Op). []) (number_ops v);
+  reach_fits = ap suc (length-replicate v.max true) ∙ sym (add-one v.max);
+  some_reach = refl;
+  relation_fits = length-map-range_with_len (λ s. map (nat_eq s) (range_with_len 0 (v.max + 1))) 0 (v.max + 1);
+  undo_fits = length-map (number_ops v) (λ (op : Op). []);
+  intentions_fits = length-map (number_ops v) (λ (op : Op). []);
+}
+
+-- the file that says as much as a declaration
+abbrev pub file_of : Declaration → TypeFile
+file_of (Table file) = file
+file_of (Numbers number) = number_file number
+
+-- its table
+abbrev pub table_of : Declaration → TableValue
+table_of declaration = (file_of declaration).table
+
+-- a number is declared for escrow alone
+abbrev pub IsDeclaredFor : Kind → Declaration → Type 0
+IsDeclaredFor kind (Table file) = Unit {0}
+IsDeclaredFor kind (Numbers number) = kind ≡ Escrow
+
+-- each call of a number lists its amount, so that the number has a table
+abbrev pub IsListed : Declaration → Type 0
+IsListed (Table file) = Unit {0}
+IsListed (Numbers number) = is_listed number ≡ true
+
+-- what is known of an accepted type: what was tested, that only for escrow it is a number, and then the bounds of its operations
+pub record IsAccepted (kind : Kind) (declared : Declaration) (bounds : List Bounded) : Type 0 where
+  pub checked : IsCheckedBy kind (file_of declared)
+  pub kinds : IsDeclaredFor kind declared
+  pub bounds_are : kind ≡ Escrow → bounds ≡ bounds_of (file_of declared).table
+
+-- a number whose calls list their amounts is accepted for escrow, and strongly
+abbrev pub NumberIsChecked : Type 0
+NumberIsChecked = (v : Number) → IsNumber v → is_listed v ≡ true → IsCheckedBy Escrow (number_file v) × IsStrongBy Escrow (number_file v)
+
+-- a kind for which a type is declared by a table
+abbrev pub IsByTable : Kind → Type 0
+IsByTable Undo = Unit {0}
+IsByTable Intentions = Unit {0}
+IsByTable Escrow = ⊥
