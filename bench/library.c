@@ -65,11 +65,10 @@ static uint32_t numbers_of(colock_handle *type, colock_handle *store, uint8_t *n
     uint32_t known = 0;
     for (uint64_t k = 0; k < shape.ops; k++) {
         char name[COLOCK_LONGEST_NAME];
-        uint64_t count;
-        uint8_t c;
+        uint64_t count, c;
         need(colock_type_call(type, k, name, sizeof name, &count) == COLOCK_OK, "no name");
         need(colock_call_number(store, 0, name, count, &c) == COLOCK_OK, "no call");
-        if (c == k) numbers[known++] = c;
+        if (c == k) numbers[known++] = (uint8_t)c;
     }
     return known;
 }

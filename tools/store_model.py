@@ -86,8 +86,16 @@ class Type:
             state = None if state is None else self.step(state, k)
         return state
 
-    def operations(self, call):
+    def operations(self, call, state=0):
+        """Those of a call, whatever the state is."""
         return [k for k, op in enumerate(self.ops) if op[0] == call]
+
+    def reply(self, k):
+        return self.ops[k][1]
+
+    def names(self, _):
+        """The calls."""
+        return sorted({call for call, _ in self.ops})
 
     def moves(self, k):
         """How far an operation moves each state in which it is legal."""
@@ -109,28 +117,65 @@ class Type:
 
 
 class NumberType(Type):
-    """A number file, by the lines of its text: a number from 0 to a greatest one, and calls of listed amounts. It has no
-    table, and is for escrow alone. Each call is two operations: there is enough, or room for so much; or there isn't."""
+    """A number file, by the lines of its text: a number from 0 to a greatest one, and calls of listed amounts, of any
+    amount, and of its value. It has no table, and is for escrow alone. Each call is two operations: there is enough, or
+    room for so much; or there isn't. Of a call of any amount an operation is its place and the amount; of the value it
+    is its place and the number."""
 
     REPLIES = {"take": ("ok", "short"), "give": ("ok", "full"), "atleast": ("yes", "no")}
-    SIGNS = {"take": -1, "give": 1, "atleast": 0}
+    SIGNS = {"take": -1, "give": 1, "atleast": 0, "value": 0}
 
     def __init__(self, text):
-        self.lines = [line.split() for line in text.splitlines()]
-        given = {word: int(value) for word, value in self.lines[1:-1] if word in ("max", "initial")}
-        self.most, self.initial, self.conflicts, self.text = given["max"], given["initial"], set(), text
-        self.calls = [(word, int(amount)) for word, amount in self.lines[1:-1] if word in self.REPLIES]
-        self.ops = [(f"{word}:{amount}", reply) for word, amount in self.calls for reply in self.REPLIES[word]]
+        self.lines = [line.split() for line in text.splitlines() if line.strip() and line[0] != "#"]
+        given = {word: int(value) for word, value in self.lines[1:3]}
+        self.most, self.initial, self.conflicts = given["max"], given["initial"], set()
+        self.text = "".join(" ".join(line) + "\n" for line in self.lines)
+        self.calls = [(word, amount[0] if amount else "any") for word, *amount in self.lines[3:-1]]
+        self.ops = [(f"{word}:{amount}", reply) for word, amount in self.calls if amount != "any"
+                    for reply in self.REPLIES[word]]
+
+    def parts(self, k):
+        """The word of an operation's call, its amount, and whether it is the first of the two."""
+        place, amount = k if isinstance(k, tuple) else (k, int(self.calls[k // 2][1]))
+        return self.calls[place // 2][0], amount, place % 2 == 0
 
     def step(self, state, k):
-        word, amount = self.calls[k // 2]
+        word, amount, is_done = self.parts(k)
+        if word == "value":
+            return state if state == amount else None
         is_there = amount <= (self.most - state if word == "give" else state)
-        is_legal = 0 <= state <= self.most and is_there == (k % 2 == 0)
+        is_legal = 0 <= state <= self.most and is_there == is_done
         return state + self.move(k) if is_legal else None
 
     def move(self, k):
-        word, amount = self.calls[k // 2]
-        return self.SIGNS[word] * amount if k % 2 == 0 else 0
+        word, amount, is_done = self.parts(k)
+        return self.SIGNS[word] * amount if is_done else 0
+
+    def is_any(self, word, amount):
+        """Whether it is an amount of a call of any amount, which no line lists."""
+        is_amount = word in ("take", "give") and re.fullmatch("[1-9][0-9]{0,9}", amount) and int(amount) <= self.most
+        return is_amount and (word, "any") in self.calls and (word, amount) not in self.calls
+
+    def operations(self, call, state=0):
+        """Those of a call, of the value the one that is legal."""
+        if call == "value" and ("value", "any") in self.calls:
+            return [(2 * self.calls.index(("value", "any")), state)]
+        word, _, amount = call.partition(":")
+        if self.is_any(word, amount):
+            place = 2 * self.calls.index((word, "any"))
+            return [(place, int(amount)), (place + 1, int(amount))]
+        return [2 * at + half for at, listed in enumerate(self.calls) if listed == (word, amount) != (word, "any") for half in (0, 1)]
+
+    def names(self, source):
+        """The calls that are listed, and of each call of any amount three."""
+        amounts = [source.choice([1, 2, self.initial, self.most, self.most - self.initial, source.randint(1, self.most)])
+                   for _ in range(3)]
+        anys = [f"{word}:{amount}" for word, any_ in self.calls if any_ == "any" for amount in amounts if word != "value"]
+        return sorted({call for call, _ in self.ops}) + anys + ["value"] * (("value", "any") in self.calls)
+
+    def reply(self, k):
+        word, amount, is_done = self.parts(k)
+        return str(amount) if word == "value" else self.REPLIES[word][not is_done]
 
     def fault(self):
         return None
@@ -262,15 +307,16 @@ class Model:
         return held[0] if held else None
 
     def event_of_call(self, s, t, x, call):
-        of_call = self.type_of(x).operations(call)
         state = self.type_of(x).run(self.starts[x], self.view(s, x, t))
+        of_call = self.type_of(x).operations(call, state)
+        first = of_call[0][0] if isinstance(of_call[0], tuple) else of_call[0]
         legal = [k for k in of_call if self.type_of(x).step(state, k) is not None]
         free = [k for k in legal if self.blocker(s, x, t, k) is None]
         if free:
             return "op", t, x, free[0]
         if legal:
-            return "busy", t, x, of_call[0], self.blocker(s, x, t, legal[0])
-        return "none", t, x, of_call[0]
+            return "busy", t, x, first, self.blocker(s, x, t, legal[0])
+        return "none", t, x, first
 
     def refusal(self, s, verb, *rest):
         """Why the store refuses this, or none."""
@@ -292,7 +338,7 @@ class Model:
     def told(self, event):
         """What a call is answered that makes this event."""
         if event[0] == "op":
-            return f"reply {self.type_of(event[2]).ops[event[3]][1]}"
+            return f"reply {self.type_of(event[2]).reply(event[3])}"
         return f"busy {self.life}.{event[4]}" if event[0] == "busy" else "none"
 
     def listed(self, verb, *rest):
@@ -362,5 +408,6 @@ class Model:
 
 
 def line_of(event):
-    """The line of an event of worker 0."""
-    return " ".join(map(str, [event[0], 0, *event[1:]]))
+    """The line of an event of worker 0. An operation with an amount has it behind its place."""
+    words = [word for part in event[1:] for word in (part if isinstance(part, tuple) else (part,))]
+    return " ".join(map(str, [event[0], 0, *words]))

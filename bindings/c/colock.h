@@ -43,7 +43,7 @@ extern "C" {
 #endif
 
 /* The version of this header's calls, and that of the library's: they have to be the same. */
-#define COLOCK_VERSION 2
+#define COLOCK_VERSION 3
 uint32_t colock_version(void);
 
 /* What a handle holds is a type, the objects of a store that is being made, or a store. */
@@ -97,6 +97,17 @@ typedef enum colock_answer_kind {
     COLOCK_NONE = 2   /* no operation with this call is legal now */
 } colock_answer_kind;
 
+/* An operation, and a call, which has the number of its first operation, cross as one number: its place, which is below
+ * 256, and with an amount, of 32 bits, 256 * (amount + 1) more. Those of a table, and the amounts that a number lists, are
+ * at their places, from 0 in the order of their lines, without an amount. A number that takes any amount has at one place
+ * an operation for each amount, and where its value is asked one for each value. */
+#define COLOCK_PLACES 256
+#define COLOCK_OPERATION(place, amount) ((uint64_t)(place) + COLOCK_PLACES * ((uint64_t)(amount) + 1))
+#define COLOCK_PLACE(operation) ((uint64_t)(operation) % COLOCK_PLACES)
+#define COLOCK_HAS_AMOUNT(operation) ((uint64_t)(operation) >= COLOCK_PLACES)
+/* where it has one */
+#define COLOCK_AMOUNT(operation) ((uint64_t)(operation) / COLOCK_PLACES - 1)
+
 /* What a call is answered: `number` is the operation, or the blocker, or 0. */
 typedef struct colock_answer {
     uint64_t kind;
@@ -136,8 +147,8 @@ typedef enum colock_refusal {
     COLOCK_NOT_NUMERIC = 5      /* state `second` shows that operation `first` isn't one of numbers */
 } colock_refusal;
 
-/* A type: its states are 0 to states - 1, its operations 0 to ops - 1, and `kind` a colock_kind. A table has at most
- * 1,024 states, a number 4,294,967,296. */
+/* A type: its states are 0 to states - 1, the places of its operations 0 to ops - 1, and `kind` a colock_kind. A table
+ * has at most 1,024 states, a number 4,294,967,296. */
 typedef struct colock_shape {
     uint64_t states;
     uint64_t initial;
@@ -148,21 +159,22 @@ typedef struct colock_shape {
 typedef enum colock_event_kind {
     COLOCK_EVENT_BEGIN = 0,
     COLOCK_EVENT_OP = 1,      /* `op` is the operation that was executed at `object` */
-    COLOCK_EVENT_BUSY = 2,    /* `op` is the number of the call, and `other` the blocker */
-    COLOCK_EVENT_NONE = 3,    /* `op` is the number of the call */
+    COLOCK_EVENT_BUSY = 2,    /* `op` is the place of the call, without its amount, and `other` the blocker */
+    COLOCK_EVENT_NONE = 3,    /* `op` is the place of the call */
     COLOCK_EVENT_COMMIT = 4,
     COLOCK_EVENT_ABORT = 5,
     COLOCK_EVENT_ROLLBACK = 6 /* `other` is the number of operations that were taken back */
 } colock_event_kind;
 
-/* An event of a store. What its kind doesn't have is 0, and isn't read by colock_follow. */
+/* An event of a store. What its kind doesn't have is 0, and isn't read by colock_follow, nor is `reserved`. */
 typedef struct colock_event {
     uint64_t transaction;
     uint64_t other;
+    uint64_t op;
     uint32_t object;
-    uint32_t op;
     uint32_t kind;
     uint32_t worker;
+    uint32_t reserved;
 } colock_event;
 
 /* ---- Types
@@ -175,8 +187,9 @@ typedef struct colock_event {
  * and a queue are where they have one element, or a capacity of 1, and seats are where there is one. */
 
 /* The type of a text, with its own tables, which for COLOCK_ESCROW aren't looked at. Where the text's first word is
- * `number` and not `type`, it is a number up to 4,294,967,295 with listed amounts (docs/formats.md), which has no table
- * and is for COLOCK_ESCROW alone. COLOCK_BAD_TEXT, COLOCK_NEEDS_ESCROW. */
+ * `number` and not `type`, it is a number up to 4,294,967,295 (docs/formats.md), which has no table and is for
+ * COLOCK_ESCROW alone. It lists amounts, and with `take any` or `give any` a call may have each one from 1 to the
+ * greatest number, as take:17; with `value` it answers what it is. COLOCK_BAD_TEXT, COLOCK_NEEDS_ESCROW. */
 uint32_t colock_type_read(colock_handle *type, uint32_t kind, const char *text, size_t text_count,
                           colock_fault *fault);
 /* The type of a text with made tables in place of its own: which operations conflict is found out. It isn't a number's.
@@ -221,13 +234,14 @@ uint32_t colock_type_shape(colock_handle *type, colock_shape *shape);
  * COLOCK_LONGEST_NAME. COLOCK_NO_ROOM. */
 #define COLOCK_LONGEST_NAME 32
 uint32_t colock_type_name(colock_handle *type, char *room, size_t room_count, uint64_t *count);
-/* The call of operation k, and its reply, as the name. COLOCK_NO_OPERATION, COLOCK_NO_ROOM. */
+/* The call of operation k, and its reply, as the name; at a place alone those of its line, as take:any and ok.
+ * COLOCK_NO_OPERATION, COLOCK_NO_ROOM. */
 uint32_t colock_type_call(colock_handle *type, uint64_t k, char *room, size_t room_count, uint64_t *count);
 uint32_t colock_type_reply(colock_handle *type, uint64_t k, char *room, size_t room_count, uint64_t *count);
 /* The state to which operation k leads from state s. COLOCK_NO_STATE, COLOCK_NO_OPERATION, COLOCK_NOT_LEGAL. */
 uint32_t colock_type_step(colock_handle *type, uint64_t s, uint64_t k, uint64_t *to);
 /* Whether operation `requested` conflicts with `other`, which another transaction holds: 1 or 0. Of
- * COLOCK_ESCROW it is 0: there is no conflict table, and the numbers say what has to wait.
+ * COLOCK_ESCROW it is 0: there is no conflict table, and the numbers say what has to wait. Both are places.
  * COLOCK_NO_OPERATION. */
 uint32_t colock_type_conflict(colock_handle *type, uint64_t requested, uint64_t other, uint32_t *told);
 
@@ -256,18 +270,19 @@ uint32_t colock_begin(colock_handle *store, uint8_t worker, uint64_t *transactio
  * COLOCK_HISTORY_FULL, COLOCK_NO_MEMORY. */
 uint32_t colock_call(colock_handle *store, uint8_t worker, uint64_t transaction, uint32_t object,
                      const char *name, size_t name_count, colock_answer *answer);
-/* The same by the number of the call, for which colock_call_number is asked once. */
+/* The same by the number of the call, for which colock_call_number is asked once; of take:17 it is
+ * COLOCK_OPERATION(p, 17), p being the place of take:any. */
 uint32_t colock_call_op(colock_handle *store, uint8_t worker, uint64_t transaction, uint32_t object,
-                        uint8_t call, colock_answer *answer);
-/* The number of the call of this name at an object: that of the first operation that has it.
- * COLOCK_NO_OBJECT, COLOCK_NO_CALL. */
+                        uint64_t call, colock_answer *answer);
+/* The number of the call of this name at an object: that of the first operation that has it, of `value` that of the
+ * value 0. COLOCK_NO_OBJECT, COLOCK_NO_CALL. */
 uint32_t colock_call_number(colock_handle *store, uint32_t object, const char *name, size_t name_count,
-                            uint8_t *call);
+                            uint64_t *call);
 /* What colock_call or colock_call_op would be answered now. It is no event, and needs no memory. The codes are
  * theirs, COLOCK_HISTORY_FULL too. */
 uint32_t colock_would(colock_handle *store, uint64_t transaction, uint32_t object, const char *name,
                       size_t name_count, colock_answer *answer);
-uint32_t colock_would_op(colock_handle *store, uint64_t transaction, uint32_t object, uint8_t call,
+uint32_t colock_would_op(colock_handle *store, uint64_t transaction, uint32_t object, uint64_t call,
                          colock_answer *answer);
 /* Ends a transaction, which needs no memory and no more room in the history. COLOCK_NOT_OPEN. */
 uint32_t colock_commit(colock_handle *store, uint8_t worker, uint64_t transaction);

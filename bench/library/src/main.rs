@@ -34,9 +34,9 @@ fn words_of(event: &Event) -> [u32; 6] {
     let low = |number: u64| number as u32;
     match *event {
         Event::Begin { worker, transaction } => [0, low(transaction), 0, 0, 0, worker.into()],
-        Event::Operation { worker, transaction, object, operation } => [1, low(transaction), object, operation, 0, worker.into()],
-        Event::Busy { worker, transaction, object, call, blocker } => [2, low(transaction), object, call, low(blocker), worker.into()],
-        Event::None { worker, transaction, object, call } => [3, low(transaction), object, call, 0, worker.into()],
+        Event::Operation { worker, transaction, object, operation } => [1, low(transaction), object, operation.place.into(), 0, worker.into()],
+        Event::Busy { worker, transaction, object, call, blocker } => [2, low(transaction), object, call.into(), low(blocker), worker.into()],
+        Event::None { worker, transaction, object, call } => [3, low(transaction), object, call.into(), 0, worker.into()],
         Event::Commit { worker, transaction } => [4, low(transaction), 0, 0, 0, worker.into()],
         Event::Abort { worker, transaction } => [5, low(transaction), 0, 0, 0, worker.into()],
         Event::Rollback { worker, transaction, operations } => [6, low(transaction), low(operations), 0, 0, worker.into()],
@@ -114,9 +114,8 @@ fn numbers_of(of: &Type) -> Result<Vec<u8>, Error> {
     let store = Store::new([of], MOST_EVENTS)?;
     let mut numbers = Vec::new();
     for k in 0..of.operations() {
-        let c = store.call_number(0, &of.call_name(k)?)?;
-        if u64::from(c) == k {
-            numbers.push(c);
+        if store.call_number(0, &of.call_name(k)?)? == k.into() {
+            numbers.push(k);
         }
     }
     Ok(numbers)

@@ -22,6 +22,11 @@ static uint64_t number(void) {
     return draw(8) ? draw(6) : edges[draw(sizeof edges / sizeof *edges)];
 }
 
+/* The number of an operation, or of a call: half of them have an amount. */
+static uint64_t operation(void) {
+    return draw(2) ? number() : COLOCK_OPERATION(draw(6), (uint32_t)number());
+}
+
 static void counted(uint32_t code) {
     WANT(code <= COLOCK_NEEDS_ESCROW && code != COLOCK_NO_MEMORY && code != COLOCK_NOT_FRESH);
     by_code[code]++;
@@ -35,11 +40,11 @@ static uint32_t meant_for(int h, sort meant, uint32_t code) {
 }
 
 static void make_type(int h) {
-    static const char *const texts[] = {CTR2, "type counter\nstates x\n", "type c\nstates 1\ninitial 0\nop a b\nreach 0\nend\n", "", FIVE, CENTS};
+    static const char *const texts[] = {CTR2, "type counter\nstates x\n", "type c\nstates 1\ninitial 0\nop a b\nreach 0\nend\n", "", FIVE, CENTS, PURSE};
     static const char *const elements[] = {"a b", "a a", "A", "", "a b c d e f g h i j k"};
     uint64_t amounts[3] = {number(), number(), number()};
     uint32_t small[3] = {(uint32_t)amounts[0], (uint32_t)amounts[1], (uint32_t)amounts[2]};
-    const char *text = texts[draw(6)], *words = elements[draw(5)];
+    const char *text = texts[draw(7)], *words = elements[draw(5)];
     colock_fault fault = {UNTOUCHED, UNTOUCHED, UNTOUCHED, UNTOUCHED, UNTOUCHED};
     uint32_t kind = (uint32_t)(draw(9) ? draw(3) : number()), code = 0;
     switch (draw(10)) {
@@ -71,14 +76,14 @@ static void read_type(int h) {
     memset(room, '!', sizeof room);
     switch (draw(3)) {
     case 0: code = colock_type_name(&handles[h], room, size, &count); break;
-    case 1: code = colock_type_call(&handles[h], number(), room, size, &count); break;
-    case 2: code = colock_type_reply(&handles[h], number(), room, size, &count); break;
+    case 1: code = colock_type_call(&handles[h], operation(), room, size, &count); break;
+    case 2: code = colock_type_reply(&handles[h], operation(), room, size, &count); break;
     }
     meant_for(h, A_TYPE, code);
     WANT(code ? count == UNTOUCHED && room[0] == '!' : count <= size && room[count - 1] != '!');
-    code = meant_for(h, A_TYPE, colock_type_step(&handles[h], number(), number(), &to));
+    code = meant_for(h, A_TYPE, colock_type_step(&handles[h], number(), operation(), &to));
     WANT(code == COLOCK_OK || to == UNTOUCHED);
-    code = meant_for(h, A_TYPE, colock_type_conflict(&handles[h], number(), number(), &told));
+    code = meant_for(h, A_TYPE, colock_type_conflict(&handles[h], operation(), operation(), &told));
     WANT(code ? told == UNTOUCHED : told <= 1);
 }
 
@@ -100,12 +105,14 @@ static void make_store(int h) {
 static void transact(int h) {
     static const char *const names[] = {
         "inc:1", "dec:1", "give:1", "take:2", "deposit:1", "withdraw:2", "balance", "insert:a", "enq:a", "deq", "", "x",
+        "take:any", "take:1", "take:4294967295", "give:any", "give:5", "value",
     };
     const char *name = names[draw(sizeof names / sizeof *names)];
     colock_answer answer = {UNTOUCHED, UNTOUCHED};
     uint64_t t = number();
     uint32_t x = (uint32_t)number(), code = 0;
-    uint8_t c = (uint8_t)number(), worker = (uint8_t)number();
+    uint8_t worker = (uint8_t)number();
+    uint64_t c = operation();
     switch (draw(7)) {
     case 0: code = colock_call(&handles[h], worker, t, x, TEXT(name), &answer); break;
     case 1: code = colock_call_op(&handles[h], worker, t, x, c, &answer); break;
@@ -121,7 +128,7 @@ static void transact(int h) {
 
 static void read_store(int h) {
     uint64_t n = UNTOUCHED, m = UNTOUCHED;
-    uint8_t c = UNTOUCHED;
+    uint64_t c = UNTOUCHED;
     uint32_t code = meant_for(h, A_STORE, colock_kept(&handles[h], (uint32_t)number(), &n));
     WANT(code == COLOCK_OK || n == UNTOUCHED);
     n = UNTOUCHED;
@@ -143,7 +150,7 @@ static void follow(int h) {
     uint32_t code = meant_for(from, A_STORE, colock_events(&handles[from], number(), room, draw(9), &count));
     WANT(code ? count == UNTOUCHED : count <= 8);
     WANT(room[code ? 0 : count].kind == 0x55555555);
-    room[8] = (colock_event){number(), number(), (uint32_t)number(), (uint32_t)number(), (uint32_t)draw(9), (uint32_t)number()};
+    room[8] = (colock_event){number(), number(), operation(), (uint32_t)number(), (uint32_t)draw(9), (uint32_t)number(), (uint32_t)number()};
     uint64_t size = code ? 0 : count;
     code = meant_for(h, A_STORE, colock_follow(&handles[h], draw(2) ? room : room + 8, size > 1 ? 1 : size, &made));
     WANT(code == COLOCK_NOT_HELD ? made == UNTOUCHED : made <= size);

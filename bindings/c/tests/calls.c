@@ -1,6 +1,15 @@
 /* Each code of each call, but for refused memory. */
 #include "want.h"
 
+/* The structs as the library has them. */
+_Static_assert(sizeof(colock_handle) == 16 && offsetof(colock_handle, at_) == 8, "a handle");
+_Static_assert(sizeof(colock_answer) == 16 && offsetof(colock_answer, number) == 8, "an answer");
+_Static_assert(sizeof(colock_fault) == 40 && offsetof(colock_fault, third) == 32, "a fault");
+_Static_assert(sizeof(colock_shape) == 32 && offsetof(colock_shape, kind) == 24, "a shape");
+_Static_assert(sizeof(colock_event) == 40 && offsetof(colock_event, other) == 8 && offsetof(colock_event, op) == 16, "an event");
+_Static_assert(offsetof(colock_event, object) == 24 && offsetof(colock_event, kind) == 28, "an event");
+_Static_assert(offsetof(colock_event, worker) == 32 && offsetof(colock_event, reserved) == 36, "an event");
+
 static const colock_fault NO_FAULT = {UNTOUCHED, UNTOUCHED, UNTOUCHED, UNTOUCHED, UNTOUCHED};
 
 static bool is(const colock_fault *f, uint64_t line, uint64_t kind, uint64_t a, uint64_t b, uint64_t c) {
@@ -227,9 +236,9 @@ static void is_no_type(colock_handle *handle) {
 /* Nor is any call of a store made at one that holds none. */
 static void is_no_store(colock_handle *handle) {
     uint64_t n = UNTOUCHED, m = UNTOUCHED;
-    uint8_t call = UNTOUCHED;
+    uint64_t call = UNTOUCHED;
     colock_answer answer = {UNTOUCHED, UNTOUCHED};
-    colock_event event = {0, 0, 0, 0, UNTOUCHED, 0};
+    colock_event event = {.kind = UNTOUCHED};
     WANT(colock_begin(handle, 0, &n) == COLOCK_NOT_HELD);
     WANT(colock_call(handle, 0, 0, 0, TEXT("inc:1"), &answer) == COLOCK_NOT_HELD);
     WANT(colock_call_op(handle, 0, 0, 0, 0, &answer) == COLOCK_NOT_HELD);
@@ -284,7 +293,7 @@ static bool is_told(uint32_t code, const colock_answer *answer, uint64_t kind, u
 
 static void calls_are_answered(colock_handle *s) {
     colock_answer a = {UNTOUCHED, UNTOUCHED};
-    uint8_t c = UNTOUCHED;
+    uint64_t c = UNTOUCHED;
     WANT(begin(s, 3) == 0 && begin(s, 4) == 1);
     WANT(is_told(colock_would(s, 0, 0, TEXT("inc:1"), &a), &a, COLOCK_REPLY, 0));
     WANT(is_told(colock_call(s, 3, 0, 0, TEXT("inc:1"), &a), &a, COLOCK_REPLY, 0));
@@ -316,7 +325,11 @@ static void calls_are_refused(colock_handle *s) {
     WANT(colock_call(s, 3, 0, 0, TEXT("inc"), &a) == COLOCK_NO_CALL);
     WANT(colock_call_op(s, 3, 0, 0, 2, &a) == COLOCK_NO_CALL);
     WANT(colock_would(s, 0, 0, TEXT("inc:10"), &a) == COLOCK_NO_CALL);
-    WANT(colock_would_op(s, 0, 0, 255, &a) == COLOCK_NO_CALL);
+    static const uint64_t no_call[] = {255, 256, COLOCK_OPERATION(0, 1), COLOCK_OPERATION(255, UINT32_MAX), COLOCK_OPERATION(255, UINT32_MAX) + 1, UINT64_MAX};
+    for (int i = 0; i < 6; i++) {
+        WANT(colock_call_op(s, 3, 0, 0, no_call[i], &a) == COLOCK_NO_CALL && colock_would_op(s, 0, 0, no_call[i], &a) == COLOCK_NO_CALL);
+        WANT(colock_call_op(s, 3, 0, 2, no_call[i], &a) == COLOCK_NO_OBJECT && colock_would_op(s, 2, 0, no_call[i], &a) == COLOCK_NOT_OPEN);
+    }
     WANT(a.kind == UNTOUCHED && a.number == UNTOUCHED);
 }
 
@@ -334,8 +347,8 @@ static void transactions_end(colock_handle *s) {
     WANT(colock_open_count(s, &n) == COLOCK_OK && n == 0 && colock_abort_all(s) == COLOCK_OK);
 }
 
-static bool is_event(const colock_event *e, uint32_t kind, uint32_t worker, uint64_t t, uint32_t x, uint32_t op, uint64_t other) {
-    return e->kind == kind && e->worker == worker && e->transaction == t && e->object == x && e->op == op && e->other == other;
+static bool is_event(const colock_event *e, uint32_t kind, uint32_t worker, uint64_t t, uint32_t x, uint64_t op, uint64_t other) {
+    return e->kind == kind && e->worker == worker && e->transaction == t && e->object == x && e->op == op && e->other == other && e->reserved == 0;
 }
 
 static void events_are_copied(colock_handle *s, colock_event room[16]) {
@@ -368,10 +381,18 @@ static void events_are_followed(colock_event room[16]) {
     WANT(colock_kept(&s, 0, &kept) == COLOCK_OK && kept == 1);
     WANT(colock_follow(&s, room + 2, 10, &made) == COLOCK_OK && made == 10); /* the same operation once more */
     WANT(colock_follow(&s, room + 6, 1, &made) == COLOCK_NOT_MADE && made == 0);
-    colock_event begins[3] = {{4, 0, 0, 0, COLOCK_EVENT_BEGIN, 0}, {5, 0, 0, 0, COLOCK_EVENT_BEGIN, 0}, {7, 0, 0, 0, COLOCK_EVENT_BEGIN, 0}};
+    colock_event begins[3] = {{.transaction = 4}, {.transaction = 5, .reserved = 9}, {.transaction = 7}};
     WANT(colock_follow(&s, begins, 3, &made) == COLOCK_NOT_MADE && made == 2);
-    colock_event wrong[4] = {{6, 0, 0, 0, 7, 0}, {6, 0, 0, 0, 0, 256}, {((uint64_t)1 << 32) + 6, 0, 0, 0, 0, 0}, {4, 0, 0, 256, 1, 0}};
-    for (int i = 0; i < 4; i++) WANT(colock_follow(&s, wrong + i, 1, &made) == COLOCK_NOT_MADE && made == 0);
+    colock_event wrong[7] = {
+        {.transaction = 6, .kind = 7},
+        {.transaction = 6, .worker = 256},
+        {.transaction = ((uint64_t)1 << 32) + 6},
+        {.transaction = 4, .kind = COLOCK_EVENT_OP, .op = 256}, /* the first operation with the amount 0 */
+        {.transaction = 4, .kind = COLOCK_EVENT_OP, .op = UINT64_MAX},
+        {.transaction = 4, .kind = COLOCK_EVENT_BUSY, .op = 256},
+        {.transaction = 4, .kind = COLOCK_EVENT_NONE, .op = 257, .object = 1},
+    };
+    for (int i = 0; i < 7; i++) WANT(colock_follow(&s, wrong + i, 1, &made) == COLOCK_NOT_MADE && made == 0);
     WANT(colock_follow(&s, wrong, 0, &made) == COLOCK_OK && made == 0);
     WANT(colock_close(&s) == COLOCK_OK);
 }
@@ -425,7 +446,7 @@ static void events_cross_and_are_made_again(void) {
     colock_handle counter = COLOCK_HANDLE, store = COLOCK_HANDLE, other = COLOCK_HANDLE;
     colock_fault fault = NO_FAULT;
     colock_answer a = {UNTOUCHED, UNTOUCHED};
-    colock_event room[3] = {{0, 0, 0, 0, 0, 0}, {0, 0, 0, 0, 0, 0}, {9, 9, 9, 9, 9, 9}};
+    colock_event room[3] = {{0}, {0}, {.transaction = 9, .other = 9, .op = 9, .object = 9, .kind = 9, .worker = 9}};
     uint64_t count = UNTOUCHED;
     WANT(colock_type_counter(&counter, COLOCK_UNDO, 5, amounts, 2, &fault) == COLOCK_BAD_PARAMETER);
     WANT(colock_type_counter(&counter, COLOCK_UNDO, 5, amounts, 1, &fault) == COLOCK_OK);

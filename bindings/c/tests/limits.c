@@ -62,7 +62,7 @@ static void much_is_forgotten(void) {
     uint64_t count = UNTOUCHED, forgotten = UNTOUCHED;
     open_counters(&store, 1, UINT32_MAX);
     for (uint64_t i = 0; i < 100000; i++) {
-        WANT(begin(&store, 7) == i && colock_call_op(&store, 7, i, 0, (uint8_t)(i % 2), &answer) == COLOCK_OK);
+        WANT(begin(&store, 7) == i && colock_call_op(&store, 7, i, 0, i % 2, &answer) == COLOCK_OK);
         WANT(answer.kind == COLOCK_REPLY && colock_commit(&store, 7, i) == COLOCK_OK);
         if (i % 1000 == 999) WANT(colock_forget(&store, 3000) == COLOCK_OK);
     }

@@ -53,7 +53,7 @@ static void make_types(colock_handle types[TYPES]) {
     DO(colock_type_set(&types[4], COLOCK_UNDO, TEXT("a b"), &f));
     DO(colock_type_counter(&types[5], COLOCK_ESCROW, 50, amounts, 2, &f));
     DO(colock_type_read(&types[6], COLOCK_ESCROW, TEXT(FIVE), &f));
-    DO(colock_type_read(&types[7], COLOCK_ESCROW, TEXT(CENTS), &f));
+    DO(colock_type_read(&types[7], COLOCK_ESCROW, TEXT(PURSE), &f));
     DO(colock_type_number(&types[8], COLOCK_ESCROW, UINT32_MAX, small, 2, &f));
     DO(colock_type_semiqueue(&types[9], COLOCK_INTENTIONS, TEXT("a b"), 2, &f));
 }
@@ -66,7 +66,7 @@ static void make_store(colock_handle *store, colock_handle types[TYPES]) {
 
 /* Transactions that are all open before the first of them ends. */
 static void use(colock_handle *store, uint64_t transactions) {
-    static const char *const calls[TYPES] = {"inc:1", "dec:1", "deposit:2", "inc:2", "insert:a", "inc:1", "give:1", "give:250", "give:1", "enq:b"};
+    static const char *const calls[TYPES] = {"inc:1", "dec:1", "deposit:2", "inc:2", "insert:a", "inc:1", "give:1", "give:17", "give:1", "enq:b"};
     colock_answer answer;
     uint64_t t;
     for (uint64_t i = 0; i < transactions; i++) {

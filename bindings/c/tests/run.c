@@ -32,7 +32,8 @@ static void write_event(const colock_event *e) {
     WANT(e->kind < 7);
     printf("%s %" PRIu32 " %" PRIu64, words[e->kind], e->worker, e->transaction);
     if (e->kind == COLOCK_EVENT_OP || e->kind == COLOCK_EVENT_BUSY || e->kind == COLOCK_EVENT_NONE)
-        printf(" %" PRIu32 " %" PRIu32, e->object, e->op);
+        printf(" %" PRIu32 " %" PRIu64, e->object, COLOCK_PLACE(e->op));
+    if (e->kind == COLOCK_EVENT_OP && COLOCK_HAS_AMOUNT(e->op)) printf(" %" PRIu64, COLOCK_AMOUNT(e->op));
     if (e->kind == COLOCK_EVENT_BUSY || e->kind == COLOCK_EVENT_ROLLBACK) printf(" %" PRIu64, e->other);
     putchar('\n');
 }
@@ -75,7 +76,7 @@ static void open_store(script *s, colock_handle *store) {
 
 static uint32_t call(colock_handle *store, uint64_t t, uint32_t x, const char *name) {
     colock_answer foreseen = {UNTOUCHED, UNTOUCHED}, answer = {UNTOUCHED, UNTOUCHED};
-    uint8_t number;
+    uint64_t number;
     uint32_t would = colock_would(store, t, x, TEXT(name), &foreseen), code;
     if (x % 2 && colock_call_number(store, x, TEXT(name), &number) == COLOCK_OK)
         code = colock_call_op(store, 0, t, x, number, &answer);

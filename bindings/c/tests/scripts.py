@@ -2,8 +2,8 @@
 """scripts.py COLOCK COUNT SEED RUNNER..: random scripts by `colock run` and by each runner.
 
 COLOCK is the program. A runner is a program that takes `SCRIPT TYPE..` and writes what `colock run` writes up
-to the kept states. The types are those of examples, and some of families; those to which the checker says yes for
-escrow are in escrow, too. A line for each difference, and status 1 where there is one.
+to the kept states. The types are those of examples, and some of families, and numbers of any amount; those to which the
+checker says yes for escrow are in escrow, too. A line for each difference, and status 1 where there is one.
 """
 import os
 import random
@@ -13,13 +13,19 @@ import sys
 import tempfile
 
 EXAMPLES = os.path.join(os.path.dirname(os.path.abspath(__file__)), "..", "..", "..", "examples")
-TYPES = [os.path.join(EXAMPLES, name + ".type") for name in ("ctr2", "tickets", "credit", "places", "pool", "stock", "seats", "queue")]
+TYPES = [os.path.join(EXAMPLES, name + ".type") for name in ("ctr2", "tickets", "credit", "places", "pool", "stock", "seats", "queue", "cents", "purse")]
+# a number so small that it is short and full now and then
+SMALL = "number small\nmax 20\ninitial 9\ntake 3\ntake any\ngive any\natleast 5\nvalue\nend\n"
 # families, by the words of `colock make`
 FAMILIES = ["counter 9 1 3", "counter 30 1 2 5", "account 6 1 4", "set 0 a", "semiqueue 4 a", "semiqueue 1 a b", "stock 9 1 3", "queue 3 a b", "seats 2"]
 
 
 def made_types(program, folder):
-    """The paths of types of the families, each of which begins in the middle of its states."""
+    """The paths of types of the families, each of which begins in the middle of its states, and of the small number."""
+    path = os.path.join(folder, "small.type")
+    with open(path, "w", encoding="ascii") as file:
+        file.write(SMALL)
+    yield path
     for number, words in enumerate(FAMILIES):
         text = subprocess.run([program, "make", *words.split()], capture_output=True, text=True, check=True).stdout
         middle = int(re.search(r"^states (\d+)$", text, re.M)[1]) // 2
@@ -36,9 +42,17 @@ def kinds_of(program, path):
 
 
 def calls_of(path):
-    """The names of the calls of a type file, each once."""
+    """The names of the calls of a type, each once; with any amount those with some, of which a few are none."""
     with open(path, encoding="ascii") as file:
-        return list(dict.fromkeys(line.split()[1] for line in file if line.startswith("op ")))
+        lines = [line.split() for line in file if not line.startswith("#")]
+    if lines[0][0] != "number":
+        return list(dict.fromkeys(words[1] for words in lines if words[0] == "op"))
+    greatest = int(lines[1][1])
+    some = [1, 2, 3, 7, greatest // 3, greatest, 0, greatest + 1, "007", "any"]
+    names = []
+    for word, *amount in lines[3:-1]:
+        names += [f"{word}:{k}" for k in (some if amount == ["any"] else amount)] or [word]
+    return list(dict.fromkeys(names))
 
 
 def script(drawn, calls, kinds):

@@ -74,7 +74,7 @@ static void *use(void *arg) {
     uint64_t kept;
     for (uint64_t t = 0; t < ROUNDS; t++) {
         WANT(begin(own, 0) == t);
-        WANT(colock_call_op(own, 0, t, (uint32_t)t % 2, (uint8_t)(t / 2 % 2), &answer) == COLOCK_OK);
+        WANT(colock_call_op(own, 0, t, (uint32_t)t % 2, t / 2 % 2, &answer) == COLOCK_OK);
         WANT(answer.kind == COLOCK_REPLY && colock_commit(own, 0, t) == COLOCK_OK);
     }
     WANT(colock_kept(own, 0, &kept) == COLOCK_OK && kept == 0);

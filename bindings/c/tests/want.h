@@ -39,6 +39,11 @@ static const char FIVE[] =
 /* A balance in cents, which has no table. */
 static const char CENTS[] = "number cents\nmax 100000\ninitial 0\ntake 250\ngive 250\nend\n";
 
+/* A purse, of which any amount is taken and given, 100 by a line of its own, and what is in it is told. The places of its
+ * calls: */
+static const char PURSE[] = "number purse\nmax 10000\ninitial 500\ntake 100\ntake any\ngive any\nvalue\nend\n";
+enum { TAKE_100 = 0, TAKE_ANY = 2, TAKE_SHORT = 3, GIVE_ANY = 4, GIVE_FULL = 5, VALUE = 6 };
+
 /* A store of this many objects of the type of CTR2, updated in place. */
 static inline void open_counters(colock_handle *store, int objects, uint64_t max_events) {
     colock_handle type = COLOCK_HANDLE;

@@ -6,9 +6,9 @@ commute keep each other waiting: two transactions may count one counter up side 
     >>> store = colock.Store([counter], max_events=1_000_000)
     >>> first, second = store.begin(), store.begin()
     >>> first.call(0, "inc:1")
-    Operation(number=0, reply='ok')
+    Operation(place=0, reply='ok')
     >>> second.call(0, "inc:1")  # beside the first
-    Operation(number=0, reply='ok')
+    Operation(place=0, reply='ok')
     >>> second.call(0, "dec:1")
     Busy(blocker=0)
     >>> first.abort()  # takes its up out of the middle
@@ -41,12 +41,25 @@ bounds whatever becomes of them; and what is kept is what is committed:
     ...     reply = transaction.call(0, "inc:2")
     >>> first, second, third = shelf.begin(), shelf.begin(), shelf.begin()
     >>> first.call(0, "dec:2"), second.call(0, "inc:1")
-    (Operation(number=3, reply='ok'), Operation(number=0, reply='ok'))
+    (Operation(place=3, reply='ok'), Operation(place=0, reply='ok'))
     >>> third.call(0, "dec:1")  # the second one's up may yet be taken back
     Busy(blocker=1)
     >>> second.commit()
     >>> third.call(0, "dec:1"), shelf.kept(0)
-    (Operation(number=1, reply='ok'), 3)
+    (Operation(place=1, reply='ok'), 3)
+
+A number that has no table may take and give any amount, and answer what it is:
+
+    >>> text = "number purse\\nmax 10000\\ninitial 500\\ntake any\\ngive any\\nvalue\\nend\\n"
+    >>> purses = colock.Store([colock.Type(text, colock.Kind.ESCROW)], max_events=1_000_000)
+    >>> first, second = purses.begin(), purses.begin()
+    >>> first.call(0, "take:17"), second.call(0, "give:3")
+    (Operation(place=0, reply='ok', amount=17), Operation(place=2, reply='ok', amount=3))
+    >>> first.call(0, "value")  # the give may yet be aborted
+    Busy(blocker=1)
+    >>> second.commit()
+    >>> first.call(0, "value")
+    Operation(place=4, reply='486', amount=486)
 
 `Store.open` has the same store in a file, behind a child process, where each commit is durable when it returns:
 

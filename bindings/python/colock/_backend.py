@@ -34,7 +34,7 @@ class Backend(ABC):
 
     def call_of(self, x: int, name: str) -> Optional[int]:
         """The number of the call of this name at an object; None where it isn't there."""
-        return self.types[x]._calls.get(name) if x < len(self.types) else None
+        return self.types[x]._calls.number(name) if x < len(self.types) else None
 
     @abstractmethod
     def begin(self, worker: int) -> Optional[Tuple[int, int]]:

@@ -23,7 +23,7 @@ from ._errors import (
 )
 from ._events import Event, read_event
 from ._outcomes import archived, outcome_in
-from ._replies import Busy, Illegal, Operation, Reply
+from ._replies import Busy, Reply
 from ._types import Type
 
 if TYPE_CHECKING:
@@ -42,7 +42,6 @@ REFUSALS: Dict[str, Class[ColockError]] = {
     "BadRollback": BadRollback,
 }
 STATS = re.compile(rb"ok events ([0-9]+) begun [0-9]+ open ([0-9]+)")
-_ILLEGAL = Illegal()
 
 
 class Child(Backend):
@@ -62,8 +61,7 @@ class Child(Backend):
         self._open: Dict[int, int] = {}
         # the number of the request that was answered last
         self._answered = 0
-        self._replies = [_replies_of(of) for of in types]
-        self._names = [{c: name for name, c in of._calls.items()} for of in types]
+        self._calls = [of._calls for of in types]
         connection.on_loss = self.graph.ring_all
 
     # ---- requests
@@ -169,16 +167,16 @@ class Child(Backend):
 
     def _name_here(self, t: "Transaction", x: int, call: int) -> str:
         self.check(t)
-        if x >= len(self._names):
+        if x >= len(self._calls):
             raise NoObject(NoObject.__doc__)
-        name = self._names[x].get(call)
+        name = self._calls[x].name(call)
         if name is None:
             raise NoCall(NoCall.__doc__)
         return name
 
     def _call(self, t: "Transaction", verb: str, x: int, call: int, name: str) -> Reply:
         answer = self._ask(f"{verb} {t._life}.{t._number} {x} {name}")
-        reply = self._replies[x][call].get(answer)
+        reply = self._calls[x].answered(call, answer)
         if reply is not None:
             return reply
         if answer.startswith(b"busy "):
@@ -254,9 +252,9 @@ class Child(Backend):
 
     def call_number(self, x: int, name: str) -> int:
         self._check_connection()
-        if x >= len(self.types):
+        if x >= len(self._calls):
             raise NoObject(NoObject.__doc__)
-        call = self.types[x]._calls.get(name)
+        call = self._calls[x].number(name)
         if call is None:
             raise NoCall(NoCall.__doc__)
         return call
@@ -378,11 +376,3 @@ class Child(Backend):
     def __del__(self) -> None:
         if not self._is_closed:
             self._connection.let_go()
-
-
-def _replies_of(of: Type) -> Dict[int, Dict[bytes, Reply]]:
-    """By the number of a call, and the answer: what is said of it."""
-    replies: Dict[int, Dict[bytes, Reply]] = {c: {b"none": _ILLEGAL} for c in of._calls.values()}
-    for k, operation in enumerate(of.operations):
-        replies[of._calls[operation.call]][b"reply " + operation.reply.encode("ascii")] = Operation(k, operation.reply)
-    return replies

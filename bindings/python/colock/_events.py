@@ -1,8 +1,9 @@
 """The events of a store."""
 import enum
-from typing import NamedTuple, Sequence
+from typing import NamedTuple, Optional, Sequence
 
 from . import _library
+from ._operations import number_of, parts_of
 
 
 class EventKind(enum.IntEnum):
@@ -25,8 +26,9 @@ _KINDS = {kind.name.lower(): kind for kind in EventKind}
 class Event(NamedTuple):
     """An event, whose text is its line in a history.
 
-    `op` is the operation of an `OP`, and the number of the call of a `BUSY` or `NONE`. `other` is the blocker of
-    a `BUSY`, and the number of operations that a `ROLLBACK` took back. What a kind doesn't have is 0.
+    `op` is the place of the operation of an `OP`, whose `amount` is None where it has none, and the place of the call of a
+    `BUSY` or `NONE`. `other` is the blocker of a `BUSY`, and the number of operations that a `ROLLBACK` took back. What a
+    kind doesn't have is 0.
     """
 
     kind: EventKind
@@ -35,11 +37,14 @@ class Event(NamedTuple):
     object: int = 0
     op: int = 0
     other: int = 0
+    amount: Optional[int] = None
 
     def __str__(self) -> str:
         words = [self.kind.name.lower(), self.worker, self.transaction]
         if self.kind in _OF_OBJECTS:
             words += [self.object, self.op]
+        if self.amount is not None:
+            words.append(self.amount)
         if self.kind in _WITH_OTHER:
             words.append(self.other)
         return " ".join(map(str, words))
@@ -47,28 +52,32 @@ class Event(NamedTuple):
 
 def event_of(words: _library.Event) -> Event:
     """The event as it came over."""
-    return Event(EventKind(words.kind), words.worker, words.transaction, words.object, words.op, words.other)
+    place, amount = parts_of(words.op)
+    return Event(EventKind(words.kind), words.worker, words.transaction, words.object, place, words.other, amount)
 
 
 def read_event(words: Sequence[str]) -> Event:
     """The event of the words of a line in a history. Raises `ValueError` where it isn't one."""
     kind = _KINDS.get(words[0])
-    if kind is None or len(words) != 3 + 2 * (kind in _OF_OBJECTS) + (kind in _WITH_OTHER):
+    has_amount = kind is EventKind.OP and len(words) == 6
+    if kind is None or len(words) != 3 + 2 * (kind in _OF_OBJECTS) + (kind in _WITH_OTHER) + has_amount:
         raise ValueError(f"{' '.join(words)!r} isn't an event")
     worker, transaction, *rest = map(int, words[1:])
+    amount = rest.pop() if has_amount else None
     other = rest.pop() if kind in _WITH_OTHER else 0
     x, op = rest if kind in _OF_OBJECTS else (0, 0)
-    return Event(kind, worker, transaction, x, op, other)
+    return Event(kind, worker, transaction, x, op, other, amount)
 
 
 def words_of(event: Event) -> _library.Event:
     """The event as it goes over."""
     unsigned = _library.unsigned
+    amount = None if event.amount is None else unsigned("the amount", event.amount, 32)
     return _library.Event(
         transaction=unsigned("the transaction", event.transaction, 64),
         other=unsigned("the other number", event.other, 64),
         object=unsigned("the object", event.object, 32),
-        op=unsigned("the operation", event.op, 32),
+        op=number_of(unsigned("the place of the operation", event.op, 8), amount),
         kind=unsigned("the kind", event.kind, 32),
         worker=unsigned("the worker", event.worker, 32),
     )

@@ -5,6 +5,7 @@ Everything here is used under the lock of the store, but for `Graph.ring_all`, a
 import threading
 from typing import Dict, List, Optional, Sequence
 
+from ._operations import PLACES
 from ._types import Type
 
 
@@ -100,7 +101,7 @@ class Graph:
     def _goes_behind(self, number: int, object: int, call: int, sleeper: Sleeper) -> bool:
         if not self.has_gate or sleeper.number == number:
             return False
-        return (call, sleeper.call) in self._types[object]._blocks() and not self._leads(sleeper.number, number)
+        return (call % PLACES, sleeper.call % PLACES) in self._types[object]._blocks() and not self._leads(sleeper.number, number)
 
     # ---- edges
 

@@ -5,13 +5,15 @@ import os
 from typing import Any, Callable, Dict
 
 # The version of these calls, which the library has to have too.
-VERSION = 2
+VERSION = 3
 
 OK = 0
 NOT_OPEN = 1
+NO_CALL = 3
 NOT_HELD = 8
 BAD_TEXT = 10
 REFUSED = 11
+NO_OPERATION = 23
 NOT_LEGAL = 24
 LONGEST_NAME = 32
 
@@ -47,10 +49,11 @@ class Event(ctypes.Structure):
     _fields_ = [
         ("transaction", ctypes.c_uint64),
         ("other", ctypes.c_uint64),
+        ("op", ctypes.c_uint64),
         ("object", ctypes.c_uint32),
-        ("op", ctypes.c_uint32),
         ("kind", ctypes.c_uint32),
         ("worker", ctypes.c_uint32),
+        ("reserved", ctypes.c_uint32),
     ]
 
 
@@ -83,10 +86,10 @@ SIGNATURES: Dict[str, Any] = {
     "store_open": (_H, _64),
     "begin": (_H, _8, _P(_64)),
     "call": (_H, _8, _64, _32, _TEXT, _SIZE, _P(Answer)),
-    "call_op": (_H, _8, _64, _32, _8, _P(Answer)),
-    "call_number": (_H, _32, _TEXT, _SIZE, _P(_8)),
+    "call_op": (_H, _8, _64, _32, _64, _P(Answer)),
+    "call_number": (_H, _32, _TEXT, _SIZE, _P(_64)),
     "would": (_H, _64, _32, _TEXT, _SIZE, _P(Answer)),
-    "would_op": (_H, _64, _32, _8, _P(Answer)),
+    "would_op": (_H, _64, _32, _64, _P(Answer)),
     "commit": (_H, _8, _64),
     "abort": (_H, _8, _64),
     "rollback": (_H, _8, _64, _64),

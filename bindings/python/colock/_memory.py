@@ -8,7 +8,7 @@ from ._errors import NotFollowed, NotOpen, done, error_of
 from ._events import Event, event_of, words_of
 from ._library import functions, unsigned
 from ._outcomes import outcome_among
-from ._replies import Busy, Illegal, Operation, Reply
+from ._replies import Busy, Illegal, Reply
 from ._types import Type
 
 if TYPE_CHECKING:
@@ -35,7 +35,7 @@ class Memory(Backend):
         super().__init__(added)
         self.life = 0
         # the replies are made once, and what a call writes into is used again: all of it is under the lock
-        self._replies = [{k: Operation(k, op.reply) for k, op in enumerate(of.operations)} for of in added]
+        self._replies = [of._calls.replies for of in added]
         self._answer, self._number = _library.Answer(), ctypes.c_uint64()
         done(functions["store_open"](self._handle, limit))
 
@@ -48,13 +48,13 @@ class Memory(Backend):
         return self.life, self._number.value
 
     def check(self, t: "Transaction") -> None:
-        # the transaction is looked at before the object is, and to ask is no event
+        # the transaction is looked at before the object and the call are, and to ask is no event
         code = _WOULD_OP(self._handle, t._number, 0, 0, self._answer) if t._life == self.life else _library.NOT_OPEN
-        if code:
+        if code not in (_library.OK, _library.NO_CALL):
             raise error_of(code)
 
     def is_open(self, life: int, number: int) -> bool:
-        return life == self.life and _WOULD_OP(self._handle, number, 0, 0, self._answer) == _library.OK
+        return life == self.life and _WOULD_OP(self._handle, number, 0, 0, self._answer) in (_library.OK, _library.NO_CALL)
 
     def is_stale(self, t: "Transaction", blocker: int) -> bool:
         return False
@@ -132,7 +132,7 @@ class Memory(Backend):
     # ---- the store
 
     def call_number(self, x: int, name: str) -> int:
-        call, content = ctypes.c_uint8(), name.encode("utf-8", "surrogatepass")
+        call, content = ctypes.c_uint64(), name.encode("utf-8", "surrogatepass")
         done(functions["call_number"](self._handle, x, content, len(content), call))
         return call.value
 

@@ -1,7 +1,9 @@
 """What a call is answered."""
 from dataclasses import dataclass
+from typing import Optional
 
 from ._errors import WasBusy, WasIllegal
+from ._operations import number_of
 
 
 class Reply:
@@ -12,15 +14,28 @@ class Reply:
         raise NotImplementedError
 
 
-@dataclass(frozen=True)
+@dataclass(frozen=True, repr=False)
 class Operation(Reply):
-    """The operation of this number was executed, with this reply."""
+    """The operation at this place was executed, with this reply.
 
-    number: int
+    It has an amount where its call may have any, and where a value was asked for, which is the amount.
+    """
+
+    place: int
     reply: str
+    amount: Optional[int] = None
+
+    @property
+    def number(self) -> int:
+        """The number by which a type knows it: the place, and with the amount n 256 * (n + 1) more."""
+        return number_of(self.place, self.amount)
 
     def executed(self) -> "Operation":
         return self
+
+    def __repr__(self) -> str:
+        amount = "" if self.amount is None else f", amount={self.amount}"
+        return f"Operation(place={self.place}, reply={self.reply!r}{amount})"
 
 
 @dataclass(frozen=True)

@@ -240,7 +240,8 @@ class Store:
     def call_number(self, object: int, name: str) -> int:
         """The number of the call of this name at an object, for `Transaction.call_op`.
 
-        Raises `NoObject`, `NoCall`, `Closed` or `ConnectionLost`.
+        It is that of the first operation that has the name: below 256 its place, and with the amount n 256 * (n + 1) more.
+                Raises `NoObject`, `NoCall`, `Closed` or `ConnectionLost`.
         """
         x = unsigned("the object", object, 32)
         with self._lock:

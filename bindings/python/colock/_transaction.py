@@ -69,7 +69,7 @@ class Transaction:
 
     def call_op(self, object: int, call: int, wait: Optional[float] = None) -> Reply:
         """Calls the call of this number, for which `Store.call_number` is asked once. As `call`."""
-        x, c, store = unsigned("the object", object, 32), unsigned("the call", call, 8), self._store
+        x, c, store = unsigned("the object", object, 32), unsigned("the call", call, 64), self._store
         if wait is not None and self._is_call(x, c):
             return store._waiting.call(self, x, c, wait)
         with store._lock:
@@ -90,7 +90,7 @@ class Transaction:
 
     def would_op(self, object: int, call: int) -> Reply:
         """What `call_op` would be answered now, without `wait`. Raises as `call`."""
-        x, c, store = unsigned("the object", object, 32), unsigned("the call", call, 8), self._store
+        x, c, store = unsigned("the object", object, 32), unsigned("the call", call, 64), self._store
         with store._lock:
             if not store._sleepers or not self._is_call(x, c):
                 return store._backend.would_op(self, x, c)
@@ -105,7 +105,7 @@ class Transaction:
     def _is_call(self, x: int, call: int) -> bool:
         """Whether the object has a call of this number."""
         types = self._store._backend.types
-        return x < len(types) and call in types[x]._calls.values()
+        return x < len(types) and types[x]._calls.name(call) is not None
 
     def rollback(self, operations: int) -> None:
         """Takes back its last operations, over all objects together. It stays open, and who waits for it looks anew.

@@ -3,12 +3,14 @@ import ctypes
 import enum
 import operator
 import threading
-from typing import Any, Callable, Dict, FrozenSet, Hashable, Iterable, List, NamedTuple, Optional, Sequence, Tuple, TypeVar, Union, cast
+from typing import Any, Callable, FrozenSet, Hashable, Iterable, List, NamedTuple, Optional, Sequence, Tuple, TypeVar, Union, cast
 
 from . import _library
 from ._bounds import Bounds, bounds_of, may_block
+from ._calls import Calls
 from ._errors import BadParameter, NoOperation, done, type_error
 from ._library import functions, unsigned
+from ._operations import number_of
 from ._steps import grid, labelled
 
 
@@ -35,7 +37,7 @@ class TypeOperation(NamedTuple):
     reply: str
 
 
-# How an operation is named: by its number, or by its call and reply.
+# How an operation is named: by its number (`Operation.number`), or by its call and reply.
 OperationName = Union[int, Tuple[str, str]]
 S = TypeVar("S", bound=Hashable)
 
@@ -62,15 +64,16 @@ class Type:
     """How many states there are: they are the numbers below."""
     initial: int
     operations: Tuple[TypeOperation, ...]
-    """The operations by their numbers."""
+    """The operations that it lists, by their places; with any amount as ("take:any", "ok"), and a value as ("value", "n")."""
     labels: Optional[Tuple[Hashable, ...]]
     """The states by their numbers, as the function of `from_steps` has them; None of any other type."""
 
     def __init__(self, text: Union[str, bytes], kind: Kind = Kind.UNDO) -> None:
         """The type of a text, with its own conflicts, which for `Kind.ESCROW` aren't looked at.
 
-        A text whose first word is `number` is of a number up to 4,294,967,295 with listed amounts, which has no table and
-        is for `Kind.ESCROW` alone. Raises `BadText`, `NeedsEscrow`, `Refused` or `NoMemory`.
+        A text whose first word is `number` is of a number up to 4,294,967,295, which has no table and is for `Kind.ESCROW`
+        alone. It lists amounts, or with `take any` and `give any` takes and gives each one from 1 to the greatest number,
+        as `take:17`; with `value` it answers what it is. Raises `BadText`, `NeedsEscrow`, `Refused` or `NoMemory`.
         """
         content = _bytes(text)
         self._make(Source(content), "type_read", kind, content, len(content))
@@ -211,19 +214,22 @@ class Type:
         self.kind, self.states, self.initial = Kind(shape.kind), shape.states, shape.initial
         self.name = _told(lambda *room: functions["type_name"](self._handle, *room))
         self.operations = tuple(map(self._operation, range(shape.ops)))
-        self._numbers = {(of.call, of.reply): k for k, of in enumerate(self.operations)}
-        self._calls = _first_of_calls(self.operations)
+        self._calls = Calls(self.operations, list(map(self._has_amounts, range(shape.ops))), self.states - 1)
 
     def _operation(self, k: int) -> TypeOperation:
         call = _told(lambda *room: functions["type_call"](self._handle, k, *room))
         return TypeOperation(call, _told(lambda *room: functions["type_reply"](self._handle, k, *room)))
 
-    def step(self, state: int, operation: int) -> Optional[int]:
+    def _has_amounts(self, place: int) -> bool:
+        """Whether the operations at a place have amounts: then the place alone is none."""
+        return functions["type_step"](self._handle, 0, place, ctypes.c_uint64()) == _library.NO_OPERATION
+
+    def step(self, state: int, operation: OperationName) -> Optional[int]:
         """The state to which an operation leads from a state; None where it isn't legal there.
 
-        Raises `NoState`, `NoOperation` or `Closed`.
+        It is a number, or a pair of a call and a reply. Raises `NoState`, `NoOperation` or `Closed`.
         """
-        s, k, to = unsigned("the state", state, 64), unsigned("the operation", operation, 64), ctypes.c_uint64()
+        s, k, to = unsigned("the state", state, 64), self._number_of(operation), ctypes.c_uint64()
         with self._lock:
             code = functions["type_step"](self._handle, s, k, to)
         if code == _library.NOT_LEGAL:
@@ -234,8 +240,8 @@ class Type:
     def conflicts(self, requested: OperationName, held: OperationName) -> bool:
         """Whether an operation that is requested conflicts with one that another transaction holds.
 
-        Of `Kind.ESCROW` none do, since it has no conflict table. Each is a number, or a pair of a call and a reply.
-        Raises `NoOperation` or `Closed`.
+        Of `Kind.ESCROW` none do, since it has no conflict table. Each is a place, or a pair of a call and a reply.
+        Raises `NoOperation`, also of one with an amount, or `Closed`.
         """
         return self._conflicts(self._number_of(requested), self._number_of(held))
 
@@ -248,13 +254,15 @@ class Type:
     def _number_of(self, operation: OperationName) -> int:
         if not isinstance(operation, tuple):
             return unsigned("the operation", operation, 64)
-        number = self._numbers.get(operation)
-        if number is None:
+        found = self._calls.found(operation)
+        if found is None:
             raise NoOperation(f"the type has no operation {' '.join(map(str, operation))}")
-        return number
+        return found.number
 
     def _blocks(self) -> FrozenSet[Tuple[int, int]]:
-        """The pairs of calls, by their numbers, of which the first, once executed, may be in the way of the second.
+        """The pairs of calls, by their first places, of which the first, once executed, may be in the way of the second.
+
+        Amounts are of no account for that.
 
         Raises `Closed` where it wasn't asked before.
         """
@@ -263,7 +271,7 @@ class Type:
         return self._pairs
 
     def _blocking_pairs(self) -> Iterable[Tuple[int, int]]:
-        call_of = [self._calls[of.call] for of in self.operations]
+        call_of = [row.first for row in self._calls.rows]
         numbers, blocks = range(len(call_of)), self._blocking_test()
         return ((call_of[held], call_of[asked]) for held in numbers for asked in numbers if blocks(asked, held))
 
@@ -271,17 +279,31 @@ class Type:
         """Whether an operation that is held may be in the way of one that is requested, which comes first."""
         if self.kind is not Kind.ESCROW:
             return self._conflicts
-        bounds = list(map(self._bounds, range(len(self.operations))))
-        return lambda asked, held: may_block(bounds[asked], bounds[held])
+        bounds = list(map(self._bounds_at, range(len(self.operations))))
+        return lambda asked, held: any(may_block(one, other) for one in bounds[asked] for other in bounds[held])
 
     def _bounds(self, operation: int) -> Optional[Bounds]:
-        """Between which states an operation of a numeric type is legal."""
+        """Between which states an operation of a numeric type is legal. It is no value but 0 or the greatest one."""
         return bounds_of(self.states, lambda state: self.step(state, operation))
+
+    def _bounds_at(self, place: int) -> Tuple[Optional[Bounds], ...]:
+        """The bounds of operations at a place that stand for all of them: whether they block others is the same for each
+        amount. A take blocks a value that is great enough, and a give one that is small enough.
+        """
+        row, greatest = self._calls.rows[place], self.states - 1
+        if not row.has_amounts:
+            return (self._bounds(place),)
+        if row.has_values:
+            return self._bounds(number_of(place, 0)), self._bounds(number_of(place, greatest))
+        # of 32 lines one is for any amount, so that of so many amounts one isn't listed, where there are so many
+        amounts = range(1, min(greatest, 32) + 1)
+        least = next((amount for amount in amounts if self._calls.name(number_of(row.first, amount)) is not None), None)
+        return () if least is None else (self._bounds(number_of(place, least)),)
 
     def _steps(self, operation: int) -> Any:
         """The states to which an operation leads from each state. Of a number it is the bounds, which say as much."""
         if self.kind is Kind.ESCROW:
-            return self._bounds(operation)
+            return self._bounds_at(operation)
         return tuple(self.step(s, operation) for s in range(self.states))
 
     def _compared(self) -> Tuple[Any, ...]:
@@ -331,14 +353,6 @@ def _words(numbers: Iterable[int], word: Any) -> Tuple[Any, int]:
 def _family(family: str, size: int, items: Sequence[object]) -> Source:
     """The words by which `colock make` writes the type of a family."""
     return Source(words=(family, str(size), *(item if isinstance(item, str) else str(operator.index(cast(int, item))) for item in items)))
-
-
-def _first_of_calls(operations: Sequence[TypeOperation]) -> Dict[str, int]:
-    """The numbers of the calls: each is that of the first operation that has its name."""
-    calls: Dict[str, int] = {}
-    for k, of in enumerate(operations):
-        calls.setdefault(of.call, k)
-    return calls
 
 
 def _spaced(names: Sequence[str]) -> bytes:

@@ -18,7 +18,8 @@ import threading
 import time
 
 import colock
-from colock import Busy, EventKind, Kind, Operation, Store, Type
+from colock import Busy, EventKind, Kind, NoOperation, Operation, Store, Type
+from colock._operations import number_of
 from colock._opening import find_program
 
 THREADS = 8
@@ -46,6 +47,26 @@ def drawn_number(source):
     return Type("\n".join([*lines, "end", ""]), Kind.ESCROW)
 
 
+def drawn_purse(source):
+    """A small number with drawn lines, of which any amount is taken or given, or the value told."""
+    top = source.randint(2, 6)
+    lines = [f"take {source.randint(1, top)}", "take any", f"give {source.randint(1, top)}", "give any", f"atleast {source.randint(1, top)}", "value"]
+    drawn = [line for line in lines if source.random() < 0.6] or ["take any", "value"]
+    return Type("\n".join(["number purse", f"max {top}", f"initial {source.randint(0, top)}", *drawn, "end", ""]), Kind.ESCROW)
+
+
+def operations_of(of):
+    """The numbers of the operations of each call of a type, by its name, in ascending order; with amounts of a small number alone."""
+    calls = {}
+    for number in sorted(number_of(place, amount) for place in range(len(of.operations)) for amount in (None, *range(min(of.states, 10)))):
+        try:
+            of.step(0, number)
+        except NoOperation:
+            continue
+        calls.setdefault(of._operation(number).call, []).append(number)
+    return calls
+
+
 def drawn_type(source):
     """A type of a few states and operations with drawn steps, or one of a family."""
     kind, which = source.choice(list(Kind)), source.randrange(6)
@@ -54,7 +75,7 @@ def drawn_type(source):
     if which == 1:
         return Type.account(source.randint(2, 6), [1, 2], kind)
     if kind == Kind.ESCROW:
-        return drawn_number(source)
+        return drawn_number(source) if which < 4 else drawn_purse(source)
     if which == 2:
         return Type.set(["a", "b"], kind)
     if which == 3:
@@ -83,7 +104,7 @@ class Work:
         self.committed = {}
         self.wrong = []
         self.lock = threading.Lock()
-        self.calls = [sorted(of._calls) for of in store._backend.types]
+        self.calls = [sorted(operations_of(of)) for of in store._backend.types]
 
     def next(self):
         """Whether another transaction is to be done."""
@@ -149,7 +170,7 @@ class Turn:
             reply = t.call(x, name, wait)
         self.work.moves[self.worker] += 1
         if isinstance(reply, Operation):
-            self.told.append((x, reply.number))
+            self.told.append((x, reply.place, reply.amount))
         elif wait is not None and isinstance(reply, Busy):
             raise AssertionError(f"a call that waits was told {reply}")
         return reply
@@ -297,7 +318,7 @@ def found(events):
     done, committed = {}, {}
     for event in events:
         if event.kind == EventKind.OP:
-            done.setdefault(event.transaction, []).append((event.object, event.op))
+            done.setdefault(event.transaction, []).append((event.object, event.op, event.amount))
         elif event.kind == EventKind.ROLLBACK:
             del done[event.transaction][-event.other :]
         elif event.kind == EventKind.COMMIT:

@@ -56,6 +56,9 @@ reach 0
 end
 """
 
+# A purse, of which any amount is taken and given, 100 by a line of its own, and what is in it is told.
+PURSE = "number purse\nmax 10000\ninitial 500\ntake 100\ntake any\ngive any\nvalue\nend\n"
+
 
 def program():
     """The path of the program. A test that needs it fails in words where it isn't there."""
@@ -176,12 +179,12 @@ def requests():
         yield tag, words
 
 
-def opened(greeting="colock 2 5\\n"):
+def opened(greeting="colock 3 5\\n", kind="{kind}"):
     '''Greets, and answers what a client asks as it opens; then the requests that follow.'''
     say(greeting)
     for tag, words in requests():
         if words[0] == "objects":
-            say(f"{{tag}} object undo 0\\n{{tag}} ok\\n")
+            say(f"{{tag}} object {{kind}} 0\\n{{tag}} ok\\n")
         elif words[0] == "types":
             say("".join(f"{{tag}} {{line}}\\n" for line in TYPE.split("\\n")) + f"{{tag}} ok\\n")
         else:
@@ -195,11 +198,14 @@ def opened(greeting="colock 2 5\\n"):
 class Fakes(unittest.TestCase):
     """Tests with programs that answer as they like."""
 
+    # the type of the one object, and its kind
+    type, kind = TWO, "undo"
+
     def fake(self, body):
         """The path of a program of this body."""
         path = os.path.join(folder_of(self), "fake")
         with open(path, "w", encoding="utf-8") as file:
-            file.write(FAKE.format(python=sys.executable, type=TWO, body=body))
+            file.write(FAKE.format(python=sys.executable, type=self.type, kind=self.kind, body=body))
         os.chmod(path, 0o755)
         return path
 

@@ -51,8 +51,12 @@ class Calls:
     def test_numbers_are_not_cut(self):
         store = self.make([COUNTER] * 2)
         t = store.begin()
-        for act in (lambda n: t.call_op(0, n), lambda n: t.would_op(0, n), store.begin):
-            self.assertRaises(OverflowError, act, 256)
+        self.assertRaises(OverflowError, store.begin, 256)
+        for act in (lambda n: t.call_op(0, n), lambda n: t.would_op(0, n), lambda n: t.call_op(0, n, wait=1)):
+            for number in (256, (1 << 40) + 256, (1 << 64) - 1):
+                self.assertRaises(colock.NoCall, act, number)
+            self.assertRaises(OverflowError, act, 1 << 64)
+            self.assertRaises(OverflowError, act, -1)
         for act in (store.kept, lambda n: store.call_number(n, "inc:1"), lambda n: t.call(n, "inc:1"), lambda n: t.would(n, "inc:1"), lambda n: t.call(n, "inc:1", wait=1)):
             self.assertRaises(OverflowError, act, 1 << 32)
             self.assertRaises(OverflowError, act, -1)

@@ -64,7 +64,7 @@ class Opening(Files):
         ]
         types += [Type.account(5, [1, 2], Kind.INTENTIONS), types[0], Type(FIVE, Kind.ESCROW), Type.counter(5, [1, 2], Kind.ESCROW)]
         types.append(Type.from_steps("box", 2, [("put", "ok"), ("get", "ok")], step, Kind.ESCROW))
-        types.append(Type.number(1_000_000, [250]))
+        types += [Type.number(1_000_000, [250]), Type(support.PURSE, Kind.ESCROW)]
         with self.open(types, create=True) as store:
             made = store._backend.types
             self.assertEqual([of._compared() for of in made], [of._compared() for of in types])
@@ -72,8 +72,8 @@ class Opening(Files):
             with store.begin() as t:
                 self.assertEqual(t.call(4, "insert:-a"), Operation(0, "ok"))
                 self.assertEqual([t.call(6, "get"), t.call(6, "put")], [colock.Illegal(), Operation(0, "ok")])
-                self.assertEqual(t.call(12, "give:250"), Operation(2, "ok"))
-            self.assertEqual([store.kept(x) for x in (9, 10, 11, 12)], [3, 0, 2, 250])
+                self.assertEqual((t.call(12, "give:250"), t.call(13, "take:17")), (Operation(2, "ok"), Operation(2, "ok", 17)))
+            self.assertEqual([store.kept(x) for x in (9, 10, 11, 12, 13)], [3, 0, 2, 250, 483])
 
     def test_other_objects(self):
         self.open([COUNTER, Type(TWO)], create=True).close()

@@ -270,15 +270,16 @@ class Stores(unittest.TestCase):
         store = counters(2)
         t = store.begin(255)
         event = store.events()[0]
-        for act in (
-            lambda n: store.begin(n), lambda n: t.call_op(0, n),
-            lambda n: t.would_op(0, n),
-        ):
+        for act in (store.begin, lambda n: store.follow([event._replace(op=n)])):
             self.assertRaises(OverflowError, act, 256)
+        for act in (lambda n: t.call_op(0, n), lambda n: t.would_op(0, n)):
+            self.assertRaises(colock.NoCall, act, 256)
+            self.assertRaises(OverflowError, act, 1 << 64)
         for act in (
             store.kept, lambda n: store.call_number(n, "inc:1"), lambda n: t.call(n, "inc:1"), lambda n: t.call_op(n, 0),
             lambda n: t.would(n, "inc:1"), lambda n: t.would_op(n, 0), lambda n: store.follow([event._replace(object=n)]),
             lambda n: store.follow([event._replace(worker=n)]), lambda n: store.follow([event._replace(op=n)]),
+            lambda n: store.follow([event._replace(amount=n)]),
         ):
             self.assertRaises(OverflowError, act, 1 << 32)
             self.assertRaises(OverflowError, act, -1)

@@ -26,10 +26,10 @@ class Enemy(unittest.TestCase):
         event = enemy.colock.Event
         kind = enemy.EventKind
         events = [event(kind.BEGIN, 0, 0), event(kind.OP, 0, 0, 1, 2), event(kind.OP, 0, 0, 1, 3), event(kind.ROLLBACK, 0, 0, 0, 0, 1), event(kind.COMMIT, 0, 0)]
-        self.assertEqual(enemy.found(events), {0: [(1, 2)]})
+        self.assertEqual(enemy.found(events), {0: [(1, 2, None)]})
         with support.colock.Store([support.colock.Type(support.TWO)], 9) as store:
             work = enemy.Work(store, 0, 1, False)
-            work.committed["0.0"] = [(1, 2)]
+            work.committed["0.0"] = [(1, 2, None)]
             enemy.check(work, events)
             work.committed["0.0"] = [(1, 3)]
             self.assertRaises(enemy.Stuck, enemy.check, work, events)

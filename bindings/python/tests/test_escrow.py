@@ -169,8 +169,8 @@ class Model:
     """A number by its definition: an operation is admitted where all that is open stays legal, whatever becomes of it."""
 
     def __init__(self, of):
-        self.operations, self.number, self.open = of.operations, of.initial, {}
-        self.steps = {(s, k): of.step(s, k) for s in range(of.states) for k in range(len(of.operations))}
+        self.calls, self.number, self.open = enemy.operations_of(of), of.initial, {}
+        self.steps = {(s, k): of.step(s, k) for s in range(of.states) for numbers in self.calls.values() for k in numbers}
 
     def end(self, number, operations):
         """Where operations lead from a number; None where one of them isn't legal."""
@@ -193,7 +193,7 @@ class Model:
     def call(self, t, name):
         """The operation that is executed, True where the call is busy, or None where it is illegal."""
         view = self.end(self.number, self.open[t])
-        legal = [k for k, of in enumerate(self.operations) if of.call == name and self.steps[view, k] is not None]
+        legal = [k for k in self.calls[name] if self.steps[view, k] is not None]
         for k in legal:
             more = {**self.open, t: [*self.open[t], k]}
             if self.is_safe(self.number, more, set()):
@@ -205,10 +205,9 @@ class Model:
 class Pair:
     """A store of a number, and the model of it, to which the same is done."""
 
-    def __init__(self, test, source):
-        of = enemy.drawn_number(source)
+    def __init__(self, test, source, of):
         self.test, self.source, self.model, self.store = test, source, Model(of), test.make([of])
-        self.begun, self.names = {}, sorted(of._calls)
+        self.begun, self.names = {}, sorted(self.model.calls)
 
     def act(self):
         """Does something that is drawn, and returns what came of a call."""
@@ -265,7 +264,7 @@ class EscrowInMemory(support.InMemory, Numbers, Waits, unittest.TestCase):
         """A call is busy exactly where something that may still happen would make illegal what is open."""
         source, told = random.Random(1), []
         for _ in range(60):
-            pair = Pair(self, source)
+            pair = Pair(self, source, enemy.drawn_number(source))
             told += [pair.act() for _ in range(80)]
         # what isn't met isn't tested
         self.assertGreater(min(told.count(word) for word in ("Operation", "Busy", "Illegal")), 200)

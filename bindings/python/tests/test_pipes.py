@@ -5,10 +5,47 @@ import support
 from support import LONG, SOON, Run, Timed, asleep, is_running, pid_of, until
 
 import colock
-from colock import Busy, Operation
+from colock import Busy, Event, EventKind, Operation
+from colock._operations import number_of
 
 # This many seconds an answer may take, where a test has none come: a program has to start in less.
 LIMIT = 3
+
+
+class Amounts(support.Fakes):
+    """A program that serves a purse."""
+
+    type, kind = support.PURSE, "escrow"
+
+    def answering(self, answers):
+        """A program that answers so, by the words of a request."""
+        return f"for tag, words in opened():\n    say({answers!r}[' '.join(words[:1] + words[3:])].format(tag).replace('|', '\\n') + '\\n')"
+
+    def test_amounts_are_asked_and_told(self):
+        told = {
+            "begin": "{0} ok 5.0", "call take:17": "{0} reply ok", "call take:501": "{0} reply short", "call value": "{0} reply 483", "call take:100": "{0} reply ok",
+            "would give:3": "{0} busy 5.7", "call take:18": "{0} refused NoCall", "end": "{0} ok",
+            "events": "{0} op 0 0 0 2 17|{0} op 0 0 0 6 483|{0} op 0 0 0 0|{0} busy 0 1 0 6 0|{0} ok",
+        }
+        store = self.open(self.answering(told))
+        t = store.begin()
+        short = number_of(2, 501)
+        self.assertEqual((t.call(0, "take:17"), t.call_op(0, short), t.call(0, "value")), (Operation(2, "ok", 17), Operation(3, "short", 501), Operation(6, "483", 483)))
+        self.assertEqual((t.call(0, "take:100"), t.would(0, "give:3")), (Operation(0, "ok"), Busy(7)))
+        # these aren't asked at all
+        for name in ("take:0", "take:007", "take:10001", "take:any"):
+            self.assertRaises(colock.NoCall, t.call, 0, name)
+        self.assertRaises(colock.NoCall, t.call, 0, "take:18")
+        wanted = [Event(EventKind.OP, 0, 0, 0, 2, 0, 17), Event(EventKind.OP, 0, 0, 0, 6, 0, 483), Event(EventKind.OP, 0, 0), Event(EventKind.BUSY, 0, 1, 0, 6)]
+        self.assertEqual(store.events(), wanted)
+
+    def test_wrong_amounts_are_no_answers(self):
+        for call, answer in [("value", "reply 10001"), ("value", "reply n"), ("value", "reply 007"), ("take:17", "reply 17"), ("take:17", "reply full")]:
+            store = self.open(self.answering({"begin": "{0} ok 5.0", f"call {call}": f"{{0}} {answer}"}))
+            self.assertRaises(colock.ConnectionLost, store.begin().call, 0, call)
+        for line in ("op 0 0 0 2 17 3", "op 0 0 0 2 x", "op 0 0 0", "busy 0 1 0 6 17 0", "none 0 1 0 6 17", "begin 0 0 17"):
+            store = self.open(self.answering({"events": f"{{0}} {line}|{{0}} ok"}))
+            self.assertRaises(colock.ConnectionLost, store.events)
 
 
 @unittest.skipIf(support.QUICK, "it takes seconds, and is the same wherever the package is")
@@ -18,7 +55,7 @@ class Pipes(support.Fakes):
     def test_no_greeting(self):
         for body, words in [
             ("time.sleep(60)", "no answer within 0.4 seconds"),
-            ("say('colock 2 5'); time.sleep(60)", "no answer within 0.4 seconds"),
+            ("say('colock 3 5'); time.sleep(60)", "no answer within 0.4 seconds"),
         ]:
             with Timed() as timed:
                 with self.assertRaises(colock.CannotOpen) as raised:
@@ -28,8 +65,9 @@ class Pipes(support.Fakes):
 
     def test_wrong_greetings(self):
         for greeting, words in [
-            ("colock 1 5", "speaks version 1"), ("colock 2.1 5", "speaks version 2.1"), ("hello", "no greeting"), ("", "no greeting"),
-            ("colock 2 05", "no greeting"), ("colock 2 5 ", "no greeting"), ("colock 2 \\xff", "no greeting"), ("t ok", "no greeting"),
+            ("colock 1 5", "speaks version 1, and this package 3"), ("colock 2 5", "speaks version 2, and this package 3"),
+            ("colock 4 5", "speaks version 4"), ("colock 3.1 5", "speaks version 3.1"), ("hello", "no greeting"), ("", "no greeting"),
+            ("colock 3 05", "no greeting"), ("colock 3 5 ", "no greeting"), ("colock 3 \\xff", "no greeting"), ("t ok", "no greeting"),
         ]:
             with self.assertRaises(colock.CannotOpen) as raised:
                 self.open(f"list(opened('{greeting}\\n'))")
@@ -38,7 +76,7 @@ class Pipes(support.Fakes):
     def test_it_ends_at_once(self):
         for body, words in [
             ("sys.exit('it has no wish')", "it has no wish"), ("sys.exit(3)", "status 3"), ("os.kill(os.getpid(), 9)", "SIGKILL"),
-            ("say('colock 2 5\\n'); sys.exit('then it ended')", "then it ended"),
+            ("say('colock 3 5\\n'); sys.exit('then it ended')", "then it ended"),
         ]:
             with self.assertRaises(colock.CannotOpen) as raised:
                 self.open(body)
@@ -53,7 +91,7 @@ class Pipes(support.Fakes):
             ("{0} object escrow 0|{0} ok", "".join(f"{{0}} {line}|" for line in ("type t", "states 2", "initial 0", "op a b", "step 0 0 1", "step 1 0 1", "end", "")) + "{0} ok"),
         ]:
             answers = {"objects": objects + "|", "types": types + "|"}
-            body = f"say('colock 2 5\\n')\nfor tag, words in requests():\n    say({answers!r}[words[0]].format(tag).replace('|', '\\n'))"
+            body = f"say('colock 3 5\\n')\nfor tag, words in requests():\n    say({answers!r}[words[0]].format(tag).replace('|', '\\n'))"
             with self.assertRaises(colock.CannotOpen):
                 self.open(body)
 

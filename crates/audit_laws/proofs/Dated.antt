@@ -1,7 +1,6 @@
 -- What had committed when an operation that survives was executed precedes its transaction. To see it each operation is given its place among
 -- the events for its number: then what survives tells its place.
-use Rattle.std.proofs.Common.{◌≡◌, ℕ, zero, suc, ◌+◌, ◌-◌, ◌<◌, Bool, true, false, not, cond, ◌&&◌, ◌==◌, nat_lt, List, [], ◌∷◌, ◌++◌, length, map, filter, fold, take, Option, Some, None, slice_get, refl, sym, ap, subst, ◌∙◌, inl, inr, append-nil, append_assoc, length-append, arith}
-use Rattle.std.specs.Prelude.{if◌then◌else◌}
+use Rattle.std.proofs.Common.{◌≡◌, ℕ, zero, suc, ◌+◌, ◌-◌, true, false, ◌==◌, List, [], ◌∷◌, ◌++◌, length, filter, fold, take, refl, sym, ap, subst, ◌∙◌, inl, inr, append_assoc, length-append, arith}
 use Rattle.std.specs.List.{AllByRecursion}
 use Rattle.std.proofs.lemmas.Bool.{cases_Bool, eq-eqb}
 use Rattle.std.proofs.lemmas.List.{take-append-le, take_all}
@@ -14,7 +13,7 @@ use Rattle.object_trait.specs.declared.event.EventKind.TheVariants.{Begin, Op, B
 use Rattle.serial_order.specs.Operations.{is_among, is_by, of}
 use Rattle.serial_order.specs.History.{aborts, aborted_by, commits, survive_after, surviving}
 use Rattle.serial_order.specs.Laws.{SurvivesAsRead}
-use Rattle.serial_order.specs.Readings.{is_op_of, is_rolled_back, stays, survivor_op, survivors, taken_back}
+use Rattle.serial_order.specs.Readings.{is_op_of, stays, survivor_op, survivors, taken_back}
 use Rattle.serial_order.specs.declared.entry.Entry.{Entry}
 use Rattle.serial_order.proofs.Events.{commits-snoc}
 use Rattle.serial_order.proofs.Reach.{reach, rolled_back-reach}

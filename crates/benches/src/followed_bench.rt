@@ -14,6 +14,7 @@ use std::rt::Files;
 use std::sync::Arc;
 use store::{Store, Stray, follow, replay};
 use table_checker::{CheckedType, Kind};
+use type_table::Operation;
 use undo_manager::UndoManager;
 
 const USAGE: &str = "usage: benches followed undo|intentions|escrow NUMBERS FILE..";
@@ -125,13 +126,13 @@ struct Told {
     made: u32,
 }
 
-/// A history of the plain program: the numbers of its events, an event that is to follow those before a
+/// A history of the plain program: the numbers of its events, those of an event that is to follow those before a
 /// place, whether that one is made there, and the states that are kept at the end.
 #[derive(Clone, Copy)]
 struct Plain<'a> {
     numbers: &'a [u32],
     place: usize,
-    other: Event,
+    other: &'a [u32],
     is_made: bool,
     kept: &'a [u32],
 }
@@ -181,14 +182,14 @@ fn follow_first<'a, M: Fresh>(
 fn first_of(numbers: &[u32], objects: usize) -> Option<(Plain<'_>, &[u32])> {
     let (count, numbers) = numbers.split_first()?;
     let (events, numbers) = numbers.split_at_checked((*count as usize).saturating_mul(WORDS))?;
-    let [place, w, kind, t, x, c, u, is_made, numbers @ ..] = numbers else {
-        return None;
-    };
+    let (place, numbers) = numbers.split_first()?;
+    let (other, numbers) = numbers.split_at_checked(WORDS)?;
+    let (is_made, numbers) = numbers.split_first()?;
     let (kept, numbers) = numbers.split_at_checked(objects)?;
     let plain = Plain {
         numbers: events,
         place: *place as usize,
-        other: event_of(*w, *kind, *t, *x, *c, *u),
+        other,
         is_made: *is_made == 1,
         kept,
     };
@@ -199,11 +200,25 @@ fn first_of(numbers: &[u32], objects: usize) -> Option<(Plain<'_>, &[u32])> {
 fn events_of(alloc: Global, numbers: &[u32]) -> Result<Vec<Event>, AllocError> {
     let mut events = Vec::new(alloc);
     for words in numbers.chunks_exact(WORDS) {
-        if let [w, kind, t, x, c, u] = words {
-            events.push(event_of(*w, *kind, *t, *x, *c, *u))?;
-        }
+        push_event(&mut events, words)?;
     }
     Ok(events)
+}
+
+/// Adds the event of these numbers to others.
+fn push_event(events: &mut Vec<Event>, words: &[u32]) -> Result<(), AllocError> {
+    if let Some(Event { worker, kind }) = event_in(words) {
+        events.push(Event { worker, kind })?;
+    }
+    Ok(())
+}
+
+/// The event of these numbers, where they are as many as an event has.
+fn event_in(words: &[u32]) -> Option<Event> {
+    match words {
+        [w, kind, t, x, c, u] => Some(event_of(*w, *kind, *t, *x, *c, *u)),
+        _ => None,
+    }
 }
 
 /// The event of a worker, of this kind and with these numbers.
@@ -212,7 +227,11 @@ fn event_of(w: u32, kind: u32, t: u32, x: u32, c: u32, u: u32) -> Event {
     let (worker, c) = ((w % 256) as u8, (c % 256) as u8);
     let kind = match kind {
         0 => EventKind::Begin { t },
-        1 => EventKind::Op { t, x, k: c },
+        1 => EventKind::Op {
+            t,
+            x,
+            k: Operation::listed(c),
+        },
         2 => EventKind::Busy { c, t, x, u },
         3 => EventKind::None { t, x, c },
         4 => EventKind::Commit { t },
@@ -306,23 +325,26 @@ fn tells_behind<M: Recovery>(
     behind: &[Event],
     plain: Plain,
 ) -> Result<bool> {
+    let Some(other) = event_in(plain.other) else {
+        return Ok(false);
+    };
     if plain.is_made {
-        return Ok(is_made(store, before, plain.other));
+        return Ok(is_made(store, before, &other));
     }
     let kept = states_of(alloc, store)?;
-    Ok(is_left(store, before, plain.other, &kept) && goes_on(store, behind, plain.kept))
+    Ok(is_left(store, before, &other, &kept) && goes_on(store, behind, plain.kept))
 }
 
 /// Whether a store makes an event after those before it.
-fn is_made<M: Recovery>(store: &mut Store<M>, before: &[Event], event: Event) -> bool {
-    follow(store, event).is_ok() && store.history().split_last() == Some((&event, before))
+fn is_made<M: Recovery>(store: &mut Store<M>, before: &[Event], event: &Event) -> bool {
+    follow(store, event).is_ok() && store.history().split_last() == Some((event, before))
 }
 
 /// Whether a store doesn't make an event, has those before it alone, and keeps these states.
 fn is_left<M: Recovery>(
     store: &mut Store<M>,
     before: &[Event],
-    event: Event,
+    event: &Event,
     states: &[u32],
 ) -> bool {
     follow(store, event) == Err(Stray::NotMade)

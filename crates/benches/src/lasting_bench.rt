@@ -14,7 +14,7 @@ use std::sync::Arc;
 use std::time::Instant;
 use store::Store;
 use table_checker::{CheckedType, Kind};
-use type_table::Op;
+use type_table::{Op, Operation};
 use undo_manager::UndoManager;
 
 const USAGE: &str = "usage: benches lasting undo|intentions|escrow FILE MILLIONS";
@@ -78,29 +78,32 @@ fn measure_type<R: Clock + Print + AllocGlobal, M: Fresh>(
     millions: u32,
 ) -> Result<()> {
     let mut store = store_of::<M>(rt.alloc(), checked, 1, u32::MAX)?;
-    let measured = measure_store(rt, &mut store, second_call(checked.ops()), millions);
+    let measured = measure_store(
+        rt,
+        &mut store,
+        second_call(checked.declared().rows()),
+        millions,
+    );
     let events = u128::from(store.event_count());
     let _ = store.close();
     measured?;
     show(rt, &[("events", events)])
 }
 
-/// The number of a type's second call, whose operations come after those of its first; 0 where it has one call.
-fn second_call(ops: &[Op]) -> u8 {
-    match ops {
-        [first, ..] => match ops.iter().position(|op| op.call != first.call) {
-            Some(place) => u8::try_from(place).unwrap_or(0),
-            None => 0,
-        },
-        [] => 0,
-    }
+/// The number of a type's second call, whose operations come after those of its first; the first where it has one call.
+fn second_call(ops: &[Op]) -> Operation {
+    let place = match ops {
+        [first, ..] => ops.iter().position(|op| op.call != first.call),
+        [] => None,
+    };
+    Operation::listed(u8::try_from(place.unwrap_or(0)).unwrap_or(0))
 }
 
 /// Makes the events, and prints how long the first and the last million took.
 fn measure_store<R: Clock + Print, M: Recovery>(
     rt: &R,
     store: &mut Store<M>,
-    second: u8,
+    second: Operation,
     millions: u32,
 ) -> Result<()> {
     let mut open = begin_all(store)?;
@@ -133,7 +136,7 @@ fn million_time<R: Clock, M: Recovery>(
     rt: &R,
     store: &mut Store<M>,
     open: &mut [u32; OPEN],
-    second: u8,
+    second: Operation,
 ) -> Result<u128> {
     let start = Instant::now(rt);
     make_million(store, open, second)?;
@@ -145,11 +148,16 @@ fn million_time<R: Clock, M: Recovery>(
 fn make_million<M: Recovery>(
     store: &mut Store<M>,
     open: &mut [u32; OPEN],
-    second: u8,
+    second: Operation,
 ) -> Result<(), Refusal> {
+    let first = Operation::listed(0);
     for turn in 0..TURNS {
         let slot = &mut open[turn as usize % OPEN];
-        take_turn(store, slot, if turn / CALLS % 2 == 0 { 0 } else { second })?;
+        take_turn(
+            store,
+            slot,
+            if turn / CALLS % 2 == 0 { first } else { second },
+        )?;
         if store.history().len() >= FORGOTTEN {
             store.forget(FORGOTTEN);
         }
@@ -158,7 +166,11 @@ fn make_million<M: Recovery>(
 }
 
 /// Commits the transaction of a slot, and begins another in its place, which makes a call.
-fn take_turn<M: Recovery>(store: &mut Store<M>, slot: &mut u32, c: u8) -> Result<(), Refusal> {
+fn take_turn<M: Recovery>(
+    store: &mut Store<M>,
+    slot: &mut u32,
+    c: Operation,
+) -> Result<(), Refusal> {
     store.commit(WORKER, *slot)?;
     *slot = store.begin(WORKER)?;
     store.call_op(WORKER, *slot, 0, c)?;

@@ -1,5 +1,6 @@
 pub mod Values
 pub mod ReadAgain
+pub mod Numbered
 pub mod Told
 pub mod Limits
 pub mod Rooms

@@ -30,10 +30,14 @@ pub data IsDone (s : Stored) (w : ℕ) (command : Command) (n : ℕ) (new : Stor
 abbrev pub IsAnswered : Stored → ℕ → ℕ → ℕ → ℕ → ℕ → ColockAnswer → Stored → Type 0
 IsAnswered s w t x c n words new = n ≡ number Done → (a : Answer) × (words ≡ answer_words a) × (new ≡ noted s w (as_event t x c a))
 
--- what comes of a call by a number that is no call's at x
+-- the number is no call's at x
+abbrev pub NumbersNone : Stored → ℕ → ℕ → Type 0
+NumbersNone s x c = (name : List ℕ) → call_at (slice_get (objects s) x) name ≡ Some c → ⊥
+
+-- what comes of a call by such a number
 abbrev pub IsUnnumbered : Stored → ℕ → ℕ → ℕ → ℕ → Stored → Type 0
 IsUnnumbered s t x c n new =
-    ((name : List ℕ) → call_at (slice_get (objects s) x) name ≡ Some c → ⊥) → (n ≡ number (code_of (Some (unnumbered s t x)))) × (new ≡ s)
+    NumbersNone s x c → (n ≡ number (code_of (Some (unnumbered s t x)))) × (new ≡ s)
 
 -- the state that is kept of the object at x, where there is one
 pub data IsKeptStateOf (s : Stored) (x n state : ℕ) : Type 0 where

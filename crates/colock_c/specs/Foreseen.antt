@@ -5,6 +5,7 @@ use Rattle.serial_order.specs.declared.refusal.Refusal.{Refusal}
 use Rattle.object_calls.specs.declared.answer.Answer.{Answer}
 use Rattle.store_laws.specs.Stored.{Stored, objects}
 use Rattle.store.specs.Calls.{Would, unnumbered}
+use Rattle.colock_c.specs.Calls.{NumbersNone}
 use Rattle.colock_c.specs.Codes.{number, code_of}
 use Rattle.colock_c.specs.Holding.{store_at}
 use Rattle.colock_c.specs.Words.{answer_words}
@@ -20,7 +21,7 @@ pub data IsForeseen (s : Stored) (t x : ℕ) (name : List ℕ) (n : ℕ) (words 
 -- and so of t's call c there: that of a call with this number, or of none
 pub record IsForeseenAt (s : Stored) (t x c n : ℕ) (words : ColockAnswer) : Type 0 where
   pub numbered : (name : List ℕ) → call_at (slice_get (objects s) x) name ≡ Some c → IsForeseen s t x name n words
-  pub other : ((name : List ℕ) → call_at (slice_get (objects s) x) name ≡ Some c → ⊥) → n ≡ number (code_of (Some (unnumbered s t x)))
+  pub other : NumbersNone s x c → n ≡ number (code_of (Some (unnumbered s t x)))
 
 abbrev pub Foresees : Option Held → ℕ → ℕ → List ℕ → ℕ → ColockAnswer → Type 0
 Foresees held t x name n words = (s : Stored) → store_at held ≡ Some s → IsForeseen s t x name n words

@@ -2,6 +2,7 @@ pub mod Owned
 pub mod Codes
 pub mod Holding
 pub mod Words
+pub mod Operations
 pub mod EventWords
 pub mod Types
 pub mod Families

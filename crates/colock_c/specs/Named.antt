@@ -1,12 +1,15 @@
 -- What is read of a type behind a handle.
-use Rattle.std.specs.Prelude.{◌≡◌, ℕ, ◌<◌, ◌≤◌, List, ◌++◌, length, drop, true, false, Option, Some, None, option_map, slice_get}
+use Rattle.std.specs.Prelude.{◌≡◌, ℕ, ◌<◌, ◌≤◌, nat_lt, if◌then◌else◌, List, ◌++◌, length, drop, true, false, Option, Some, None, option_map, slice_get}
 use Rattle.type_table.specs.ConflictTable.{conflicts}
-use Rattle.type_table.specs.Table.{Table, next}
+use Rattle.type_table.specs.Table.{Table, has_op, next}
 use Rattle.type_table.specs.declared.op.Op.{Op}
 use Rattle.object_trait.specs.Object.{conflicts_by}
 use Rattle.table_checker.specs.Checked.{Checked}
+use Rattle.table_checker.specs.Declarations.{rows_of, table_of}
+use Rattle.table_checker.specs.declared.declared_type.Declaration.{Declaration}
 use Rattle.colock_c.specs.Codes.{number}
 use Rattle.colock_c.specs.Holding.{type_at}
+use Rattle.colock_c.specs.Operations.{IsDeclaredBy}
 use Rattle.colock_c.specs.Words.{shape_of}
 use Rattle.colock_c.specs.declared.code.Code.TheVariants.{Done, NoState, NoOperation, NotLegal, NoRoom}
 use Rattle.colock_c.specs.declared.held.Held.{Held}
@@ -24,46 +27,60 @@ abbrev pub IsFoundPut : Option (List ℕ) → List ℕ → ℕ → List ℕ → 
 IsFoundPut None old n new count = n ≡ number NoOperation
 IsFoundPut (Some name) old n new count = IsPut name old n new count
 
-abbrev pub call_of : Checked → ℕ → Option (List ℕ)
-call_of c k = option_map (λ (o : Op). o.call) (slice_get c.file.table.ops k)
+-- the names of the operation with a number, where the type has it
+abbrev pub numbered_names : Declaration → ℕ → Option Op
+numbered_names declaration k = if has_op (table_of declaration) k then slice_get (table_of declaration).ops k else None
 
-abbrev pub reply_of : Checked → ℕ → Option (List ℕ)
-reply_of c k = option_map (λ (o : Op). o.reply) (slice_get c.file.table.ops k)
+-- at a place that the type lists those of its line
+abbrev pub names_at : Declaration → ℕ → Option Op
+names_at declaration k = if nat_lt k (length (rows_of declaration)) then slice_get (rows_of declaration) k else numbered_names declaration k
+
+abbrev pub call_of : Declaration → ℕ → Option (List ℕ)
+call_of declaration k = option_map (λ (o : Op). o.call) (names_at declaration k)
+
+abbrev pub reply_of : Declaration → ℕ → Option (List ℕ)
+reply_of declaration k = option_map (λ (o : Op). o.reply) (names_at declaration k)
 
 -- ---- states
 
 -- the state to which an operation leads
 pub data IsStep (T : Table) (s k n to : ℕ) : Type 0 where
   no_state : n ≡ number NoState → T.states ≤ s → IsStep T s k n to
-  no_operation : n ≡ number NoOperation → s < T.states → length T.ops ≤ k → IsStep T s k n to
-  stuck : n ≡ number NotLegal → s < T.states → k < length T.ops → next T s k ≡ None → IsStep T s k n to
-  leads : n ≡ number Done → s < T.states → k < length T.ops → next T s k ≡ Some to → IsStep T s k n to
+  no_operation : n ≡ number NoOperation → s < T.states → has_op T k ≡ false → IsStep T s k n to
+  stuck : n ≡ number NotLegal → s < T.states → has_op T k ≡ true → next T s k ≡ None → IsStep T s k n to
+  leads : n ≡ number Done → s < T.states → has_op T k ≡ true → next T s k ≡ Some to → IsStep T s k n to
 
 -- ---- conflicts
 
--- whether p, requested, conflicts with q, held, as 1 or 0
-pub data IsConflict (c : Checked) (p q n told : ℕ) : Type 0 where
-  no_requested : n ≡ number NoOperation → length c.file.table.ops ≤ p → IsConflict c p q n told
-  no_held : n ≡ number NoOperation → p < length c.file.table.ops → length c.file.table.ops ≤ q → IsConflict c p q n told
-  conflicting : n ≡ number Done → p < length c.file.table.ops → q < length c.file.table.ops → conflicts (conflicts_by c.kind c.file) p q ≡ true → told ≡ 1 → IsConflict c p q n told
-  apart : n ≡ number Done → p < length c.file.table.ops → q < length c.file.table.ops → conflicts (conflicts_by c.kind c.file) p q ≡ false → told ≡ 0 → IsConflict c p q n told
+-- whether p, requested, conflicts with q, held, as 1 or 0, where the type lists both, which are so many
+pub data IsConflict (c : Checked) (ops p q n told : ℕ) : Type 0 where
+  no_requested : n ≡ number NoOperation → ops ≤ p → IsConflict c ops p q n told
+  no_held : n ≡ number NoOperation → p < ops → ops ≤ q → IsConflict c ops p q n told
+  conflicting : n ≡ number Done → p < ops → q < ops → conflicts (conflicts_by c.kind c.file) p q ≡ true → told ≡ 1 → IsConflict c ops p q n told
+  apart : n ≡ number Done → p < ops → q < ops → conflicts (conflicts_by c.kind c.file) p q ≡ false → told ≡ 0 → IsConflict c ops p q n told
+
+abbrev pub TellsConflictOf : Checked → ℕ → ℕ → ℕ → ℕ → Type 0
+TellsConflictOf c p q n told = (declaration : Declaration) × IsDeclaredBy c declaration × IsConflict c (length (rows_of declaration)) p q n told
 
 -- ---- behind a handle
 
 abbrev pub IsShaped : Option Held → ℕ → ColockShape → Type 0
-IsShaped held n shape = (c : Checked) → type_at held ≡ Some c → (n ≡ number Done) × (shape ≡ shape_of c)
+IsShaped held n shape =
+    (c : Checked) → type_at held ≡ Some c → (n ≡ number Done) × (declaration : Declaration) × IsDeclaredBy c declaration × (shape ≡ shape_of c.kind declaration)
 
 abbrev pub NamesType : Option Held → List ℕ → ℕ → List ℕ → ℕ → Type 0
 NamesType held old n new count = (c : Checked) → type_at held ≡ Some c → IsPut c.file.table.name old n new count
 
 abbrev pub NamesCall : Option Held → ℕ → List ℕ → ℕ → List ℕ → ℕ → Type 0
-NamesCall held k old n new count = (c : Checked) → type_at held ≡ Some c → IsFoundPut (call_of c k) old n new count
+NamesCall held k old n new count =
+    (c : Checked) → type_at held ≡ Some c → (declaration : Declaration) × IsDeclaredBy c declaration × IsFoundPut (call_of declaration k) old n new count
 
 abbrev pub NamesReply : Option Held → ℕ → List ℕ → ℕ → List ℕ → ℕ → Type 0
-NamesReply held k old n new count = (c : Checked) → type_at held ≡ Some c → IsFoundPut (reply_of c k) old n new count
+NamesReply held k old n new count =
+    (c : Checked) → type_at held ≡ Some c → (declaration : Declaration) × IsDeclaredBy c declaration × IsFoundPut (reply_of declaration k) old n new count
 
 abbrev pub Leads : Option Held → ℕ → ℕ → ℕ → ℕ → Type 0
 Leads held s k n to = (c : Checked) → type_at held ≡ Some c → IsStep c.file.table s k n to
 
 abbrev pub TellsConflict : Option Held → ℕ → ℕ → ℕ → ℕ → Type 0
-TellsConflict held p q n told = (c : Checked) → type_at held ≡ Some c → IsConflict c p q n told
+TellsConflict held p q n told = (c : Checked) → type_at held ≡ Some c → TellsConflictOf c p q n told

@@ -5,7 +5,8 @@ use Rattle.type_table.specs.declared.kind.Kind.TheVariants.{Undo, Intentions, Es
 use Rattle.line_text.specs.declared.fault.TextFault.{TextFault}
 use Rattle.line_text.specs.declared.fault.FaultKind.{FaultKind}
 use Rattle.line_text.specs.declared.fault.FaultKind.TheVariants as fault
-use Rattle.table_checker.specs.Checked.{Checked}
+use Rattle.table_checker.specs.Declarations.{rows_of, table_of}
+use Rattle.table_checker.specs.declared.declared_type.Declaration.{Declaration}
 use Rattle.table_checker.specs.declared.refusal.CheckRefusal.{CheckRefusal}
 use Rattle.table_checker.specs.declared.refusal.CheckRefusal.TheVariants.{InitialOutside, NotClosed, NotSimulation, NotCommuting, NotNumeric}
 use Rattle.object_calls.specs.declared.answer.Answer.{Answer}
@@ -56,6 +57,11 @@ kind_number Undo = 0
 kind_number Intentions = 1
 kind_number Escrow = 2
 
--- what is said of a type at once
-abbrev pub shape_of : Checked → ColockShape
-shape_of c = record { states = c.file.table.states; initial = c.file.table.initial; ops = length c.file.table.ops; kind = kind_number c.kind }
+-- what is said of a type at once: its operations are as many as it lists
+abbrev pub shape_of : Kind → Declaration → ColockShape
+shape_of kind declaration = record {
+  states = (table_of declaration).states;
+  initial = (table_of declaration).initial;
+  ops = length (rows_of declaration);
+  kind = kind_number kind;
+}

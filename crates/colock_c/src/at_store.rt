@@ -51,7 +51,7 @@ pub(crate) fn call_op(
     worker: u8,
     transaction: u64,
     x: u32,
-    c: u8,
+    c: u64,
     answer: &mut ColockAnswer,
 ) -> Code
     ensures step { DoesNumbered (Some held.old) worker transaction x c (number result) (Some held.new) }
@@ -89,7 +89,7 @@ pub(crate) fn would_op(
     held: &Held,
     transaction: u64,
     x: u32,
-    c: u8,
+    c: u64,
     answer: &mut ColockAnswer,
 ) -> Code
     ensures foreseen { ForeseesAt (Some held.now) transaction x c (number result) answer.new }
@@ -104,7 +104,7 @@ pub(crate) fn would_op(
 }
 
 /// The number of a call.
-pub(crate) fn call_number(held: &Held, x: u32, name: &[u8], call: &mut u8) -> Code
+pub(crate) fn call_number(held: &Held, x: u32, name: &[u8], call: &mut u64) -> Code
     ensures found { Numbers (Some held.now) x name.now (number result) call.new }
     ensures no_store { store_at (Some held.now) ≡ None → number result ≡ number Code.NotHeld }
     ensures rest { number result ≢ 0 → call.new ≡ call.old }

@@ -7,7 +7,7 @@ ghost use Rattle.colock_c.specs.Named.{IsShaped, Leads, NamesCall, NamesReply, N
 
 use crate::code::Code;
 use crate::held::Held;
-use crate::on_type::{conflict, put_call, put_name, put_reply, step};
+use crate::on_type::{conflict, declared_by, put_call, put_name, put_reply, step};
 use crate::words::{ColockShape, shape_of};
 
 /// Gives what is said of the type at once.
@@ -18,7 +18,7 @@ pub(crate) fn shape(held: &Held, shape: &mut ColockShape) -> Code
 {
     match held {
         Held::OfType(checked) => {
-            *shape = shape_of(checked);
+            *shape = shape_of(checked.kind(), declared_by(checked));
             Code::Done
         },
         Held::OfObjects(_) => Code::NotHeld,
@@ -46,7 +46,7 @@ pub(crate) fn call(held: &Held, k: u64, room: &mut [u8], count: &mut u64) -> Cod
     ensures rest { number result ≢ 0 → (room.new ≡ room.old) × (count.new ≡ count.old) }
 {
     match held {
-        Held::OfType(checked) => put_call(checked, k, room, count),
+        Held::OfType(checked) => put_call(declared_by(checked), k, room, count),
         Held::OfObjects(_) => Code::NotHeld,
         Held::OfStore(_) => Code::NotHeld,
     }
@@ -59,7 +59,7 @@ pub(crate) fn reply(held: &Held, k: u64, room: &mut [u8], count: &mut u64) -> Co
     ensures rest { number result ≢ 0 → (room.new ≡ room.old) × (count.new ≡ count.old) }
 {
     match held {
-        Held::OfType(checked) => put_reply(checked, k, room, count),
+        Held::OfType(checked) => put_reply(declared_by(checked), k, room, count),
         Held::OfObjects(_) => Code::NotHeld,
         Held::OfStore(_) => Code::NotHeld,
     }

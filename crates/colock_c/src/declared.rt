@@ -1,7 +1,6 @@
 //! Types as they were declared, put behind a handle that holds nothing: a number in escrow alone.
 
-ghost use Rattle.std.specs.Prelude.{◌≡◌, true, None};
-ghost use Rattle.number_text.specs.Operations.{is_listed};
+ghost use Rattle.std.specs.Prelude.{◌≡◌, None};
 ghost use Rattle.table_checker.specs.Declarations.{number_file};
 ghost use Rattle.table_checker.specs.declared.declared_type.Declaration.{Declaration as AnyDeclaration};
 ghost use Rattle.colock_c.specs.Codes.{number};
@@ -53,8 +52,7 @@ fn hold_table(
 
 /// The type of an equal number, where the kind is escrow.
 fn hold_in_escrow(alloc: Global, slot: &mut Slot, kind: Kind, file: &NumberFile) -> Code
-    requires empty { slot.old.handle.held ≡ None }
-    requires listed { is_listed file.now ≡ true }
+    requires { slot.old.handle.held ≡ None }
     ensures { (was : FaultWords) → IsMade (IsFileFor kind (AnyDeclaration.Number file.now)) (IsNotFor kind (AnyDeclaration.Number file.now) was) kind was (number result) was slot.new.handle.held }
 {
     match kind {
@@ -65,8 +63,7 @@ fn hold_in_escrow(alloc: Global, slot: &mut Slot, kind: Kind, file: &NumberFile)
 
 /// An equal number, in escrow.
 fn hold_copy(alloc: Global, slot: &mut Slot, file: &NumberFile) -> Code
-    requires empty { slot.old.handle.held ≡ None }
-    requires listed { is_listed file.now ≡ true }
+    requires { slot.old.handle.held ≡ None }
     ensures { (was : FaultWords) → IsMade (λ f. f ≡ number_file file.now) (λ n words. ⊥) Kind.Escrow was (number result) was slot.new.handle.held }
 {
     match file.copy(alloc) {

@@ -16,7 +16,6 @@ ghost use Rattle.colock_c.specs.Families.{AreSemiqueueWords, AreSetWords, HasNon
 
 use crate::code::{Code, made_code};
 use crate::parameters::{capacity_of, names_of, narrowed};
-use number_text::numbers_are_listed;
 use std::alloc::Global;
 use table_checker::DeclaredType;
 use table_families::{make_number, make_queue, make_seats, make_stock};
@@ -174,13 +173,8 @@ pub(crate) fn number_of(alloc: Global, max: u32, amounts: &[u32]) -> Result<Decl
     ensures made { IfOk result (IsOfAmounts max amounts.now) }
     ensures refused { IfErr result (λ code. (code ≡ Code.NoMemory) ⊎ HasNone (AreNumberAmounts max amounts.now) (NumberFits amounts.now) (number code)) }
 {
-    numbers_are_listed();
     match make_number(alloc, max, amounts) {
-        Ok(made) => {
-            // (read for its clause on what is known of a number)
-            let _calls = made.calls();
-            Ok(DeclaredType::number(made))
-        }
+        Ok(made) => Ok(DeclaredType::number(made)),
         Err(error) => Err(made_code(error)),
     }
 }

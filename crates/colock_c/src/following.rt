@@ -37,7 +37,7 @@ fn follow_one(store: &mut Store<Object>, words: ColockEvent) -> Result<(), Code>
     let Some(event) = event_at(words) else {
         return Err(Code::NotMade);
     };
-    match follow(store, event) {
+    match follow(store, &event) {
         Ok(()) => Ok(()),
         Err(stray) => Err(stray_code(stray)),
     }

@@ -1,7 +1,6 @@
 //! What is put behind a handle that holds nothing.
 
-ghost use Rattle.std.specs.Prelude.{◌≡◌, ◌⊎◌, true, Some, None, IfErr, IfOk};
-ghost use Rattle.number_text.specs.Operations.{is_listed};
+ghost use Rattle.std.specs.Prelude.{◌≡◌, ◌⊎◌, Some, None, IfErr, IfOk};
 ghost use Rattle.table_checker.specs.Declarations.{number_file};
 ghost use Rattle.colock_c.specs.Codes.{number};
 ghost use Rattle.colock_c.specs.Types.{IsMade, IsRefused, IsTypeOf};
@@ -49,15 +48,14 @@ pub(crate) fn hold_type(
     }
 }
 
-/// Puts a number, each of whose calls lists its amount, behind a handle that holds nothing.
+/// Puts a number behind a handle that holds nothing.
 pub(crate) fn hold_number(alloc: Global, slot: &mut Slot, file: NumberFile) -> Code
-    requires empty { slot.old.handle.held ≡ None }
-    requires listed { is_listed file ≡ true }
+    requires { slot.old.handle.held ≡ None }
     ensures { (was : FaultWords) → IsMade (λ f. f ≡ number_file file) (λ n words. ⊥) Kind.Escrow was (number result) was slot.new.handle.held }
 {
     let checked = check_number(file);
     // (read for its clause on what was checked)
-    let _ops = checked.ops();
+    let _declared = checked.declared();
     match Arc::new(alloc, checked) {
         Ok(checked) => hold(alloc, slot, Held::OfType(checked)),
         Err(_) => Code::NoMemory,

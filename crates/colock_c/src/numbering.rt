@@ -1,50 +1,60 @@
 //! The number of a call, and what a call would be answered.
 
-ghost use Rattle.std.specs.Prelude.{◌≡◌, ◌≢◌, ◌≤◌, length};
-ghost use Rattle.std.specs.List.{position};
-ghost use Rattle.std.specs.Str.{bytes_eq};
-ghost use Rattle.type_table.specs.declared.op.Op.{Op as OpValue};
-ghost use Rattle.colock_c.specs.Calls.{IsNumberOf};
-ghost use Rattle.colock_c.specs.Codes.{number};
+ghost use Rattle.std.specs.Prelude.{◌≡◌, ◌≢◌, None, Some};
+ghost use Rattle.store.specs.Calls.{unnumbered};
+ghost use Rattle.colock_c.specs.Calls.{IsNumberOf, NumbersNone};
+ghost use Rattle.colock_c.specs.Codes.{code_of, number};
 ghost use Rattle.colock_c.specs.Foreseen.{IsForeseen, IsForeseenAt};
+ghost use Rattle.colock_c.specs.Operations.{operation_of};
 
 use crate::code::{Code, code_of};
 use crate::on_store::begun_at;
+use crate::operations::{known, number_of, operation_of};
 use crate::words::{ColockAnswer, answer_words};
 use objects::Object;
 use store::Store;
-use type_table::Op;
 
 /// Gives the number of the call with this name at an object.
-pub(crate) fn call_number(store: &Store<Object>, x: u32, name: &[u8], call: &mut u8) -> Code
+pub(crate) fn call_number(store: &Store<Object>, x: u32, name: &[u8], call: &mut u64) -> Code
     ensures found { IsNumberOf store.now x name.now (number result) call.new }
     ensures rest { number result ≢ 0 → call.new ≡ call.old }
 {
     let Some(checked) = store.checked(x) else {
         return Code::NoObject;
     };
-    match first_op(checked.ops(), name) {
+    match checked.first_op(name) {
         Some(c) => {
-            *call = c;
+            *call = number_of(c);
             Code::Done
         }
         None => Code::NoCall,
     }
 }
 
-/// The least operation whose call has the name of these bytes, among at most 64.
-fn first_op(ops: &[Op], name: &[u8]) -> Option<u8>
-    requires { length ops.now ≤ 64 }
-    ensures { result ≡ position (λ (o : OpValue). bytes_eq o.call name.now) ops.now }
+/// Why a call at an object is refused whose number is no operation's: as one without a name, which is no call
+/// either.
+pub(crate) fn no_call(store: &Store<Object>, t: u32, x: u32, c: u64) -> Code
+    requires { operation_of c ≡ None }
+    ensures told { number result ≡ number (code_of (Some (unnumbered store.now t x))) }
+    ensures none { NumbersNone store.now x c }
 {
-    let place = place_of_call(ops, name)?;
-    Some(place as u8)
+    numbers_none(store, x, c);
+    match store.would_bytes(t, x, b"") {
+        Ok(_) => unreachable!(),
+        Err(refusal) => code_of(refusal),
+    }
 }
 
-fn place_of_call(ops: &[Op], name: &[u8]) -> Option<usize>
-    ensures { result ≡ position (λ (o : OpValue). bytes_eq o.call name.now) ops.now }
+/// No call at an object has a number that is no operation's.
+fn numbers_none(store: &Store<Object>, x: u32, c: u64)
+    requires { operation_of c ≡ None }
+    ensures { NumbersNone store.now x c }
 {
-    ops.iter().position(|op| op.call.as_bytes() == name)
+    match store.checked(x) {
+        // (read for its clause on how many operations a type has)
+        Some(checked) => _ = known(checked.declared()),
+        None => {}
+    }
 }
 
 /// Says what a call by name would be answered.
@@ -75,7 +85,7 @@ pub(crate) fn would_op(
     store: &Store<Object>,
     transaction: u64,
     x: u32,
-    c: u8,
+    c: u64,
     answer: &mut ColockAnswer,
 ) -> Code
     ensures foreseen { IsForeseenAt store.now transaction x c (number result) answer.new }
@@ -83,6 +93,9 @@ pub(crate) fn would_op(
 {
     let Some(t) = begun_at(store, transaction) else {
         return Code::NotOpen;
+    };
+    let Some(c) = operation_of(c) else {
+        return no_call(store, t, x, c);
     };
     match store.would_op(t, x, c) {
         Ok(given) => {

@@ -45,7 +45,7 @@ fn fill(events: &[Event], from: usize, room: &mut [ColockEvent]) -> usize
     }
     let reach = room.len().min(events.len() - from);
     for i in 0..reach {
-        room[i] = event_words(events[from + i]);
+        room[i] = event_words(&events[from + i]);
     }
     reach
 }

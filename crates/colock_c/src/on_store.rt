@@ -9,6 +9,8 @@ ghost use Rattle.colock_c.specs.Calls.{IsAnswered, IsDone, IsEnded, IsKeptStateO
 ghost use Rattle.colock_c.specs.Codes.{number};
 
 use crate::code::{Code, code_of};
+use crate::numbering::no_call;
+use crate::operations::operation_of;
 use crate::words::{ColockAnswer, answer_words};
 use objects::Object;
 use store::Store;
@@ -68,7 +70,7 @@ pub(crate) fn call_op(
     worker: u8,
     transaction: u64,
     x: u32,
-    c: u8,
+    c: u64,
     answer: &mut ColockAnswer,
 ) -> Code
     ensures step { (name : List ℕ) → call_at (slice_get (objects store.old) x) name ≡ Some c → IsDone store.old worker (command.Call transaction x name) (number result) store.new }
@@ -78,6 +80,9 @@ pub(crate) fn call_op(
 {
     let Some(t) = begun_at(store, transaction) else {
         return Code::NotOpen;
+    };
+    let Some(c) = operation_of(c) else {
+        return no_call(store, t, x, c);
     };
     match store.call_op(worker, t, x, c) {
         Ok(given) => {

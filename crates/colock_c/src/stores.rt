@@ -1,8 +1,8 @@
 //! Exports: the calls of a store.
 //!
 //! Each answers `NotHeld` where the handle holds no store. All but `Done` leave the store and what the
-//! other pointers point at. A transaction, an object or a number of operations that is greater than any
-//! in a store is as one that isn't there.
+//! other pointers point at. A transaction, an object, a call or a number of operations that is greater than
+//! any in a store is as one that isn't there.
 
 ghost use Rattle.std.specs.Prelude.{◌≡◌, ◌≢◌, Some, None};
 ghost use Rattle.serial_order.specs.declared.command.Command.TheVariants as command;
@@ -69,7 +69,7 @@ pub extern "C" fn colock_call_op(
     worker: u8,
     transaction: u64,
     x: u32,
-    c: u8,
+    c: u64,
     answer: &mut ColockAnswer,
 ) -> u32
     ensures step { DoesNumbered slot.old.handle.held worker transaction x c result slot.new.handle.held }
@@ -84,14 +84,14 @@ pub extern "C" fn colock_call_op(
     code.number()
 }
 
-/// The number of the call with this name at object x: `NoObject` or `NoCall`.
+/// The number of the call with this name at object x, which is that of its first operation: `NoObject` or `NoCall`.
 #[unsafe(no_mangle)]
 pub extern "C" fn colock_call_number(
     alloc: Global,
     slot: &mut Slot,
     x: u32,
     name: &[u8],
-    call: &mut u8,
+    call: &mut u64,
 ) -> u32
     ensures found { Numbers slot.old.handle.held x name.now result call.new }
     ensures no_store { store_at slot.old.handle.held ≡ None → result ≡ number Code.NotHeld }
@@ -136,7 +136,7 @@ pub extern "C" fn colock_would_op(
     slot: &mut Slot,
     transaction: u64,
     x: u32,
-    c: u8,
+    c: u64,
     answer: &mut ColockAnswer,
 ) -> u32
     ensures foreseen { ForeseesAt slot.old.handle.held transaction x c result answer.new }

@@ -3,12 +3,13 @@
 ghost use Rattle.std.specs.Prelude.{◌≡◌};
 ghost use Rattle.colock_c.specs.Words.{answer_words, fault_words, kind_at, kind_number, refusal_words, shape_of};
 
+use crate::operations::number_of;
 use line_text::TextFault;
 use store::Answer;
-use table_checker::{CheckRefusal, CheckedType, Kind};
+use table_checker::{CheckRefusal, DeclaredType, Kind};
 
-/// What a call is answered: `kind` is 0, and `number` the operation that was executed; or 1, and the
-/// transaction that holds what it conflicts with; or 2, and 0, where no operation is legal.
+/// What a call is answered: `kind` is 0, and `number` that of the operation that was executed; or 1, and
+/// the transaction that holds what it conflicts with; or 2, and 0, where no operation is legal.
 #[repr(C)]
 #[derive(Clone, Copy)]
 pub struct ColockAnswer {
@@ -28,8 +29,8 @@ pub struct ColockFault {
     pub third: u64,
 }
 
-/// A type: its number of states, the initial one, its number of operations, and the kind of recovery for
-/// which it was checked.
+/// A type: its number of states, the initial one, how many operations it lists, and the kind of recovery
+/// for which it was checked.
 #[repr(C)]
 #[derive(Clone, Copy)]
 pub struct ColockShape {
@@ -45,7 +46,7 @@ pub(crate) fn answer_words(answer: Answer) -> ColockAnswer
     match answer {
         Answer::Reply(k) => ColockAnswer {
             kind: 0,
-            number: u64::from(k),
+            number: number_of(k),
         },
         Answer::Busy(u) => ColockAnswer {
             kind: 1,
@@ -115,13 +116,13 @@ fn kind_number(kind: Kind) -> u64
     }
 }
 
-pub(crate) fn shape_of(checked: &CheckedType) -> ColockShape
-    ensures { result ≡ shape_of checked.now }
+pub(crate) fn shape_of(kind: Kind, declared: &DeclaredType) -> ColockShape
+    ensures { result ≡ shape_of kind declared.now }
 {
     ColockShape {
-        states: u64::from(checked.greatest()) + 1,
-        initial: u64::from(checked.initial()),
-        ops: checked.ops().len() as u64,
-        kind: kind_number(checked.kind()),
+        states: u64::from(declared.greatest()) + 1,
+        initial: u64::from(declared.initial()),
+        ops: declared.rows().len() as u64,
+        kind: kind_number(kind),
     }
 }

@@ -2,13 +2,13 @@
 
 ghost use Rattle.std.specs.Prelude.{⊤};
 ghost use Rattle.declared_text.specs.Declared.{Declares};
-ghost use Rattle.command_files.specs.Files.{Describes, IsFaulty, IsFaultyDeclaration};
+ghost use Rattle.command_files.specs.Files.{Describes, IsFaulty, IsFaultyDeclaration, IsFitDeclaration};
 
 use crate::format::Format;
 use declared_text::read_declared;
 use line_text::TextFault;
 use std::alloc::Global;
-use table_checker::DeclaredType;
+use table_checker::{Declaration, DeclaredType};
 use type_text::{TypeFile, read_type};
 
 /// The format of type files.
@@ -38,11 +38,27 @@ impl Format for DeclaredFormat {
 
     ghost describes = { λ _ text declared. Declares text declared };
 
-    ghost is_fit = { λ _ _. ⊤ };
+    ghost is_fit = { λ _ declared. IsFitDeclaration declared };
 
     ghost is_faulty = { λ _ text. IsFaultyDeclaration text };
 
     fn read(&self, alloc: Global, text: &[u8]) -> Result<DeclaredType, TextFault> {
-        read_declared(alloc, text)
+        let declared = read_declared(alloc, text)?;
+        known(&declared);
+        Ok(declared)
+    }
+}
+
+/// What is known of each declaration.
+fn known(declared: &DeclaredType)
+    ensures { IsFitDeclaration declared.now }
+{
+    match declared.declaration() {
+        Declaration::Table(file) => {
+            file.table.states();
+        }
+        Declaration::Number(number) => {
+            number.calls();
+        }
     }
 }

@@ -8,7 +8,7 @@ use Rattle.command_files.specs.Status.{is_input, status_at, status_of}
 use Rattle.command_files.specs.declared.fault.Fault.{Fault}
 use Rattle.command_files.specs.declared.fault.Fault.TheVariants.{Usage, Text, NoType, NeedsEscrow, ObjectNeedsEscrow, OtherObjects, Order, HasEvents, BadParameter, TooLarge, CannotRead, Database, NoStore, NoMemory, Output}
 use Rattle.command_files.specs.declared.status.Status.{Status}
-use Rattle.command_files.specs.declared.status.Status.TheVariants.{Yes, No, BadInput, Failed}
+use Rattle.command_files.specs.declared.status.Status.TheVariants.{BadInput, Failed}
 use Rattle.command_files.specs.declared.status.Verdict.{Verdict}
 use Rattle.command_files.specs.declared.status.Verdict.TheVariants as verdict
 use Rattle.command_words.specs.Words.{AreNoTask, AreWordsOf}

@@ -2,7 +2,7 @@ ghost use Rattle.declared_text.specs.Declared.{Reads};
 
 use crate::first_word::is_of_number;
 use line_text::TextFault;
-use number_text::{numbers_are_listed, read_number};
+use number_text::read_number;
 use std::alloc::Global;
 use table_checker::DeclaredType;
 use type_text::read_type;
@@ -16,11 +16,7 @@ pub fn read_declared(alloc: Global, text: &[u8]) -> Result<DeclaredType, TextFau
     ensures { Reads result text.now }
 {
     if is_of_number(text) {
-        numbers_are_listed();
-        let number = read_number(alloc, text)?;
-        // (read for its clause on what is known of a number)
-        let _calls = number.calls();
-        Ok(DeclaredType::number(number))
+        Ok(DeclaredType::number(read_number(alloc, text)?))
     } else {
         Ok(DeclaredType::table(read_type(alloc, text)?))
     }

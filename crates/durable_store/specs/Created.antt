@@ -1,5 +1,5 @@
 -- The file of a new store.
-use Rattle.std.specs.Prelude.{◌≡◌, ◌⊎◌, ⊤, ℕ, List, [], ◌∷◌}
+use Rattle.std.specs.Prelude.{◌≡◌, ◌≤◌, ⊤, ℕ, List, [], ◌∷◌}
 use Rattle.table_checker.specs.Checked.{Checked}
 use Rattle.store_text.specs.declared.line.ObjectLine.{ObjectLine}
 use Rattle.journal.specs.declared.header.Header.{Header}
@@ -11,11 +11,11 @@ use Rattle.durable_store.specs.Epochs.{firsts}
 
 -- the version of the tables of a new file
 abbrev pub newest_format : ℕ
-newest_format = 2
+newest_format = 3
 
--- the versions that are read: that of a new file, and the one before it, in which no type is a number
+-- the versions that are read: in a file of the first no type is a number, and in one of the second no operation has an amount
 abbrev pub IsReadFormat : ℕ → Type 0
-IsReadFormat format = (format ≡ newest_format) ⊎ (format ≡ 1)
+IsReadFormat format = (1 ≤ format) × (format ≤ newest_format)
 
 -- the header of a new file: no store was made of it yet
 abbrev pub first_header : List ℕ → Header

@@ -7,10 +7,11 @@ use crate::open_error::OpenError;
 use journal::{FileContents, JournalError};
 
 /// The version of the tables that a store writes.
-pub(crate) const FORMAT: u32 = 2;
+pub(crate) const FORMAT: u32 = 3;
 
-/// The version before it, which is read as this one: no type of it is a number.
-const OLD_FORMAT: u32 = 1;
+/// The first version. It and the second are read as the newest: in the first no type is a number, and in the second
+/// no operation has an amount.
+const FIRST_FORMAT: u32 = 1;
 
 /// That a file is of one of these versions.
 ///
@@ -20,7 +21,7 @@ const OLD_FORMAT: u32 = 1;
 pub(crate) fn check_format(said: &FileContents) -> Result<(), OpenError>
     ensures { OnOk result (IsReadFormat said.now.header.format) }
 {
-    if said.header.format == FORMAT || said.header.format == OLD_FORMAT {
+    if FIRST_FORMAT <= said.header.format && said.header.format <= FORMAT {
         Ok(())
     } else {
         Err(OpenError::Journal(JournalError::Foreign))

@@ -62,7 +62,7 @@ fn follow_one(store: &mut Store<Object>, place: usize, kind: EventKind) -> Resul
     ensures types { OnOk result (store.new.types ≡ store.old.types) }
     ensures history { OnOk result (store.new.history ≡ store.old.history ++ events (kind ∷ [])) }
 {
-    match follow(store, Event { worker: 0, kind }) {
+    match follow(store, &Event { worker: 0, kind }) {
         Ok(()) => {}
         Err(Stray::NotMade) => return Err(OpenError::NotMade(place)),
         Err(Stray::NoMemory) => return Err(OpenError::NoMemory),

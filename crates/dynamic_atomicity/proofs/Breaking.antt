@@ -1,10 +1,9 @@
 -- Necessity: the runs that break, at an object among any others.
-use Rattle.std.proofs.Common.{◌≡◌, ℕ, Bool, true, false, not, ◌&&◌, ◌<◌, ◌==◌, List, [], ◌∷◌, ◌++◌, map, length, nat_lt, Option, Some, slice_get, refl, sym, ap, ◌∙◌, inl, inr, subst, append-nil, append_assoc}
+use Rattle.std.proofs.Common.{◌≡◌, ℕ, Bool, true, false, not, ◌&&◌, ◌==◌, List, [], ◌∷◌, ◌++◌, map, Option, Some, slice_get, refl, sym, ap, ◌∙◌, subst, append-nil, append_assoc}
 use Rattle.std.specs.List.{AllByRecursion}
-use Rattle.std.proofs.lemmas.Bool.{cases_Bool, false≢true, true≢false, eq-eqb, ltb-true}
+use Rattle.std.proofs.lemmas.Bool.{true≢false, eq-eqb}
 use Rattle.std.proofs.lemmas.List.Elements.{filter-append}
-use Rattle.type_table.specs.Table.{Table, next}
-use Rattle.type_table.specs.Run.{IsLegal}
+use Rattle.type_table.specs.Table.{has_op}
 use Rattle.type_table.specs.Laws.{RunsAlong, LegalEnds}
 use Rattle.type_table.specs.declared.kind.Kind.{Kind}
 use Rattle.type_table.specs.declared.kind.Kind.TheVariants.{Undo, Intentions, Escrow}
@@ -19,7 +18,7 @@ use Rattle.serial_order.specs.History.{Summary, summary, is_open}
 use Rattle.serial_order.specs.View.{view, conflicts_with, stops_at}
 use Rattle.serial_order.specs.Machine.{May, MayDo, RunsOn, IsRun}
 use Rattle.serial_order.specs.Examples.{events}
-use Rattle.dynamic_atomicity.specs.Converse.{by, breaking, Goes, UndoBreaks}
+use Rattle.dynamic_atomicity.specs.Converse.{by, breaking, Goes, StepsHaveOps, UndoBreaks}
 use Rattle.serial_order.specs.declared.entry.Entry.{Entry}
 use Rattle.serial_order.proofs.Events.{summary_after, summary-snoc}
 use Rattle.serial_order.proofs.Facts.{IsLegalAt}
@@ -73,20 +72,12 @@ at-done : (x t : ℕ) (w : List ℕ) → at_object x (done_by x t w) ≡ done_by
 at-done x t [] = refl
 at-done x t (k ∷ w) = simp (itself x) (ap (λ rest. (record { by = t; at = x; op = k }) ∷ rest) (at-done x t w))
 
--- ---- a legal operation is one of the table
-
-op-inside : (T : Table) (s k : ℕ) → IsLegal T (Some s) (k ∷ []) → k < length T.ops
-unfolding next
-op-inside T s k legal = elim (cases_Bool (nat_lt k (length T.ops))) [
-  | inl inside ↦ ltb-true k (length T.ops) inside
-  | inr outside ↦ absurd (false≢true (simp outside at legal))
-]
-
-module _ (objects : List Object) (x : ℕ) (along : RunsAlong) (ends : LegalEnds) (o : Object) (there : slice_get objects x ≡ Some o) where
-  op-there : (v : List ℕ) (k : ℕ) → IsLegalAt o (v ++ k ∷ []) → k < length o.table.ops
+module _ (objects : List Object) (x : ℕ) (along : RunsAlong) (ends : LegalEnds) (o : Object) (there : slice_get objects x ≡ Some o) (named : StepsHaveOps o.table) where
+  -- a legal operation is one of the type's
+  op-there : (v : List ℕ) (k : ℕ) → IsLegalAt o (v ++ k ∷ []) → has_op o.table k ≡ true
   op-there v k legal =
       let reached = ends o.table (Some o.table.initial) v (legal-front o.table (Some o.table.initial) v (k ∷ []) legal) in
-      op-inside o.table reached.0 k (legal-behind along o.table (Some o.table.initial) v (k ∷ []) reached.0 reached.1 legal)
+      named reached.0 k (legal-behind along o.table (Some o.table.initial) v (k ∷ []) reached.0 reached.1 legal)
 
   -- an operation may be done that is legal after the view and that nothing held keeps out
   may_do : (s : Summary) (t k : ℕ) (v : List ℕ) → is_open s t ≡ true → ops (view o.kind s x t) ≡ v → IsLegalAt o (v ++ k ∷ [])
@@ -317,17 +308,17 @@ module _ (objects : List Object) (x : ℕ) (along : RunsAlong) (ends : LegalEnds
           ∙ rw (of-0, of-1, of-2, of-3, append-nil (done_by x 3 r))
           (ops-append (done_by x 0 w) (first_of_2 ∷ first_of_1 ∷ done_by x 3 r) ∙ ap (λ v. v ++ ops (first_of_2 ∷ first_of_1 ∷ done_by x 3 r)) (ops-done x 0 w) ∙ ap (λ v. w ++ p ∷ q ∷ v) (ops-done x 3 r))
 
-module _ (objects : List Object) (x : ℕ) (along : RunsAlong) (ends : LegalEnds) (o : Object) (there : slice_get objects x ≡ Some o) (w : List ℕ) (p q : ℕ) (r : List ℕ) (free : o.conflicts p q ≡ false) where
+module _ (objects : List Object) (x : ℕ) (along : RunsAlong) (ends : LegalEnds) (o : Object) (there : slice_get objects x ≡ Some o) (named : StepsHaveOps o.table) (w : List ℕ) (p q : ℕ) (r : List ℕ) (free : o.conflicts p q ≡ false) where
   -- the view of transaction 3, update in place
-  view_3_undo : (s : Summary) → s.survives ≡ survived objects x along ends o there w p q → ops (view Undo s x 3) ≡ w ++ q ∷ p ∷ []
-  view_3_undo s is = ap (λ V. ops (at_object x V)) is ∙ ap ops (at-two objects x along ends o there w p q) ∙ survived-ops objects x along ends o there w p q
+  view_3_undo : (s : Summary) → s.survives ≡ survived objects x along ends o there named w p q → ops (view Undo s x 3) ≡ w ++ q ∷ p ∷ []
+  view_3_undo s is = ap (λ V. ops (at_object x V)) is ∙ ap ops (at-two objects x along ends o there named w p q) ∙ survived-ops objects x along ends o there named w p q
 
   -- by ways of recovery, that p is let in and legal, and what transaction 3 runs
-  let_in : (way : Kind) → o.kind ≡ way → ((V : List Entry) → stops_at way o (0 ∷ []) V 2 p (first_of_1 objects x along ends o there w p q) ≡ false) → IsLetIn objects x along ends o there w p q
-  let_in way is free_by V = subst (λ (kind : Kind). stops_at kind o (0 ∷ []) V 2 p (first_of_1 objects x along ends o there w p q) ≡ false) (sym is) (free_by V)
+  let_in : (way : Kind) → o.kind ≡ way → ((V : List Entry) → stops_at way o (0 ∷ []) V 2 p (first_of_1 objects x along ends o there named w p q) ≡ false) → IsLetIn objects x along ends o there named w p q
+  let_in way is free_by V = subst (λ (kind : Kind). stops_at kind o (0 ∷ []) V 2 p (first_of_1 objects x along ends o there named w p q) ≡ false) (sym is) (free_by V)
 
-  seen_legal : (way : Kind) → o.kind ≡ way → IsLegalAt o (view_of_2 objects x along ends o there w p q way ++ p ∷ []) → IsLegalAt o (view_of_2 objects x along ends o there w p q o.kind ++ p ∷ [])
-  seen_legal way is legal = subst (λ (kind : Kind). IsLegalAt o (view_of_2 objects x along ends o there w p q kind ++ p ∷ [])) (sym is) legal
+  seen_legal : (way : Kind) → o.kind ≡ way → IsLegalAt o (view_of_2 objects x along ends o there named w p q way ++ p ∷ []) → IsLegalAt o (view_of_2 objects x along ends o there named w p q o.kind ++ p ∷ [])
+  seen_legal way is legal = subst (λ (kind : Kind). IsLegalAt o (view_of_2 objects x along ends o there named w p q kind ++ p ∷ [])) (sym is) legal
 
   goes_on : (way : Kind) → o.kind ≡ way → (s : Summary) → Goes o.table (ops (view way s x 3)) r → Goes o.table (ops (view o.kind s x 3)) r
   goes_on way is s goes = subst (λ (kind : Kind). Goes o.table (ops (view kind s x 3)) r) (sym is) goes
@@ -342,44 +333,44 @@ module _ (objects : List Object) (x : ℕ) (along : RunsAlong) (ends : LegalEnds
       let q_legal : IsLegalAt o (w ++ q ∷ []) = legal-front o.table begin (w ++ q ∷ []) (p ∷ []) p_legal in
       let rest : List EventKind = Commit 2 ∷ Commit 1 ∷ Begin 3 ∷ (by x 3 r ++ Commit 3 ∷ []) in
       runs-events objects [] (Begin 0 ∷ (by x 0 w ++ (Commit 0 ∷ Begin 1 ∷ Begin 2 ∷ Op 1 x q ∷ Op 2 x p ∷ rest)))
-      (prefix_runs objects x along ends o there w p q rest (let_in Undo undo (λ V. free)) q_legal (seen_legal Undo undo p_legal)
-      (tail_runs objects x along ends o there w p q 2 1 r refl refl refl refl refl (goes_on Undo undo (ended objects x along ends o there w p q 2 1) (rw (view_3_undo (ended objects x along ends o there w p q 2 1) refl) (goes_from objects x along ends o there (w ++ q ∷ p ∷ []) r both)))))
+      (prefix_runs objects x along ends o there named w p q rest (let_in Undo undo (λ V. free)) q_legal (seen_legal Undo undo p_legal)
+      (tail_runs objects x along ends o there named w p q 2 1 r refl refl refl refl refl (goes_on Undo undo (ended objects x along ends o there named w p q 2 1) (rw (view_3_undo (ended objects x along ends o there named w p q 2 1) refl) (goes_from objects x along ends o there named (w ++ q ∷ p ∷ []) r both)))))
 
 pub undo_breaks : RunsAlong → LegalEnds → UndoBreaks
-undo_breaks along ends objects x o w p q r there undo free legal = (
-  undo_runs objects x along ends o there w p q r free undo legal,
-  ap (λ (s : Summary). s.committed) (summary_at_end objects x along ends o there w p q 2 1 r),
-  ap (λ (s : Summary). ops (serial s.committed (at_object x s.survives))) (summary_at_end objects x along ends o there w p q 2 1 r) ∙ two_one objects x along ends o there w p q r,
+undo_breaks along ends objects x o w p q r there named undo free legal = (
+  undo_runs objects x along ends o there named w p q r free undo legal,
+  ap (λ (s : Summary). s.committed) (summary_at_end objects x along ends o there named w p q 2 1 r),
+  ap (λ (s : Summary). ops (serial s.committed (at_object x s.survives))) (summary_at_end objects x along ends o there named w p q 2 1 r) ∙ two_one objects x along ends o there named w p q r,
 )
 
 -- ---- deferred update
 
-module _ (objects : List Object) (x : ℕ) (along : RunsAlong) (ends : LegalEnds) (o : Object) (there : slice_get objects x ≡ Some o) (w : List ℕ) (p q : ℕ) (r : List ℕ) (free : o.conflicts p q ≡ false) where
+module _ (objects : List Object) (x : ℕ) (along : RunsAlong) (ends : LegalEnds) (o : Object) (there : slice_get objects x ≡ Some o) (named : StepsHaveOps o.table) (w : List ℕ) (p q : ℕ) (r : List ℕ) (free : o.conflicts p q ≡ false) where
   -- the view of transaction 3
-  view_one_two : ops (view Intentions (ended objects x along ends o there w p q 1 2) x 3) ≡ w ++ q ∷ p ∷ []
+  view_one_two : ops (view Intentions (ended objects x along ends o there named w p q 1 2) x 3) ≡ w ++ q ∷ p ∷ []
   view_one_two =
-      let S = survived objects x along ends o there w p q in
+      let S = survived objects x along ends o there named w p q in
       ap (λ V. ops (serial (0 ∷ 1 ∷ 2 ∷ []) (at_object x V) ++ of 3 (at_object x V))) (sym (append-nil S))
-      ∙ ap ops (sym (serial-snoc (0 ∷ 1 ∷ 2 ∷ []) 3 (at_object x (S ++ [])))) ∙ one_two objects x along ends o there w p q []
+      ∙ ap ops (sym (serial-snoc (0 ∷ 1 ∷ 2 ∷ []) 3 (at_object x (S ++ [])))) ∙ one_two objects x along ends o there named w p q []
 
-  view_two_one : ops (view Intentions (ended objects x along ends o there w p q 2 1) x 3) ≡ w ++ p ∷ q ∷ []
+  view_two_one : ops (view Intentions (ended objects x along ends o there named w p q 2 1) x 3) ≡ w ++ p ∷ q ∷ []
   view_two_one =
-      let S = survived objects x along ends o there w p q in
+      let S = survived objects x along ends o there named w p q in
       ap (λ V. ops (serial (0 ∷ 2 ∷ 1 ∷ []) (at_object x V) ++ of 3 (at_object x V))) (sym (append-nil S))
-      ∙ ap ops (sym (serial-snoc (0 ∷ 2 ∷ 1 ∷ []) 3 (at_object x (S ++ [])))) ∙ two_one objects x along ends o there w p q []
+      ∙ ap ops (sym (serial-snoc (0 ∷ 2 ∷ 1 ∷ []) 3 (at_object x (S ++ [])))) ∙ two_one objects x along ends o there named w p q []
 
   -- the first commits first
   pub one_two_runs : o.kind ≡ Intentions → IsLegalAt o (w ++ q ∷ []) → IsLegalAt o (w ++ p ∷ []) → Goes o.table (w ++ q ∷ p ∷ []) r → IsRun objects (breaking x 1 2 w p q r)
   one_two_runs deferred q_legal p_legal goes =
       let rest : List EventKind = Commit 1 ∷ Commit 2 ∷ Begin 3 ∷ (by x 3 r ++ Commit 3 ∷ []) in
       runs-events objects [] (Begin 0 ∷ (by x 0 w ++ (Commit 0 ∷ Begin 1 ∷ Begin 2 ∷ Op 1 x q ∷ Op 2 x p ∷ rest)))
-      (prefix_runs objects x along ends o there w p q rest (let_in objects x along ends o there w p q r free Intentions deferred (λ V. free)) q_legal (seen_legal objects x along ends o there w p q r free Intentions deferred p_legal)
-      (tail_runs objects x along ends o there w p q 1 2 r refl refl refl refl refl (goes_on objects x along ends o there w p q r free Intentions deferred (ended objects x along ends o there w p q 1 2) (rw view_one_two goes))))
+      (prefix_runs objects x along ends o there named w p q rest (let_in objects x along ends o there named w p q r free Intentions deferred (λ V. free)) q_legal (seen_legal objects x along ends o there named w p q r free Intentions deferred p_legal)
+      (tail_runs objects x along ends o there named w p q 1 2 r refl refl refl refl refl (goes_on objects x along ends o there named w p q r free Intentions deferred (ended objects x along ends o there named w p q 1 2) (rw view_one_two goes))))
 
   -- the second does
   pub two_one_runs : o.kind ≡ Intentions → IsLegalAt o (w ++ q ∷ []) → IsLegalAt o (w ++ p ∷ []) → Goes o.table (w ++ p ∷ q ∷ []) r → IsRun objects (breaking x 2 1 w p q r)
   two_one_runs deferred q_legal p_legal goes =
       let rest : List EventKind = Commit 2 ∷ Commit 1 ∷ Begin 3 ∷ (by x 3 r ++ Commit 3 ∷ []) in
       runs-events objects [] (Begin 0 ∷ (by x 0 w ++ (Commit 0 ∷ Begin 1 ∷ Begin 2 ∷ Op 1 x q ∷ Op 2 x p ∷ rest)))
-      (prefix_runs objects x along ends o there w p q rest (let_in objects x along ends o there w p q r free Intentions deferred (λ V. free)) q_legal (seen_legal objects x along ends o there w p q r free Intentions deferred p_legal)
-      (tail_runs objects x along ends o there w p q 2 1 r refl refl refl refl refl (goes_on objects x along ends o there w p q r free Intentions deferred (ended objects x along ends o there w p q 2 1) (rw view_two_one goes))))
+      (prefix_runs objects x along ends o there named w p q rest (let_in objects x along ends o there named w p q r free Intentions deferred (λ V. free)) q_legal (seen_legal objects x along ends o there named w p q r free Intentions deferred p_legal)
+      (tail_runs objects x along ends o there named w p q 2 1 r refl refl refl refl refl (goes_on objects x along ends o there named w p q r free Intentions deferred (ended objects x along ends o there named w p q 2 1) (rw view_two_one goes))))

@@ -1,5 +1,5 @@
 -- The run that a witness of a pair gives.
-use Rattle.std.proofs.Common.{◌≡◌, ◌⊎◌, ℕ, Bool, true, false, List, [], ◌∷◌, ◌++◌, Option, Some, IsSome, slice_get, refl, sym, ap, ◌∙◌, inl, inr, subst, append_assoc}
+use Rattle.std.proofs.Common.{◌≡◌, ◌⊎◌, ℕ, Bool, true, false, List, [], ◌∷◌, ◌++◌, Some, slice_get, refl, sym, ap, ◌∙◌, inl, inr, subst, append_assoc}
 use Rattle.type_table.specs.Run.{run, IsLegal}
 use Rattle.type_table.specs.Laws.{RunsAlong, LegalEnds}
 use Rattle.type_table.specs.declared.table_kind.TableKind.{TableKind}
@@ -12,22 +12,21 @@ use Rattle.serial_order.specs.Operations.{at_object, ops, serial}
 use Rattle.serial_order.specs.History.{Summary, commits}
 use Rattle.serial_order.specs.Serial.{surviving_at}
 use Rattle.explaining.specs.Text.{first_commit, second_commit, failing_order}
-use Rattle.explaining.specs.Witnesses.{Parts, Shows, IsWitness, lead_of, tell_of}
-use Rattle.explaining.specs.declared.witness.Witness.{Witness}
-use Rattle.dynamic_atomicity.specs.Converse.{breaking, Goes}
-use Rattle.dynamic_atomicity.specs.Witnessed.{IsBroken, history_of, WitnessBreaks}
+use Rattle.explaining.specs.Witnesses.{Parts, Shows, lead_of, tell_of}
+use Rattle.dynamic_atomicity.specs.Converse.{breaking, Goes, StepsHaveOps}
+use Rattle.dynamic_atomicity.specs.Witnessed.{IsBroken, WitnessBreaks}
 use Rattle.dynamic_atomicity.proofs.Breaking.{goes_from, summary_at_end, one_two, two_one, undo_breaks, one_two_runs, two_one_runs}
 use Rattle.dynamic_atomicity.proofs.Converse.{either}
 use Rattle.dynamic_atomicity.proofs.Keeping.{keeps_breaking}
 
-module _ (objects : List Object) (x : ℕ) (along : RunsAlong) (ends : LegalEnds) (o : Object) (there : slice_get objects x ≡ Some o) (p q : ℕ) (free : o.conflicts p q ≡ false) (s : ℕ) (w r : List ℕ)
+module _ (objects : List Object) (x : ℕ) (along : RunsAlong) (ends : LegalEnds) (o : Object) (there : slice_get objects x ≡ Some o) (named : StepsHaveOps o.table) (p q : ℕ) (free : o.conflicts p q ≡ false) (s : ℕ) (w r : List ℕ)
     (leads : run o.table (Some o.table.initial) w ≡ Some s) where
   -- the rest goes on after the order that is legal
   goes : (a b : ℕ) → ((r ≡ []) ⊎ IsLegal o.table (run o.table (Some s) (a ∷ b ∷ [])) r) → Goes o.table (w ++ a ∷ b ∷ []) r
   goes a b either_is =
       elim either_is [
         | inl empty ↦ subst (λ (v : List ℕ). Goes o.table (w ++ a ∷ b ∷ []) v) (sym empty) tt
-        | inr legal ↦ goes_from objects x along ends o there (w ++ a ∷ b ∷ []) r (rw (append_assoc w (a ∷ b ∷ []) r) (legal-after along o.table (Some o.table.initial) w (a ∷ b ∷ r) s leads legal))
+        | inr legal ↦ goes_from objects x along ends o there named (w ++ a ∷ b ∷ []) r (rw (append_assoc w (a ∷ b ∷ []) r) (legal-after along o.table (Some o.table.initial) w (a ∷ b ∷ r) s leads legal))
       ]
 
   -- the other order isn't legal
@@ -36,13 +35,13 @@ module _ (objects : List Object) (x : ℕ) (along : RunsAlong) (ends : LegalEnds
 
   -- in the order in which 2 commits first, and in that in which 1 does
   serial_two : (first second : ℕ) → ops (serial (0 ∷ 2 ∷ 1 ∷ 3 ∷ []) (surviving_at x (breaking x first second w p q r))) ≡ w ++ p ∷ q ∷ r
-  serial_two first second = ap (λ (m : Summary). ops (serial (0 ∷ 2 ∷ 1 ∷ 3 ∷ []) (at_object x m.survives))) (summary_at_end objects x along ends o there w p q first second r) ∙ two_one objects x along ends o there w p q r
+  serial_two first second = ap (λ (m : Summary). ops (serial (0 ∷ 2 ∷ 1 ∷ 3 ∷ []) (at_object x m.survives))) (summary_at_end objects x along ends o there named w p q first second r) ∙ two_one objects x along ends o there named w p q r
 
   serial_one : (first second : ℕ) → ops (serial (0 ∷ 1 ∷ 2 ∷ 3 ∷ []) (surviving_at x (breaking x first second w p q r))) ≡ w ++ q ∷ p ∷ r
-  serial_one first second = ap (λ (m : Summary). ops (serial (0 ∷ 1 ∷ 2 ∷ 3 ∷ []) (at_object x m.survives))) (summary_at_end objects x along ends o there w p q first second r) ∙ one_two objects x along ends o there w p q r
+  serial_one first second = ap (λ (m : Summary). ops (serial (0 ∷ 1 ∷ 2 ∷ 3 ∷ []) (at_object x m.survives))) (summary_at_end objects x along ends o there named w p q first second r) ∙ one_two objects x along ends o there named w p q r
 
   committed : (first second : ℕ) → commits (breaking x first second w p q r) ≡ 0 ∷ first ∷ second ∷ 3 ∷ []
-  committed first second = ap (λ (m : Summary). m.committed) (summary_at_end objects x along ends o there w p q first second r)
+  committed first second = ap (λ (m : Summary). m.committed) (summary_at_end objects x along ends o there named w p q first second r)
 
   broken-undo : o.kind ≡ Undo → IsLegal o.table (Some s) (q ∷ p ∷ []) → Parts o.table (run o.table (Some s) (q ∷ p ∷ [])) (run o.table (Some s) (p ∷ q ∷ [])) r →
       IsBroken objects x o (breaking x 2 1 w p q r) (0 ∷ 2 ∷ 1 ∷ 3 ∷ [])
@@ -51,7 +50,7 @@ module _ (objects : List Object) (x : ℕ) (along : RunsAlong) (ends : LegalEnds
         | inl empty ↦ rw empty asked
         | inr on ↦ on
       ] in
-      let known = undo_breaks along ends objects x o w p q r there undo free (legal-after along o.table (Some o.table.initial) w (q ∷ p ∷ r) s leads legal) in
+      let known = undo_breaks along ends objects x o w p q r there named undo free (legal-after along o.table (Some o.table.initial) w (q ∷ p ∷ r) s leads legal) in
       record {
         is_run = known.0;
         is_order = rw known.1 (record { once = (refl, (refl, (refl, (refl, tt)))); same = λ t. refl });
@@ -68,7 +67,7 @@ module _ (objects : List Object) (x : ℕ) (along : RunsAlong) (ends : LegalEnds
 
     broken-held_first : Parts o.table (run o.table (Some s) (q ∷ p ∷ [])) (run o.table (Some s) (p ∷ q ∷ [])) r → IsBroken objects x o (breaking x 1 2 w p q r) (0 ∷ 2 ∷ 1 ∷ 3 ∷ [])
     broken-held_first parts = record {
-      is_run = one_two_runs objects x along ends o there w p q r free deferred after_q after_p (goes q p parts.goes_on);
+      is_run = one_two_runs objects x along ends o there named w p q r free deferred after_q after_p (goes q p parts.goes_on);
       is_order = rw (committed 1 2) (record { once = (refl, (refl, (refl, (refl, tt)))); same = either });
       keeps = keeps_breaking x (0 ∷ 2 ∷ 1 ∷ 3 ∷ []) 1 2 w p q r refl refl (refl, (refl, (refl, tt)));
       illegal = λ h. not_legal p q parts.breaks (rw (serial_two 1 2) at h);
@@ -76,7 +75,7 @@ module _ (objects : List Object) (x : ℕ) (along : RunsAlong) (ends : LegalEnds
 
     broken-other : Parts o.table (run o.table (Some s) (p ∷ q ∷ [])) (run o.table (Some s) (q ∷ p ∷ [])) r → IsBroken objects x o (breaking x 2 1 w p q r) (0 ∷ 1 ∷ 2 ∷ 3 ∷ [])
     broken-other parts = record {
-      is_run = two_one_runs objects x along ends o there w p q r free deferred after_q after_p (goes p q parts.goes_on);
+      is_run = two_one_runs objects x along ends o there named w p q r free deferred after_q after_p (goes p q parts.goes_on);
       is_order = rw (committed 2 1) (record { once = (refl, (refl, (refl, (refl, tt)))); same = λ t. sym (either t) });
       keeps = keeps_breaking x (0 ∷ 1 ∷ 2 ∷ 3 ∷ []) 2 1 w p q r refl refl (refl, (refl, (refl, tt)));
       illegal = λ h. not_legal q p parts.breaks (rw (serial_one 2 1) at h);
@@ -89,5 +88,5 @@ module _ (objects : List Object) (x : ℕ) (along : RunsAlong) (ends : LegalEnds
   by_kind tabled.Intentions false is shows = broken-other is (shows.asked).0 (shows.asked).1 shows.parts
 
 pub witness_breaks : RunsAlong → LegalEnds → WitnessBreaks
-witness_breaks along ends objects x o kind p q w there is free witness =
-    by_kind objects x along ends o there p q free w.state (lead_of w) (tell_of w) witness.leads kind w.held_first is witness.shows
+witness_breaks along ends objects x o kind p q w there named is free witness =
+    by_kind objects x along ends o there named p q free w.state (lead_of w) (tell_of w) witness.leads kind w.held_first is witness.shows

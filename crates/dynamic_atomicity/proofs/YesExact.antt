@@ -21,7 +21,7 @@ use Rattle.table_checker.specs.Reach.{NeverLeaves}
 use Rattle.table_checker.specs.Checked.{Checked, IsCertified, IsChecked, condition_of}
 use Rattle.object_trait.specs.Object.{Object, object_of}
 use Rattle.object_trait.specs.Laws.{CheckedIsCovered}
-use Rattle.dynamic_atomicity.specs.Converse.{IsComplete, IsReachable, AdmitsLegalOnly, CoverIsExact, YesIsExact}
+use Rattle.dynamic_atomicity.specs.Converse.{IsComplete, IsReachable, AdmitsLegalOnly, StepsHaveOps, CoverIsExact, YesIsExact}
 
 module _ (inside : EndsWithin) (file : TypeFile) (table : IsTable file.table) (complete : IsComplete file) where
   -- two ends of which the first looks like the second are related
@@ -82,25 +82,25 @@ set_closed within T members table never = λ s k t member step.
 
 -- by kinds with a conflict table
 exact_by : StepsWithin → EndsWithin → CheckedIsCovered → CoverIsExact → (objects : List Object) (x : ℕ) (file : TypeFile) (way : TableKind)
-    → slice_get objects x ≡ Some (object_of (record { kind = of_table way; file = file })) → IsTable file.table → IsCertified file → IsComplete file
+    → slice_get objects x ≡ Some (object_of (record { kind = of_table way; file = file })) → StepsHaveOps file.table → IsTable file.table → IsCertified file → IsComplete file
     → ((s : ℕ) → has file.reach s ≡ true → IsReachable file.table s)
     → IsChecked (record { kind = of_table way; file = file }) ↔ AdmitsLegalOnly objects x (object_of (record { kind = of_table way; file = file }))
-exact_by within inside covers exact objects x file tabled.Undo there table certified complete reach =
+exact_by within inside covers exact objects x file tabled.Undo there named table certified complete reach =
     let c : Checked = record { kind = Undo; file = file } in
     let closed = set_closed within file.table file.reach table certified.never_leaves in
-    let known = exact objects x (object_of c) tabled.Undo there refl (record { begins_inside = certified.begins_inside; closed = closed; reach = reach }) in (
+    let known = exact objects x (object_of c) tabled.Undo there named refl (record { begins_inside = certified.begins_inside; closed = closed; reach = reach }) in (
       (λ checked. known.0 (covers c checked).0),
       (λ admits. record { table = table; certified = certified; passes = covers-pass inside file table complete tabled.Undo (known.1 admits).commute }),
     )
-exact_by within inside covers exact objects x file tabled.Intentions there table certified complete reach =
+exact_by within inside covers exact objects x file tabled.Intentions there named table certified complete reach =
     let c : Checked = record { kind = Intentions; file = file } in
     let closed = set_closed within file.table file.reach table certified.never_leaves in
-    let known = exact objects x (object_of c) tabled.Intentions there refl (record { begins_inside = certified.begins_inside; closed = closed; reach = reach }) in (
+    let known = exact objects x (object_of c) tabled.Intentions there named refl (record { begins_inside = certified.begins_inside; closed = closed; reach = reach }) in (
       (λ checked. known.0 (covers c checked).0),
       (λ admits. record { table = table; certified = certified; passes = covers-pass inside file table complete tabled.Intentions (known.1 admits).commute }),
     )
 
 pub yes_is_exact : StepsWithin → EndsWithin → CheckedIsCovered → CoverIsExact → YesIsExact
-yes_is_exact within inside covers exact objects x c way there is table certified complete reach =
+yes_is_exact within inside covers exact objects x c way there named is table certified complete reach =
     subst (λ (kind : Kind). slice_get objects x ≡ Some (object_of (record { kind = kind; file = c.file })) → IsChecked (record { kind = kind; file = c.file }) ↔ AdmitsLegalOnly objects x (object_of (record { kind = kind; file = c.file })))
-    (sym is) (λ here. exact_by within inside covers exact objects x c.file way here table certified complete reach) there
+    (sym is) (λ here. exact_by within inside covers exact objects x c.file way here named table certified complete reach) there

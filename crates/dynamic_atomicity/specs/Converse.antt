@@ -1,7 +1,7 @@
 -- Necessity: a pair that doesn't commute and isn't in the table lets a history in that isn't dynamically atomic, at an object among any
 -- others.
-use Rattle.std.specs.Prelude.{◌≡◌, ◌↔◌, ℕ, ◌<◌, List, [], ◌∷◌, ◌++◌, map, true, false, Some, slice_get}
-use Rattle.type_table.specs.Table.{Table, IsTable}
+use Rattle.std.specs.Prelude.{◌≡◌, ◌↔◌, ℕ, ◌<◌, List, [], ◌∷◌, ◌++◌, map, true, false, Some, IsSome, slice_get}
+use Rattle.type_table.specs.Table.{Table, IsTable, has_op, next}
 use Rattle.type_table.specs.Run.{run, IsLegal, Looks, AreEqui}
 use Rattle.type_table.specs.StateSet.{has, IsClosed}
 use Rattle.equi_cert.specs.Relation.{relates}
@@ -20,6 +20,11 @@ use Rattle.serial_order.specs.Machine.{IsRun}
 use Rattle.serial_order.specs.Serial.{surviving_at, serial_at}
 use Rattle.dynamic_atomicity.specs.Dynamic.{IsOrderOf, KeepsPrecedes, executed_at, end_of}
 use Rattle.serial_order.specs.Examples.{events}
+
+-- each step is by one of the type's operations: numbers of its table that have no name are legal nowhere. So it is of every type that is
+-- declared (`steps_have_ops`)
+abbrev pub StepsHaveOps : Table → Type 0
+StepsHaveOps T = (s k : ℕ) → IsSome (next T s k) → has_op T k ≡ true
 
 -- these operations, by t, at the object at x
 abbrev pub by : ℕ → ℕ → List ℕ → List EventKind
@@ -55,16 +60,16 @@ pub record IsReached (o : Object) : Type 0 where
 -- it is p and then q there
 abbrev pub UndoBreaks : Type 0
 UndoBreaks =
-    (objects : List Object) (x : ℕ) (o : Object) (w : List ℕ) (p q : ℕ) (r : List ℕ) → slice_get objects x ≡ Some o → o.kind ≡ Undo
-    → o.conflicts p q ≡ false → IsLegal o.table (Some o.table.initial) (w ++ q ∷ p ∷ r)
+    (objects : List Object) (x : ℕ) (o : Object) (w : List ℕ) (p q : ℕ) (r : List ℕ) → slice_get objects x ≡ Some o → StepsHaveOps o.table
+    → o.kind ≡ Undo → o.conflicts p q ≡ false → IsLegal o.table (Some o.table.initial) (w ++ q ∷ p ∷ r)
     → IsRun objects (breaking x 2 1 w p q r) × (commits (breaking x 2 1 w p q r) ≡ 0 ∷ 2 ∷ 1 ∷ 3 ∷ [])
     × (ops (serial_at x (breaking x 2 1 w p q r)) ≡ w ++ p ∷ q ∷ r)
 
 -- a conflict table is enough exactly where the locks admit legal orders only
 abbrev pub CoverIsExact : Type 0
 CoverIsExact =
-    (objects : List Object) (x : ℕ) (o : Object) (way : TableKind) → slice_get objects x ≡ Some o → o.kind ≡ of_table way → IsReached o
-    → IsCovered o ↔ AdmitsLegalOnly objects x o
+    (objects : List Object) (x : ℕ) (o : Object) (way : TableKind) → slice_get objects x ≡ Some o → StepsHaveOps o.table → o.kind ≡ of_table way
+    → IsReached o → IsCovered o ↔ AdmitsLegalOnly objects x o
 
 -- the file's relation has each pair of states of which the first looks like the second
 abbrev pub IsComplete : TypeFile → Type 0
@@ -73,21 +78,21 @@ IsComplete file = (s t : ℕ) → s < file.table.states → t < file.table.state
 -- so for the checker's yes: over a set of states that are all reached, and a relation that is complete
 abbrev pub YesIsExact : Type 0
 YesIsExact =
-    (objects : List Object) (x : ℕ) (c : Checked) (way : TableKind) → slice_get objects x ≡ Some (object_of c) → c.kind ≡ of_table way
-    → IsTable c.file.table → IsCertified c.file → IsComplete c.file → ((s : ℕ) → has c.file.reach s ≡ true → IsReachable c.file.table s)
+    (objects : List Object) (x : ℕ) (c : Checked) (way : TableKind) → slice_get objects x ≡ Some (object_of c) → StepsHaveOps c.file.table
+    → c.kind ≡ of_table way → IsTable c.file.table → IsCertified c.file → IsComplete c.file → ((s : ℕ) → has c.file.reach s ≡ true → IsReachable c.file.table s)
     → IsChecked c ↔ AdmitsLegalOnly objects x (object_of c)
 
 -- update in place: commit order alone is exact too
 abbrev pub UndoSerialIsExact : Type 0
 UndoSerialIsExact =
-    (objects : List Object) (x : ℕ) (o : Object) → slice_get objects x ≡ Some o → o.kind ≡ Undo → IsReached o
+    (objects : List Object) (x : ℕ) (o : Object) → slice_get objects x ≡ Some o → StepsHaveOps o.table → o.kind ≡ Undo → IsReached o
     → IsCovered o ↔ ((H : List Event) → IsRun objects H → IsLegal o.table (Some o.table.initial) (ops (serial_at x H)))
 
 -- update in place, of a table that is enough: it is so strongly exactly where the end of what was executed is equieffective to that of
 -- each order that keeps what precedes
 abbrev pub StrongIsExact : Type 0
 StrongIsExact =
-    (objects : List Object) (x : ℕ) (o : Object) → slice_get objects x ≡ Some o → o.kind ≡ Undo → IsReached o → IsCovered o
-    → IsCoveredStrongly o
+    (objects : List Object) (x : ℕ) (o : Object) → slice_get objects x ≡ Some o → StepsHaveOps o.table → o.kind ≡ Undo → IsReached o
+    → IsCovered o → IsCoveredStrongly o
     ↔ ((H : List Event) → IsRun objects H → (ts : List ℕ) → IsOrderOf (commits H) ts → KeepsPrecedes x H ts
     → AreEqui o.table (end_of o (executed_at x H)) (end_of o (serial ts (surviving_at x H))))

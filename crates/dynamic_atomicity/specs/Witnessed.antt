@@ -13,7 +13,7 @@ use Rattle.explaining.specs.Text.{first_commit, second_commit, failing_order}
 use Rattle.explaining.specs.Witnesses.{IsWitness, lead_of, tell_of}
 use Rattle.explaining.specs.declared.witness.Witness.{Witness}
 use Rattle.dynamic_atomicity.specs.Dynamic.{IsOrderOf, KeepsPrecedes}
-use Rattle.dynamic_atomicity.specs.Converse.{breaking}
+use Rattle.dynamic_atomicity.specs.Converse.{StepsHaveOps, breaking}
 
 -- the history that is written of it, at the object at x
 abbrev pub history_of : ℕ → TableKind → ℕ → ℕ → Witness → List Event
@@ -29,5 +29,5 @@ pub record IsBroken (objects : List Object) (x : ℕ) (o : Object) (H : List Eve
 -- so it is of each witness of a pair that the object's conflict table hasn't
 abbrev pub WitnessBreaks : Type 0
 WitnessBreaks =
-    (objects : List Object) (x : ℕ) (o : Object) (kind : TableKind) (p q : ℕ) (w : Witness) → slice_get objects x ≡ Some o → o.kind ≡ of_table kind
-    → o.conflicts p q ≡ false → IsWitness kind o.table p q w → IsBroken objects x o (history_of x kind p q w) (failing_order w.held_first)
+    (objects : List Object) (x : ℕ) (o : Object) (kind : TableKind) (p q : ℕ) (w : Witness) → slice_get objects x ≡ Some o → StepsHaveOps o.table
+    → o.kind ≡ of_table kind → o.conflicts p q ≡ false → IsWitness kind o.table p q w → IsBroken objects x o (history_of x kind p q w) (failing_order w.held_first)

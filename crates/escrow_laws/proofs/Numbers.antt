@@ -1,10 +1,10 @@
 -- Operations with bounds are numeric.
-use Rattle.std.proofs.Common.{◌≡◌, ℕ, ◌+◌, ◌-◌, ◌<◌, ◌≤◌, ◌&&◌, Option, Some, None, IsSome, refl, sym, ◌∙◌, inl, inr, arith}
+use Rattle.std.proofs.Common.{◌≡◌, ℕ, zero, suc, ◌+◌, ◌-◌, ◌<◌, ◌≤◌, ◌&&◌, Option, Some, None, IsSome, refl, sym, ◌∙◌, inl, inr, arith}
 use Rattle.std.specs.Prelude.{nat_le, slice_get}
 use Rattle.std.proofs.lemmas.Bool.{cases_Bool, false≢true, and_parts, and_left, and_right, leb-true, le-leb, lt-leb}
 use Rattle.std.proofs.lemmas.Option.{none-some}
 use Rattle.escrow_laws.specs.declared.bounded.Bounded.{Bounded}
-use Rattle.escrow_laws.specs.Bounds.{moved, moved_by, gives_of, takes_of, IsWithin}
+use Rattle.escrow_laws.specs.Bounds.{moved, moved_by, gives_of, takes_of, IsWithin, nowhere}
 use Rattle.escrow_laws.specs.Laws.{BoundsAreNumeric}
 
 -- the bounds between which an operation is legal
@@ -23,6 +23,11 @@ moved-under b s under = rw (and_left (nat_le b.low s) (nat_le s b.high) (lt-leb 
 
 pub moved-over : (b : Bounded) (s : ℕ) → b.high < s → moved b s ≡ None
 moved-over b s over = rw (and_right (nat_le b.low s) (nat_le s b.high) (lt-leb s b.high over)) refl
+
+-- what is legal nowhere leads nowhere
+pub moved-nowhere : (s : ℕ) → moved nowhere s ≡ None
+moved-nowhere zero = moved-under nowhere zero (omega arith)
+moved-nowhere (suc s) = moved-over nowhere (suc s) (omega arith)
 
 -- so none is legal above the top
 pub none-above : (found : Option Bounded) (top s : ℕ) → ((b : Bounded) → found ≡ Some b → IsWithin top b) → top < s → moved_by found s ≡ None

@@ -12,10 +12,10 @@ use Rattle.type_table.proofs.Elements.{element_at, cases-more}
 use Rattle.type_table.proofs.Least.{first_below-none, first_below-found, last_below-found}
 use Rattle.type_table.proofs.Legal.{some_state}
 use Rattle.escrow_laws.specs.declared.bounded.Bounded.{Bounded}
-use Rattle.escrow_laws.specs.Bounds.{moved, moved_by, AreBounds, least_legal, greatest_legal, bounded_between, bounded_at, bounds_of}
+use Rattle.escrow_laws.specs.Bounds.{moved, moved_by, AreBounds, least_legal, greatest_legal, bounded_between, bounded_at, bounds_of, nowhere}
 use Rattle.escrow_laws.specs.Faults.{IsNumericFault, IsFaultless, IsFirstNumericFault}
 use Rattle.escrow_laws.specs.Search.{IsIllegalFrom, IsFirstLegal, IsStretch, is_alike, IsFirstOfOperation, IsFaultlessAt, bounded_until, IsBounded}
-use Rattle.escrow_laws.proofs.Numbers.{inside_is, moved-under, moved-over}
+use Rattle.escrow_laws.proofs.Numbers.{inside_is, moved-under, moved-over, moved-nowhere}
 
 -- ---- steps
 
@@ -236,10 +236,6 @@ stop-end within T table k s t n leads before whole =
 
 -- ---- its bounds
 
--- legal from 1 to 0
-abbrev pub never : Bounded
-never = record { low = 1; high = 0; gives = 0; takes = 0 }
-
 -- where it is nowhere at fault, it is illegal from the stop on
 ended-by : (T : Table) (k s t stop : ℕ) → IsFirstLegal T k 0 s t → IsStretch T k s t stop → IsFaultlessAt T k → IsIllegalFrom T k stop
 ended-by T k s t stop first stretch faultless r far =
@@ -253,18 +249,12 @@ legal-here : (T : Table) (k s t : ℕ) → next T s k ≡ Some t → is_some (ne
 legal-here T k s t leads = ap is_some leads
 
 -- one that is legal nowhere has bounds
-pub nowhere-bounded : (T : Table) (k : ℕ) → IsIllegalFrom T k 0 → IsBounded T k never
+pub nowhere-bounded : (T : Table) (k : ℕ) → IsIllegalFrom T k 0 → IsBounded T k nowhere
 nowhere-bounded T k illegal = record {
   is = sym (ap (λ low. bounded_between T k low (greatest_legal T k)) (first_below-none (λ s. is_some (next T s k)) T.states (λ s inside. not-legal T k s (illegal s (omega arith)))));
-  steps = λ s. illegal s (omega arith) ∙ sym (nowhere s);
+  steps = λ s. illegal s (omega arith) ∙ sym (moved-nowhere s);
   within = record { enough = omega arith; legal = omega arith; room = omega arith };
 }
-  where
-    nowhere : (s : ℕ) → moved never s ≡ None
-    nowhere s = elim (cases_lt s 1) [
-      | inl under ↦ moved-under never s under
-      | inr from ↦ moved-over never s (omega (arith, from))
-    ]
 
 -- and so has one that is legal from s up to the stop
 pub stretch-bounded : StepsWithin → (T : Table) → IsTable T → (k s t stop : ℕ) → IsFirstLegal T k 0 s t → IsStretch T k s t stop → IsFaultlessAt T k → IsBounded T k (bounded_until s t stop)

@@ -58,12 +58,16 @@ least_legal T k = first_below T.states (λ s. is_some (next T s k))
 abbrev pub greatest_legal : Table → ℕ → Option ℕ
 greatest_legal T k = last_below T.states (λ s. is_some (next T s k))
 
--- legal from the one to the other, and moving each state as far as it moves the least; what is legal nowhere is legal from 1 to 0
+-- what is legal nowhere is legal from 1 to 0
+abbrev pub nowhere : Bounded
+nowhere = record { low = 1; high = 0; gives = 0; takes = 0 }
+
+-- legal from the one to the other, and moving each state as far as it moves the least
 abbrev pub bounded_between : Table → ℕ → Option ℕ → Option ℕ → Bounded
 bounded_between T k (Some low) (Some high) =
     let end = unwrap_or (next T low k) low in
     record { low = low; high = high; gives = end - low; takes = low - end }
-bounded_between T k low high = record { low = 1; high = 0; gives = 0; takes = 0 }
+bounded_between T k low high = nowhere
 
 abbrev pub bounded_at : Table → ℕ → Bounded
 bounded_at T k = bounded_between T k (least_legal T k) (greatest_legal T k)
@@ -73,10 +77,14 @@ bounds_of T = map (bounded_at T) (range_with_len 0 (length T.ops))
 
 -- ---- bounds that the steps tell
 
--- an operation that is legal at some number, and doesn't both give and take: no others have the same steps
-pub record IsPlain (b : Bounded) : Type 0 where
+-- an operation that is legal at some number, and doesn't both give and take
+pub record IsOneWay (b : Bounded) : Type 0 where
   pub somewhere : b.low ≤ b.high
   pub one_way : (b.gives ≡ 0) ⊎ (b.takes ≡ 0)
+
+-- such an operation, or one that is legal nowhere: no others have the same steps
+abbrev pub IsPlain : Bounded → Type 0
+IsPlain b = IsOneWay b ⊎ (b ≡ nowhere)
 
 -- each of these is one
 abbrev pub ArePlain : List Bounded → Type 0

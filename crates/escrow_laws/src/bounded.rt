@@ -6,3 +6,20 @@ pub struct Bounded {
     pub gives: u32,
     pub takes: u32,
 }
+
+impl Bounded {
+    ghost use Rattle.std.specs.Prelude.{◌≡◌};
+    ghost use Rattle.escrow_laws.specs.Bounds.{nowhere};
+
+    /// One that is legal nowhere: from 1 to 0.
+    pub fn nowhere() -> Bounded
+        ensures { result ≡ nowhere }
+    {
+        Bounded {
+            low: 1,
+            high: 0,
+            gives: 0,
+            takes: 0,
+        }
+    }
+}

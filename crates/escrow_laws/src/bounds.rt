@@ -95,13 +95,7 @@ fn bounds_at(table: &TypeTable, k: u8) -> Bounded
     steps_within();
     let _states = table.states();
     match first_step(table, k, 0) {
-        // from 1 to 0: it is legal nowhere
-        None => Bounded {
-            low: 1,
-            high: 0,
-            gives: 0,
-            takes: 0,
-        },
+        None => Bounded::nowhere(),
         Some(first) => first.until(first_stop(table, k, first)),
     }
 }

@@ -31,14 +31,8 @@ impl OpBounds {
     pub fn none() -> OpBounds
         ensures { result ≡ [] }
     {
-        let never = Bounded {
-            low: 1,
-            high: 0,
-            gives: 0,
-            takes: 0,
-        };
         OpBounds {
-            ops: [never; MOST_OPS],
+            ops: [Bounded::nowhere(); MOST_OPS],
             count: 0,
         }
     }

@@ -1,8 +1,7 @@
 -- What a manager keeps, and what it knows by that.
-use Rattle.std.proofs.Common.{◌≡◌, ◌↔◌, ℕ, ◌+◌, ◌-◌, ◌<◌, ◌≤◌, false, get_or, All, List, [], ◌∷◌, length, Some, refl, sym, ap, subst, ◌∙◌, arith}
+use Rattle.std.proofs.Common.{◌≡◌, ◌↔◌, ℕ, ◌+◌, ◌-◌, ◌<◌, ◌≤◌, false, All, List, [], ◌∷◌, length, Some, refl, sym, ap, subst, ◌∙◌, arith}
 use Rattle.std.specs.Prelude.{slice_get}
 use Rattle.std.proofs.lemmas.List.Elements.{All-from_recursion}
-use Rattle.std.proofs.lemmas.Option.{slice_get-get_or}
 use Rattle.type_table.specs.Table.{Table}
 use Rattle.type_table.proofs.Elements.{each-weaker}
 use Rattle.type_table.specs.Run.{IsLegal}
@@ -118,10 +117,9 @@ module _ {m : Meaning} {marks : List OpenMark} {totals : Totals} (h : IsKeptInEs
 
 -- ---- an operation
 
--- the bounds that were read are those of the operation
-pub op-found : (ops bounds : List Bounded) (k i n : ℕ) (d : Bounded) → bounds ≡ ops → i ≡ k → k < n → length ops ≡ n → slice_get ops k ≡ Some (get_or bounds i d)
-op-found ops bounds k i n d same at within count =
-    slice_get-get_or ops k d (omega (arith, within, count)) ∙ ap (λ (V : List Bounded). Some (get_or V k d)) (sym same) ∙ ap (λ j. Some (get_or bounds j d)) (sym at)
+-- the bounds that were read are those of the operation of the type
+pub op-found : (c d : Checked) (k : ℕ) (b : Bounded) → d ≡ c → slice_get (bounds_in d) k ≡ Some b → slice_get (bounds_in c) k ≡ Some b
+op-found c d k b same found = ap (λ x. slice_get (bounds_in x) k) (sym same) ∙ found
 
 -- ---- a new manager
 

@@ -2,6 +2,11 @@ pub mod Blocking
 pub mod Changing
 pub mod Counting
 pub mod Keeping
+pub mod KeptAmounts
+pub mod KeptMarks
+pub mod Keepers
+pub mod KeptOps
+pub mod KeptWays
 pub mod Marking
 pub mod Passing
 pub mod Remarking

@@ -22,7 +22,7 @@ none-later t top x (o ∷ marks) below later =
 
 module _ (top : ℕ) (amount : Mark → ℕ) (nothing : amount (unmarked top) ≡ 0) where
   -- one mark's is counted
-  counted : (u : ℕ) (marks : List OpenMark) → amount (mark_in top u marks) ≤ sum_by (λ (o : OpenMark). amount o.mark) marks
+  pub counted : (u : ℕ) (marks : List OpenMark) → amount (mark_in top u marks) ≤ sum_by (λ (o : OpenMark). amount o.mark) marks
   counted u [] = omega (arith, nothing)
   counted u (o ∷ marks) =
       let both = sum_by-cons (λ (q : OpenMark). amount q.mark) o marks in
@@ -83,6 +83,26 @@ limit-put top w (o ∷ marks) =
         | inl before ↦ rw (isnt, before) (omega arith)
         | inr behind ↦ rw (isnt, behind) (omega (arith, rest))
       ]
+    ]
+
+-- one mark needs no more than the most that one needs
+pub needed-counted : (top u : ℕ) (marks : List OpenMark) → need_of (mark_in top u marks) ≤ most_needed marks
+needed-counted top u [] = omega arith
+needed-counted top u (o ∷ marks) =
+    let rest = needed-counted top u marks in
+    elim (cases_Bool (eqb o.by u)) [
+      | inl is ↦ rw is (omega arith)
+      | inr other ↦ rw other (omega (arith, rest))
+    ]
+
+-- nor has it a lower limit than the least
+pub limit-counted : (top u : ℕ) (marks : List OpenMark) → least_limit top marks ≤ limit_of (mark_in top u marks)
+limit-counted top u [] = omega arith
+limit-counted top u (o ∷ marks) =
+    let rest = limit-counted top u marks in
+    elim (cases_Bool (eqb o.by u)) [
+      | inl is ↦ rw is (omega arith)
+      | inr other ↦ rw other (omega (arith, rest))
     ]
 
 -- where the other mark needs as much as the one before, that is just what is computed

@@ -1,14 +1,13 @@
 -- What the mark of a transaction says of it, and which numbers fit.
-use Rattle.std.proofs.Common.{◌≡◌, ◌↔◌, ℕ, ◌+◌, ◌-◌, ◌<◌, ◌≤◌, List, [], ◌∷◌, ◌++◌, Option, Some, refl, sym, ap, subst, ◌∙◌, arith}
+use Rattle.std.proofs.Common.{◌≡◌, ◌↔◌, ℕ, ◌+◌, ◌-◌, ◌<◌, ◌≤◌, List, [], ◌∷◌, Some, ap, ◌∙◌, arith}
 use Rattle.std.specs.Prelude.{slice_get}
 use Rattle.type_table.specs.Table.{Table, next}
 use Rattle.type_table.specs.Run.{run, IsLegal}
 use Rattle.type_table.proofs.Legal.{some_state, is_there}
-use Rattle.escrow_laws.specs.Amounts.{fall, rise}
 use Rattle.escrow_laws.specs.Bounds.{moved_by, amounts_of, IsWithin, AreBounds}
-use Rattle.escrow_laws.specs.Firm.{sum_below, IsIdleFrom, IsFirm}
+use Rattle.escrow_laws.specs.Firm.{IsIdleFrom, IsFirm}
 use Rattle.escrow_laws.specs.Marks.{marked, mark_of, FitsIn, fallen_of, risen_of, most_needed, least_limit}
-use Rattle.escrow_laws.specs.Laws.{MarksAreExact, MarksFit, ExtremesTellFirm}
+use Rattle.escrow_laws.specs.Laws.{MarksAreExact, ExtremesTellFirm}
 use Rattle.escrow_laws.specs.declared.bounded.Bounded.{Bounded}
 use Rattle.escrow_laws.specs.declared.mark.Mark.{Mark}
 use Rattle.escrow_laws.specs.declared.mark.OpenMark.{OpenMark}
@@ -69,7 +68,7 @@ pub sums-told : ExtremesTellFirm → (T : Table) (top base m : ℕ) (ops : List 
     IsFirm T (amounts_of ops) base own → (fallen_of marks + most_needed marks ≤ base) × (base + risen_of marks < least_limit top marks)
 sums-told tell T top base m ops own marks bounds inside known idle firm = (tell T top base m ops own marks bounds inside (marks-all top ops own m marks known idle)).1 firm
 
-limit-least : (top : ℕ) (marks : List OpenMark) → least_limit top marks ≤ top + 1
+pub limit-least : (top : ℕ) (marks : List OpenMark) → least_limit top marks ≤ top + 1
 limit-least top [] = omega arith
 limit-least top (o ∷ os) = let rest = limit-least top os in omega (arith, rest)
 

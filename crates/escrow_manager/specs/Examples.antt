@@ -1,8 +1,10 @@
--- Two transactions at the counter from 0 to 5: 1 took 2, and 3 gave 1 and then took 2.
-use Rattle.std.specs.Prelude.{ℕ, List, [], ◌∷◌}
+-- Two transactions at the counter from 0 to 5: 1 took 2, and 3 gave 1 and then took 2. And a number that lists amounts.
+use Rattle.std.specs.Prelude.{ℕ, List, [], ◌∷◌, codes}
 use Rattle.escrow_laws.specs.Marks.{mark_of}
 use Rattle.escrow_laws.specs.Examples.{five_ops}
 use Rattle.escrow_laws.specs.declared.mark.OpenMark.{OpenMark}
+use Rattle.number_text.specs.declared.number_call.NumberCall.TheVariants.{Take, TakeAny, GiveAny}
+use Rattle.number_text.specs.NumberFile.{Number}
 
 -- the mark of t, who did this
 abbrev pub mark_by : ℕ → List ℕ → OpenMark
@@ -16,3 +18,7 @@ giver = mark_by 3 (0 ∷ 1 ∷ [])
 
 abbrev pub both_marks : List OpenMark
 both_marks = taker ∷ giver ∷ []
+
+-- numbers from 0 to 5 that list takes of 3 and of 4, and have calls of any amount
+abbrev pub listing_both : Number
+listing_both = record { name = codes "both"; max = 5; initial = 0; calls = Take 3 ∷ Take 4 ∷ TakeAny ∷ GiveAny ∷ [] }

@@ -2,4 +2,5 @@ pub mod Numeric
 pub mod Marks
 pub mod Totals
 pub mod Kept
+pub mod KeptAmount
 pub mod Examples

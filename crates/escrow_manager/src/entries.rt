@@ -4,15 +4,14 @@ ghost use Rattle.std.specs.Prelude.{◌≡◌, false, ◌^◌, ◌<◌, ◌≤�
 ghost use Rattle.std.specs.List.{find};
 ghost use Rattle.std.specs.Option.{option_map};
 ghost use Rattle.type_table.specs.Run.{IsLegal};
-ghost use Rattle.type_table.specs.declared.kind.Kind.TheVariants.{Escrow};
 ghost use Rattle.escrow_laws.specs.Marks.{marked, mark_of, mark_keeps};
-ghost use Rattle.escrow_manager.specs.Numeric.{bounds_in, greatest};
+ghost use Rattle.escrow_manager.specs.Numeric.{bounds_in, greatest, IsInEscrow};
 ghost use Rattle.object_trait.specs.Strike.{keep_first};
 ghost use Rattle.object_trait.specs.Meaning.{is_open_of, open_of, AreOpen, own_of};
 ghost use Rattle.escrow_manager.specs.Marks.{AreOrdered, mark_in, IsSmall};
 
 use crate::marks::mark_in;
-use crate::numeric::{bounds, greatest};
+use crate::numeric::{bounded, greatest};
 use crate::totals::Totals;
 use escrow_laws::{Bounded, Mark, OpenMark, marks_fit};
 use object_trait::LogEntry;
@@ -58,9 +57,8 @@ pub fn keep_first(log: &mut Vec<LogEntry>, t: u32, n: usize)
     let mut left = n;
     let mut kept = 0;
     for i in 0..log.len() {
-        let entry = log[i];
-        let mine = is_of(entry, t);
-        log[kept] = entry;
+        let mine = is_of(log[i], t);
+        log[kept] = log[i];
         kept += usize::from(stays(mine, left));
         left = left.saturating_sub(usize::from(mine));
     }
@@ -77,7 +75,7 @@ fn marked_if(mark: Mark, mine: bool, op: Bounded) -> Mark
 
 /// The mark of what t did, which is legal from base.
 pub fn mark_of(log: &Vec<LogEntry>, t: u32, checked: &CheckedType, base: u32) -> Mark
-    requires kind { checked.now.kind ≡ Escrow }
+    requires numeric { IsInEscrow checked.now }
     requires opens { AreOpen log.now.items }
     requires operations { All (λ e. e.op < length checked.now.file.table.ops) log.now.items }
     requires base { base ≤ greatest checked.now }
@@ -89,7 +87,7 @@ pub fn mark_of(log: &Vec<LogEntry>, t: u32, checked: &CheckedType, base: u32) ->
     let mut mark = Mark::unmarked(greatest(checked));
     for entry in log {
         let mine = is_of(*entry, t);
-        mark = marked_if(mark, mine, bounds(checked)[usize::from(entry.op)]);
+        mark = marked_if(mark, mine, bounded(checked, entry.op));
     }
     mark
 }

@@ -3,10 +3,12 @@
 #![tactic(auto)]
 
 mod entries;
+mod kept_amount;
 mod manager;
 mod marks;
 mod numeric;
 mod totals;
+mod way;
 
 pub use manager::EscrowManager;
 

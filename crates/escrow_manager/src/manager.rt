@@ -1,13 +1,15 @@
 ghost use Rattle.type_table.specs.declared.kind.Kind.TheVariants.{Escrow};
-ghost use Rattle.std.specs.Prelude.{IsOk, IfOk, IfErr, ◌≡◌, ◌↔◌, ◌≤◌, true, Some};
+ghost use Rattle.std.specs.Prelude.{IsOk, IfOk, IfErr, ◌≡◌, ◌<◌, ◌↔◌, ◌≤◌, true, List, Some};
 ghost use Rattle.escrow_laws.specs.Marks.{mark_of};
+ghost use Rattle.escrow_laws.specs.declared.mark.OpenMark.{OpenMark as MarkOfOne};
 ghost use Rattle.object_trait.specs.Meaning.{own_of, view_of};
 ghost use Rattle.object_trait.specs.Steps.{IsFresh};
 ghost use Rattle.escrow_manager.specs.Numeric.{bounds_in, greatest};
+ghost use Rattle.escrow_manager.specs.Kept.{IsKeptInEscrow};
 
 use crate::entries::{count_of, first_keeper, keep_first, mark_of, take_out};
 use crate::marks::{drop_mark, mark_at, mark_in, place_of, put_mark};
-use crate::numeric::{bounds, greatest, initial};
+use crate::numeric::{bounded, greatest, initial};
 use crate::totals::Totals;
 use escrow_laws::{
     Bounded, Mark, OpenMark, extremes_tell_firm, firm_is_legal, firm_keeps_nobody, marks_are_exact,
@@ -21,8 +23,8 @@ use object_trait::{
 use std::alloc::{AllocError, Global};
 use std::marker::Model;
 use std::sync::Arc;
-use table_checker::CheckedType;
-use type_table::{Kind, Op};
+use table_checker::{CheckedType, Declaration, DeclaredType};
+use type_table::{Kind, Operation};
 
 /// An object in escrow. Its state is the number that is committed, and each open transaction sees this
 /// number after its own operations alone. An operation is admitted exactly where all that the open
@@ -80,10 +82,9 @@ impl EscrowManager {
     {
         checked_is_covered();
         fresh_is_sound();
+        // (read for its clause that the type is numeric, too)
         let base = initial(&checked);
         let totals = Totals::none(greatest(&checked));
-        // (read for its clause that the type is numeric)
-        let _bounds = bounds(&checked);
         EscrowManager {
             checked,
             base,
@@ -93,16 +94,24 @@ impl EscrowManager {
         }
     }
 
+    /// The totals of the marks of all that are open.
+    pub(crate) fn totals(&self) -> Totals
+        ensures { (marks : List MarkOfOne) × IsKeptInEscrow self.now marks result }
+    {
+        self.totals
+    }
+
     /// The mark of what t did.
-    fn mark_of(&self, t: u32) -> Mark
+    pub(crate) fn mark_of(&self, t: u32) -> Mark
         ensures { result ≡ mark_of (greatest self.now.checked) (bounds_in self.now.checked) (own_of self.now.log t) }
     {
         mark_in(&self.marks, t, greatest(&self.checked))
     }
 
     /// The number that t sees.
-    fn seen(&self, t: u32) -> u32
-        ensures { view_of self.now t ≡ Some result }
+    pub(crate) fn seen(&self, t: u32) -> u32
+        ensures exact { view_of self.now t ≡ Some result }
+        ensures inside { result < self.now.checked.file.table.states }
     {
         marks_are_exact();
         marks_fit();
@@ -123,21 +132,25 @@ fn is_legal_at(op: Bounded, number: u32) -> bool
 impl Recovery for EscrowManager {
     ghost meaning = { λ m. m };
 
-    fn ops(&self) -> &[Op] {
-        self.checked.ops()
+    fn declared(&self) -> &DeclaredType {
+        self.checked.declared()
+    }
+
+    fn view(&self, t: u32) -> u32 {
+        self.seen(t)
     }
 
     fn state(&self) -> u32 {
         self.base
     }
 
-    fn legal(&self, t: u32, k: u8) -> bool {
-        let op = bounds(&self.checked)[usize::from(k)];
+    fn legal(&self, t: u32, k: Operation) -> bool {
+        let op = bounded(&self.checked, k);
         let number = self.seen(t);
         is_legal_at(op, number)
     }
 
-    fn blocker(&self, t: u32, k: u8) -> Option<u32> {
+    fn blocker(&self, t: u32, k: Operation) -> Option<u32> {
         marks_are_exact();
         marks_fit();
         marks_tell();
@@ -145,7 +158,7 @@ impl Recovery for EscrowManager {
         firm_is_legal();
         firm_keeps_nobody();
         let old = self.mark_of(t);
-        let mark = old.marked(bounds(&self.checked)[usize::from(k)]);
+        let mark = old.marked(bounded(&self.checked, k));
         let totals = self.totals.with(old, mark);
         if totals.are_firm(self.base) {
             return None;
@@ -161,7 +174,18 @@ impl Recovery for EscrowManager {
         )
     }
 
-    fn apply(&mut self, t: u32, k: u8) -> Result<(), AllocError> {
+    fn amount_kept(&self, t: u32, place: u8, u: u32) -> Option<u32> {
+        match self.declared().declaration() {
+            Declaration::Table(file) => {
+                // (read for its clause on what is known of a table, which has no amounts)
+                let _states = file.table.states();
+                None
+            }
+            Declaration::Number(number) => self.number_kept(number, t, place, u),
+        }
+    }
+
+    fn apply(&mut self, t: u32, k: Operation) -> Result<(), AllocError> {
         sound_after_apply();
         marks_are_exact();
         marks_fit();
@@ -172,7 +196,7 @@ impl Recovery for EscrowManager {
         let top = greatest(&self.checked);
         let at = place_of(&self.marks, t);
         let old = mark_at(&self.marks, at, t, top);
-        let mark = old.marked(bounds(&self.checked)[usize::from(k)]);
+        let mark = old.marked(bounded(&self.checked, k));
         put_mark(&mut self.marks, at, OpenMark { by: t, mark });
         self.log.push_reserved(LogEntry {
             by: t,

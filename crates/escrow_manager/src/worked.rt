@@ -1,12 +1,14 @@
 //! Worked examples of the definitions: each function does nothing, and its contract is the example.
 #![tactic(auto)]
 
-ghost use Rattle.std.specs.Prelude.{◌≡◌, [], ◌∷◌};
+ghost use Rattle.std.specs.Prelude.{◌≡◌, ◌≤◌, ℕ, [], ◌∷◌};
 ghost use Rattle.escrow_laws.specs.Marks.{unmarked, mark_of};
 ghost use Rattle.escrow_laws.specs.Examples.{five_ops};
 ghost use Rattle.escrow_manager.specs.Marks.{AreOrdered, place_of, mark_in, with_mark, without_mark};
 ghost use Rattle.escrow_manager.specs.Totals.{need_of, limit_of, totals_of, totals_with, AreFirm};
-ghost use Rattle.escrow_manager.specs.Examples.{mark_by, taker, giver, both_marks};
+ghost use Rattle.escrow_manager.specs.Examples.{mark_by, taker, giver, both_marks, listing_both};
+ghost use Rattle.escrow_manager.specs.KeptAmount.{first_kept, first_beyond, first_refused, HasAmount, IsLeastAmount};
+ghost use Rattle.escrow_manager.specs.declared.way.Way.TheVariants as Way;
 
 /// A transaction has its mark, or that of no operations.
 pub fn each_has_its_mark()
@@ -52,4 +54,21 @@ pub fn a_reply_has_a_limit()
     ensures limit { limit_of (mark_of 5 five_ops (2 ∷ [])) ≡ 2 }
     ensures alone { AreFirm 1 (totals_of 5 (mark_by 1 (2 ∷ []) ∷ [])) }
     ensures beside { AreFirm 1 (totals_of 5 (mark_by 1 (2 ∷ []) ∷ mark_by 2 (0 ∷ []) ∷ [])) → ⊥ }
+{}
+
+/// Who found that there aren't 2, where there are 0, keeps another from each give of 2 or more. A give of
+/// 6 is too much for the other itself: it is refused, and so is a take of 1.
+pub fn a_reply_keeps_from_amounts()
+    ensures kept { first_kept Way.Give 0 (totals_of 5 (mark_by 1 (2 ∷ []) ∷ [])) (unmarked 5) (mark_of 5 five_ops (2 ∷ [])) ≡ 2 }
+    ensures beyond { first_beyond Way.Give 5 0 (totals_of 5 (mark_by 1 (2 ∷ []) ∷ [])) (unmarked 5) ≡ 6 }
+    ensures full { first_refused Way.Give 5 0 ≡ 6 }
+    ensures short { first_refused Way.Take 5 0 ≡ 1 }
+{}
+
+/// Where 3 and 4 are listed, the least amount from 3 on is 5, and there is none above it.
+pub fn listed_amounts_are_passed()
+    ensures first { IsLeastAmount listing_both Way.Take 0 1 }
+    ensures passed { IsLeastAmount listing_both Way.Take 3 5 }
+    ensures above { (n : ℕ) → 6 ≤ n → HasAmount listing_both Way.Take n → ⊥ }
+    ensures other { IsLeastAmount listing_both Way.Give 3 3 }
 {}

@@ -1,20 +1,21 @@
 //! Escrow: the bounds of operations, and why a type isn't numeric.
 
-ghost use Rattle.std.specs.Prelude.{◌≡◌, ◌++◌, ◌∷◌, [], ◌<◌, ◌≤◌, ℕ, All, None, Some, length, MatchOption};
+ghost use Rattle.std.specs.Prelude.{◌≡◌, ◌++◌, ◌∷◌, [], ◌<◌, ◌≤◌, ℕ, All, None, Some, length, true, MatchOption};
 ghost use Rattle.std.specs.Fmt.{decimal};
 ghost use Rattle.outputs.specs.Out.{Puts};
-ghost use Rattle.type_table.specs.Table.{next};
-ghost use Rattle.escrow_laws.specs.Bounds.{bounded_at, bounds_of};
+ghost use Rattle.type_table.specs.Table.{has_op, next};
+ghost use Rattle.type_table.specs.declared.kind.Kind.TheVariants as kinds;
+ghost use Rattle.escrow_laws.specs.Bounds.{bounded_at};
 ghost use Rattle.escrow_laws.specs.Faults.{HasGap, IsNumericFault};
-ghost use Rattle.table_checker.specs.Declarations.{table_of};
+ghost use Rattle.explaining.specs.Text.{op_words};
 ghost use Rattle.explaining.specs.Numeric.{IsFirstLegalFrom, IsLegalFrom, IsWhyNot, bounds_line, bounds_text, bounds_words, fault_line, move_word, spaced_numbers, why_not_line};
 
-use crate::write::{write_listed, write_ops};
+use crate::write::{write_ops, write_spaced};
 use escrow_laws::Bounded;
 use itoa::Buffer;
 use outputs::{Out, OutFault, items_in_turn, put, put_all, texts_in_turn};
-use table_checker::DeclaredType;
-use type_table::{TypeTable, steps_within};
+use table_checker::CheckedType;
+use type_table::{Operation, TypeTable, steps_within};
 
 /// The states that show that an operation isn't one of a number, at a state.
 #[derive(Clone, Copy)]
@@ -31,63 +32,60 @@ pub enum WhyNot {
 ///
 /// The fault that stopped the output, which then took a beginning of the text.
 pub fn write_bounds<W: Out>(
-    declared: &DeclaredType,
-    bounds: &[Bounded],
-    ops: &[u8],
+    checked: &CheckedType,
+    ops: &[Operation],
     out: &mut W,
 ) -> Result<(), OutFault>
     requires no_fault { W.fault out.old ≡ None }
-    requires bounds { bounds.now ≡ bounds_of (table_of declared.now) }
-    requires ops { All (λ k. k < length (table_of declared.now).ops) ops.now }
-    ensures { Puts (W.taken out.old) (W.taken out.new) (W.fault out.new) (bounds_text (table_of declared.now) ops.now) result }
+    requires numeric { checked.now.kind ≡ kinds.Escrow }
+    requires ops { All (λ k. has_op checked.now.file.table k ≡ true) ops.now }
+    ensures { Puts (W.taken out.old) (W.taken out.new) (W.fault out.new) (bounds_text checked.now.file.table ops.now) result }
 {
     texts_in_turn();
-    items_in_turn::<u8>();
+    items_in_turn::<Operation>();
     for k in ops {
-        write_bounds_line(declared, bounds, *k, out)?;
+        write_bounds_line(checked, *k, out)?;
     }
     Ok(())
 }
 
 fn write_bounds_line<W: Out>(
-    declared: &DeclaredType,
-    bounds: &[Bounded],
-    k: u8,
+    checked: &CheckedType,
+    k: Operation,
     out: &mut W,
 ) -> Result<(), OutFault>
     requires no_fault { W.fault out.old ≡ None }
-    requires bounds { bounds.now ≡ bounds_of (table_of declared.now) }
-    requires operation { k < length (table_of declared.now).ops }
-    ensures { Puts (W.taken out.old) (W.taken out.new) (W.fault out.new) (bounds_line (table_of declared.now) k) result }
+    requires numeric { checked.now.kind ≡ kinds.Escrow }
+    requires operation { has_op checked.now.file.table k ≡ true }
+    ensures { Puts (W.taken out.old) (W.taken out.new) (W.fault out.new) (bounds_line checked.now.file.table k) result }
 {
     texts_in_turn();
+    let bounds = bounds_at(checked, k);
     put(out, b"bounds")?;
-    write_listed(declared.ops(), &[k], out)?;
-    write_bounds_at(declared, bounds, k, out)?;
+    write_op_at(checked, k, out)?;
+    write_bounds_words(bounds, out)?;
     put(out, b"\n")
 }
 
-fn write_bounds_at<W: Out>(
-    declared: &DeclaredType,
-    bounds: &[Bounded],
-    k: u8,
-    out: &mut W,
-) -> Result<(), OutFault>
+/// Writes an operation of a type after a space.
+fn write_op_at<W: Out>(checked: &CheckedType, k: Operation, out: &mut W) -> Result<(), OutFault>
     requires no_fault { W.fault out.old ≡ None }
-    requires bounds { bounds.now ≡ bounds_of (table_of declared.now) }
-    requires operation { k < length (table_of declared.now).ops }
-    ensures { Puts (W.taken out.old) (W.taken out.new) (W.fault out.new) (bounds_words (bounded_at (table_of declared.now) k)) result }
+    requires operation { has_op checked.now.file.table k ≡ true }
+    ensures { Puts (W.taken out.old) (W.taken out.new) (W.fault out.new) (op_words checked.now.file.table (k ∷ [])) result }
 {
-    write_bounds_words(bounds_at(declared, bounds, k), out)
+    match checked.op(k) {
+        Some(op) => write_spaced(&op, out),
+        None => unreachable!(),
+    }
 }
 
 /// The bounds of an operation.
-fn bounds_at(declared: &DeclaredType, bounds: &[Bounded], k: u8) -> Bounded
-    requires bounds { bounds.now ≡ bounds_of (table_of declared.now) }
-    requires operation { k < length (table_of declared.now).ops }
-    ensures { result ≡ bounded_at (table_of declared.now) k }
+fn bounds_at(checked: &CheckedType, k: Operation) -> Bounded
+    requires numeric { checked.now.kind ≡ kinds.Escrow }
+    requires operation { has_op checked.now.file.table k ≡ true }
+    ensures { result ≡ bounded_at checked.now.file.table k }
 {
-    bounds[usize::from(k)]
+    checked.bounded(k)
 }
 
 /// Writes from where to where an operation is legal, and how far it moves.

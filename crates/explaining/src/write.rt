@@ -165,7 +165,7 @@ pub fn write_ops<W: Out>(table: &TypeTable, ops: &[u8], out: &mut W) -> Result<(
 }
 
 /// Writes operations of these by their numbers, each after a space.
-pub fn write_listed<W: Out>(ops: &[Op], numbers: &[u8], out: &mut W) -> Result<(), OutFault>
+fn write_listed<W: Out>(ops: &[Op], numbers: &[u8], out: &mut W) -> Result<(), OutFault>
     requires { W.fault out.old ≡ None }
     ensures { Puts (W.taken out.old) (W.taken out.new) (W.fault out.new) (listed_words ops.now numbers.now) result }
 {
@@ -204,6 +204,14 @@ fn write_word<W: Out>(op: &Op, out: &mut W) -> Result<(), OutFault>
     ensures { Puts (W.taken out.old) (W.taken out.new) (W.fault out.new) (word_of op.now) result }
 {
     put_all(out, &[op.call.as_bytes(), b"/", op.reply.as_bytes()])
+}
+
+/// Writes an operation after a space.
+pub fn write_spaced<W: Out>(op: &Op, out: &mut W) -> Result<(), OutFault>
+    requires { W.fault out.old ≡ None }
+    ensures { Puts (W.taken out.old) (W.taken out.new) (W.fault out.new) (32 ∷ word_of op.now) result }
+{
+    put_all(out, &[b" ", op.call.as_bytes(), b"/", op.reply.as_bytes()])
 }
 
 /// Writes a line of a keyword and operations.

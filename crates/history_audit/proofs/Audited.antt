@@ -1,5 +1,5 @@
 -- One more event of an audit: what a judge hands out is run behind what was committed before.
-use Rattle.std.proofs.Common.{◌≡◌, ℕ, ◌+◌, ◌<◌, List, [], ◌∷◌, ◌++◌, length, map, take, Option, Some, None, Result, Ok, Err, MatchOption, IfOk, slice_get, refl, sym, ap, subst, ◌∙◌, append-nil}
+use Rattle.std.proofs.Common.{◌≡◌, ℕ, ◌+◌, List, [], ◌∷◌, ◌++◌, map, take, Option, Some, None, Result, Ok, Err, MatchOption, IfOk, refl, sym, ap, subst, ◌∙◌, append-nil}
 use Rattle.std.specs.Result.{IsOkAnd}
 use Rattle.std.proofs.lemmas.Option.{none-some, same_Some}
 use Rattle.type_table.specs.Table.{Table}
@@ -13,10 +13,9 @@ use Rattle.serial_order.specs.Operations.{of}
 use Rattle.serial_order.specs.History.{Summary, summary, commits, committed_by, surviving, IsHistory}
 use Rattle.serial_order.specs.After.{summary_next, SummaryAfter}
 use Rattle.serial_order.specs.Held.{OwnAfter}
-use Rattle.history_audit.specs.Judged.{IsJudged, IsHanded, StopsJudge, committed_as}
+use Rattle.history_audit.specs.Judged.{IsHanded, StopsJudge, committed_as}
 use Rattle.history_audit.specs.Rows.{plain, operations_of}
 use Rattle.history_audit.specs.declared.committed.Committed.{Committed}
-use Rattle.history_audit.specs.declared.operation.Operation.{Operation}
 use Rattle.history_audit.specs.Audit.{Audits}
 use Rattle.history_audit.specs.Replay.{AreStates}
 use Rattle.history_audit.specs.SerialRun.{AreInitial, IsRunOf, RunsTo, ReplaysFrom}

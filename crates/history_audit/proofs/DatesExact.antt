@@ -1,5 +1,5 @@
 -- The date of a transaction: exactly those that had committed by then precede it.
-use Rattle.std.proofs.Common.{◌≡◌, ◌↔◌, ℕ, zero, suc, ◌==◌, ◌+◌, ◌-◌, ◌≤◌, Bool, true, false, not, cond, ◌&&◌, nat_lt, List, [], ◌∷◌, ◌++◌, length, take, ◌⊎◌, refl, sym, ap, subst, ◌∙◌, inl, inr, append-nil, append_assoc, length-append, arith}
+use Rattle.std.proofs.Common.{◌≡◌, ℕ, zero, suc, ◌==◌, ◌+◌, ◌≤◌, Bool, true, false, not, ◌&&◌, nat_lt, List, [], ◌∷◌, ◌++◌, length, take, ◌⊎◌, refl, sym, ap, subst, ◌∙◌, inl, inr, append-nil, append_assoc, length-append, arith}
 use Rattle.std.specs.Prelude.{if◌then◌else◌, max}
 use Rattle.std.proofs.lemmas.Bool.Decides.{nat_tests}
 use Rattle.std.proofs.lemmas.Bool.{cases_Bool, false≢true, or_parts}
@@ -9,7 +9,6 @@ use Rattle.object_trait.specs.declared.event.Event.{Event}
 use Rattle.serial_order.specs.Operations.{is_among}
 use Rattle.serial_order.specs.History.{commits, committed_by, aborts, aborted_by}
 use Rattle.serial_order.specs.Readings.{is_op_of, is_rolled_back, stays}
-use Rattle.history_audit.specs.InOrder.{Precedes}
 use Rattle.history_audit.specs.OrderTests.{IsDate}
 use Rattle.history_audit.specs.Dates.{date_from}
 use Rattle.history_audit.proofs.Lists.{among-rest}

@@ -1,10 +1,10 @@
 -- The histories of epochs of checked types pass their audit.
-use Rattle.std.proofs.Common.{◌≡◌, ◌≢◌, ℕ, zero, suc, List, [], ◌∷◌, ◌++◌, length, map, Some, Result, Ok, Err, IsOk, Vec, slice_get, refl, sym, ap, subst, ◌∙◌, arith}
+use Rattle.std.proofs.Common.{◌≡◌, ◌≢◌, ℕ, zero, suc, List, [], ◌∷◌, ◌++◌, length, map, Option, Some, None, Result, Ok, Err, IsOk, Vec, slice_get, refl, sym, ap, subst, ◌∙◌, arith}
 use Rattle.std.specs.declared.alloc.Global.{Global}
 use Rattle.std.specs.List.{AllByRecursion}
 use Rattle.std.proofs.lemmas.Bool.{false≢true}
 use Rattle.std.proofs.lemmas.Option.{slice_get_within}
-use Rattle.type_table.specs.Table.{Table}
+use Rattle.type_table.specs.Table.{Table, table_at}
 use Rattle.type_table.specs.Run.{IsLegal}
 use Rattle.type_table.proofs.Elements.{element_at, found-map}
 use Rattle.table_checker.specs.Checked.{Checked}
@@ -14,7 +14,7 @@ use Rattle.object_trait.specs.declared.event.EventKind.{EventKind}
 use Rattle.object_trait.specs.declared.event.EventKind.TheVariants as kind
 use Rattle.object_trait.specs.declared.event.EventKind.TheVariants.{Begin, Op, Busy, Commit, Abort, Rollback}
 use Rattle.serial_order.specs.Operations.{ops}
-use Rattle.serial_order.specs.History.{Summary, summary, IsOperation, ContinuesHistory, AllContinue, IsHistory}
+use Rattle.serial_order.specs.History.{Summary, summary, IsOperation, IsPlace, ContinuesHistory, AllContinue, IsHistory}
 use Rattle.serial_order.specs.Laws.{AreChecked, RunIsHistory}
 use Rattle.serial_order.specs.Serial.{serial_at}
 use Rattle.serial_order.specs.Epochs.{AreEpochs, Epoch, EpochsAreSerial, types_after, types_at}
@@ -42,19 +42,27 @@ same-tables : (types : List Checked) → tables_of (map object_of types) ≡ tab
 same-tables [] = refl
 same-tables (c ∷ types) = ap (λ them. c.file.table ∷ them) (same-tables types)
 
--- an operation of the types at other states is one of theirs
+-- what doesn't depend on where a type begins is so of the types where it is so of them at other states
+there-before : (P : Option Table → Type 0) → (P None → ⊥) → ((T : Table) (s : ℕ) → P (Some (table_at T s)) → P (Some T)) → (types : List Checked) (kept : List ℕ) (x : ℕ)
+    → P (slice_get (tables (types_at types kept)) x) → P (slice_get (tables types) x)
+there-before P none same [] kept x there = there
+there-before P none same (c ∷ types) [] x there = absurd (none there)
+there-before P none same (c ∷ types) (s ∷ kept) zero there = same c.file.table s there
+there-before P none same (c ∷ types) (s ∷ kept) (suc x) there = there-before P none same types kept x there
+
+-- so are their operations, and the places of these
 operation-before : (types : List Checked) (kept : List ℕ) (x k : ℕ) → IsOperation (slice_get (tables (types_at types kept)) x) k → IsOperation (slice_get (tables types) x) k
-operation-before [] kept x k there = there
-operation-before (c ∷ types) [] x k there = absurd there
-operation-before (c ∷ types) (s ∷ kept) zero k there = there
-operation-before (c ∷ types) (s ∷ kept) (suc x) k there = operation-before types kept x k there
+operation-before types kept x k there = there-before (λ table. IsOperation table k) (λ none. none) (λ T s here. here) types kept x there
+
+place-before : (types : List Checked) (kept : List ℕ) (x place : ℕ) → IsPlace (slice_get (tables (types_at types kept)) x) place → IsPlace (slice_get (tables types) x) place
+place-before types kept x place there = there-before (λ table. IsPlace table place) (λ none. none) (λ T s here. here) types kept x there
 
 -- so what may come next at these may come next at those
 event-before : (types : List Checked) (kept : List ℕ) (s : Summary) (e : EventKind) → ContinuesHistory (tables (types_at types kept)) s e → ContinuesHistory (tables types) s e
 event-before types kept s (Begin t) may = may
 event-before types kept s (Op t x k) may = (may.0, operation-before types kept x k may.1)
-event-before types kept s (Busy c t x u) may = (may.0, operation-before types kept x c may.1)
-event-before types kept s (kind.None t x c) may = (may.0, operation-before types kept x c may.1)
+event-before types kept s (Busy c t x u) may = (may.0, place-before types kept x c may.1)
+event-before types kept s (kind.None t x c) may = (may.0, place-before types kept x c may.1)
 event-before types kept s (Commit t) may = may
 event-before types kept s (Abort t) may = may
 event-before types kept s (Rollback t n) may = may

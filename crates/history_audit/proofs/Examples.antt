@@ -13,7 +13,7 @@ use Rattle.history_audit.specs.Audit.{IsAudit, IsIllegalAt, IsFirstIllegal, Come
 use Rattle.history_audit.specs.Examples.{two_counters}
 
 -- the state at an object of a known table
-state-at : (H : List Event) (x : ℕ) (known T : Table) (before s : ℕ) → run known (Some known.initial) (ops (serial_at x H)) ≡ Some before
+pub state-at : (H : List Event) (x : ℕ) (known T : Table) (before s : ℕ) → run known (Some known.initial) (ops (serial_at x H)) ≡ Some before
     → Some known ≡ Some T → Some before ≡ Some s → run T (Some T.initial) (ops (serial_at x H)) ≡ Some s
 state-at H x known T before s reached table at =
     let P : Table → Type 0 = λ U. run U (Some U.initial) (ops (serial_at x H)) ≡ Some s in
@@ -44,7 +44,7 @@ unfolding next
 down-illegal = record { t = 1; table = counter; transaction = refl; object = refl; there = omega arith; illegal = refl }
 
 -- nothing comes before the first numbers
-none-before : (k y l : ℕ) → ComesBefore k y l 0 0 0 → ⊥
+pub none-before : (k y l : ℕ) → ComesBefore k y l 0 0 0 → ⊥
 none-before k y l (inl less) = omega (arith, less)
 none-before k y l (inr (same, inl less)) = omega (arith, less)
 none-before k y l (inr (same, inr (here, less))) = omega (arith, less)

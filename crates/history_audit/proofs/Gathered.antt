@@ -1,13 +1,13 @@
 -- The committed transactions of the events so far, and one more event.
-use Rattle.std.proofs.Common.{◌≡◌, ℕ, ◌+◌, ◌<◌, ◌≤◌, true, List, [], ◌∷◌, ◌++◌, length, get_or, map, take, Option, Some, None, option_map, slice_get, refl, sym, ap, subst, ◌∙◌, inl, inr, append-nil, arith}
+use Rattle.std.proofs.Common.{◌≡◌, ℕ, ◌+◌, ◌<◌, true, List, [], ◌∷◌, ◌++◌, length, get_or, map, take, Option, Some, None, option_map, slice_get, refl, sym, ap, subst, ◌∙◌, inl, inr, append-nil, arith}
 use Rattle.std.specs.List.{AllByRecursion}
 use Rattle.std.proofs.lemmas.List.{map-append}
 use Rattle.std.proofs.lemmas.Option.{none-some, slice_get-map, get_or_from_slice_get}
 use Rattle.type_table.specs.Table.{Table}
 use Rattle.type_table.proofs.Elements.{cases-more, each-places, found-map, filter-length, take-found}
 use Rattle.object_trait.specs.declared.event.Event.{Event}
-use Rattle.serial_order.specs.Operations.{is_among, of}
-use Rattle.serial_order.specs.History.{Summary, commits, committed_by, is_begin, summary, ContinuesHistory}
+use Rattle.serial_order.specs.Operations.{is_among}
+use Rattle.serial_order.specs.History.{commits, committed_by, is_begin, summary}
 use Rattle.serial_order.specs.After.{SummaryAfter}
 use Rattle.serial_order.specs.Held.{OwnAfter}
 use Rattle.history_audit.specs.Commits.{AreCommits, IsCommit, numbers}
@@ -15,7 +15,7 @@ use Rattle.history_audit.specs.Judged.{IsJudged, IsHanded}
 use Rattle.history_audit.specs.Rows.{plain, operations_of}
 use Rattle.history_audit.specs.Replay.{AreOperations}
 use Rattle.history_audit.specs.declared.committed.Committed.{Committed}
-use Rattle.history_audit.specs.declared.operation.Operation.{Operation}
+use Rattle.history_audit.specs.declared.executed.Executed.{Executed}
 use Rattle.history_audit.proofs.Audited.{commit-of, kept-at, lives-on, none-of}
 use Rattle.history_audit.proofs.Kept.{same-own}
 use Rattle.history_audit.proofs.Lists.{among-at}
@@ -81,7 +81,7 @@ pub gathered-nothing : (tables : List Table) → AreCommits tables [] []
 gathered-nothing tables = record { in_order = refl; each = λ n c there. absurd (none-some c there) }
 
 -- the number of each is below that of the events
-pub numbers-below : (tables : List Table) (H : List Event) (rows : List (Option (List Operation))) (them : List Committed) → IsJudged tables H rows → AreCommits tables H them
+pub numbers-below : (tables : List Table) (H : List Event) (rows : List (Option (List Executed))) (them : List Committed) → IsJudged tables H rows → AreCommits tables H them
     → AllByRecursion (λ (c : Committed). c.number < length H) them
 numbers-below tables H rows them judged known =
     each-places (λ (c : Committed). c.number < length H) them (λ n c there.

@@ -4,7 +4,7 @@ use Rattle.std.proofs.lemmas.Bool.{false≢true}
 use Rattle.type_table.specs.Table.{Table}
 use Rattle.type_table.specs.Laws.{RunsAlong}
 use Rattle.object_trait.specs.declared.event.Event.{Event}
-use Rattle.serial_order.specs.History.{commits, IsHistory}
+use Rattle.serial_order.specs.History.{IsHistory}
 use Rattle.history_audit.specs.Audit.{AreLegal}
 use Rattle.history_audit.specs.InOrder.{AuditsInOrder, HasOrderFault, InOrderDecides, KeepsPrecedes, LegalOrdersPass, PassesInOrder}
 use Rattle.history_audit.specs.declared.outcome.Audit.{Audit}

@@ -11,37 +11,37 @@ use Rattle.open_transactions.specs.Transactions as table
 use Rattle.open_transactions.specs.Transactions.{row}
 use Rattle.open_transactions.proofs.InSlots.{open-began}
 use Rattle.serial_order.specs.Operations.{of}
-use Rattle.serial_order.specs.History.{Summary, summary, is_open, IsOperation, ContinuesHistory}
+use Rattle.serial_order.specs.History.{Summary, summary, is_open, IsOperation, IsPlace, ContinuesHistory}
 use Rattle.history_audit.specs.declared.event_fault.EventFault.{EventFault}
 use Rattle.history_audit.specs.declared.event_fault.EventFault.TheVariants.{Bad}
-use Rattle.history_audit.specs.declared.operation.Operation.{Operation}
+use Rattle.history_audit.specs.declared.executed.Executed.{Executed}
 use Rattle.history_audit.specs.Rows.{plain, operations_of, AreRows, committed_in}
 use Rattle.history_audit.specs.Moves.{RowsMove, MovedRowsAgree}
 use Rattle.history_audit.specs.Slots.{its_of}
 use Rattle.history_audit.specs.Judges.{Judges, Takes, handed}
 
 -- the row of an open transaction is that of its operations
-pub there : (rows shown : List (Option (List Operation))) (t : ℕ) → rows ≡ shown → table.is_open rows t ≡ true → slice_get shown t ≡ Some (Some (its_of (row rows t)))
+pub there : (rows shown : List (Option (List Executed))) (t : ℕ) → rows ≡ shown → table.is_open rows t ≡ true → slice_get shown t ≡ Some (Some (its_of (row rows t)))
 there rows shown t shown_is opened =
     ap (λ rs. slice_get rs t) (sym shown_is) ∙ slice_get-get_or rows t None (open-began rows t opened) ∙ ap Some (some_row (row rows t) opened)
   where
-    some_row : (its : Option (List Operation)) → is_some its ≡ true → its ≡ Some (its_of its)
+    some_row : (its : Option (List Executed)) → is_some its ≡ true → its ≡ Some (its_of its)
     some_row None is = absurd (false≢true is)
     some_row (Some its) is = refl
 
 -- ---- one row that agrees with what is seen
 
-module _ (rows : List (Option (List Operation))) (s : Summary) (t : ℕ) (known : AreRows rows s) where
+module _ (rows : List (Option (List Executed))) (s : Summary) (t : ℕ) (known : AreRows rows s) where
   -- a transaction with a row is open
-  opened : (its : List Operation) → slice_get rows t ≡ Some (Some its) → is_open s t ≡ true
+  opened : (its : List Executed) → slice_get rows t ≡ Some (Some its) → is_open s t ≡ true
   opened its there = sym (known.each t (Some its) there).going
 
   -- and its row has its operations
-  operations : (its : List Operation) → slice_get rows t ≡ Some (Some its) → its ≡ operations_of t s
+  operations : (its : List Executed) → slice_get rows t ≡ Some (Some its) → its ≡ operations_of t s
   operations its there = (known.each t (Some its) there).operations its refl
 
   -- as many as there are
-  counted : (its : List Operation) → slice_get rows t ≡ Some (Some its) → length its ≡ length (of t s.survives)
+  counted : (its : List Executed) → slice_get rows t ≡ Some (Some its) → length its ≡ length (of t s.survives)
   counted its there = ap length (operations its there) ∙ length-map (of t s.survives) plain
 
   -- one without isn't
@@ -50,9 +50,9 @@ module _ (rows : List (Option (List Operation))) (s : Summary) (t : ℕ) (known 
 
 -- ---- events that are taken
 
-module _ (law : MovedRowsAgree) (tables : List Table) (old new : List (Option (List Operation))) where
+module _ (law : MovedRowsAgree) (tables : List Table) (old new : List (Option (List Executed))) where
   -- what continues the history wherever the rows agree, and moves them as it should
-  taken : (event : EventKind) (its : Option (List Operation)) → ((s : Summary) → AreRows old s → ContinuesHistory tables s event × (its ≡ committed_in event s))
+  taken : (event : EventKind) (its : Option (List Executed)) → ((s : Summary) → AreRows old s → ContinuesHistory tables s event × (its ≡ committed_in event s))
       → RowsMove event old new → Judges tables old event (Ok its) new
   taken event its fits move =
       λ H w known.
@@ -65,17 +65,17 @@ module _ (law : MovedRowsAgree) (tables : List Table) (old new : List (Option (L
   pub begin_taken : (t : ℕ) → t ≡ length old → new ≡ old ++ Some [] ∷ [] → Takes tables old (Begin t) (Ok tt) new
   begin_taken t next becomes = (None, begin_judged t next becomes)
 
-  module _ (t : ℕ) (its : List Operation) (there : slice_get old t ≡ Some (Some its)) where
+  module _ (t : ℕ) (its : List Executed) (there : slice_get old t ≡ Some (Some its)) where
     pub op_taken : (x k : ℕ) → IsOperation (slice_get tables x) k → new ≡ set old t (Some (its ++ (record { x = x; k = k }) ∷ []))
         → Takes tables old (Op t x k) (Ok tt) new
     op_taken x k operation becomes =
         (None, taken (Op t x k) None (λ s known. ((opened old s t known its there, operation), refl)) record { its = its; was = there; becomes = becomes })
 
-    pub busy_taken : (c x u : ℕ) → IsOperation (slice_get tables x) c → new ≡ old → Takes tables old (Busy c t x u) (Ok tt) new
-    busy_taken c x u operation same = (None, taken (Busy c t x u) None (λ s known. ((opened old s t known its there, operation), refl)) same)
+    pub busy_taken : (c x u : ℕ) → IsPlace (slice_get tables x) c → new ≡ old → Takes tables old (Busy c t x u) (Ok tt) new
+    busy_taken c x u place same = (None, taken (Busy c t x u) None (λ s known. ((opened old s t known its there, place), refl)) same)
 
-    pub none_taken : (x c : ℕ) → IsOperation (slice_get tables x) c → new ≡ old → Takes tables old (kind.None t x c) (Ok tt) new
-    none_taken x c operation same = (None, taken (kind.None t x c) None (λ s known. ((opened old s t known its there, operation), refl)) same)
+    pub none_taken : (x c : ℕ) → IsPlace (slice_get tables x) c → new ≡ old → Takes tables old (kind.None t x c) (Ok tt) new
+    none_taken x c place same = (None, taken (kind.None t x c) None (λ s known. ((opened old s t known its there, place), refl)) same)
 
     pub commit_taken : new ≡ set old t None → Judges tables old (Commit t) (Ok (Some its)) new
     commit_taken becomes =
@@ -96,7 +96,7 @@ module _ (law : MovedRowsAgree) (tables : List Table) (old new : List (Option (L
 
 -- ---- events that are bad
 
-module _ (tables : List Table) (old new : List (Option (List Operation))) (t : ℕ) where
+module _ (tables : List Table) (old new : List (Option (List Executed))) (t : ℕ) where
   -- those of a transaction that ended
   module _ (there : slice_get old t ≡ Some None) where
     pub op_closed : (x k : ℕ) → Judges tables old (Op t x k) (Err Bad) new
@@ -118,7 +118,7 @@ module _ (tables : List Table) (old new : List (Option (List Operation))) (t : �
     rollback_closed n = λ H known may. closed old (summary H) t known there may.0
 
   -- a rollback of none, or of more than there are
-  pub rollback_outside : (n : ℕ) (its : List Operation) → slice_get old t ≡ Some (Some its) → (0 < n → n ≤ length its → ⊥) → Judges tables old (Rollback t n) (Err Bad) new
+  pub rollback_outside : (n : ℕ) (its : List Executed) → slice_get old t ≡ Some (Some its) → (0 < n → n ≤ length its → ⊥) → Judges tables old (Rollback t n) (Err Bad) new
   rollback_outside n its there outside =
       λ H known may.
       let count = counted old (summary H) t known its there in
@@ -127,16 +127,16 @@ module _ (tables : List Table) (old new : List (Option (List Operation))) (t : �
 
 -- ---- commits
 
-module _ (tables : List Table) (old new : List (Option (List Operation))) (event : EventKind) (t : ℕ) (is : event ≡ Commit t) (result : Result (List Operation) EventFault)
+module _ (tables : List Table) (old new : List (Option (List Executed))) (event : EventKind) (t : ℕ) (is : event ≡ Commit t) (result : Result (List Executed) EventFault)
     (judged : Judges tables old (Commit t) (handed result) new) where
   -- what a commit hands out is let go
-  pub commit_passed : (its : List Operation) (passed : Result (Unit {0}) EventFault) → result ≡ Ok its → passed ≡ Ok tt → Takes tables old event passed new
+  pub commit_passed : (its : List Executed) (passed : Result (Unit {0}) EventFault) → result ≡ Ok its → passed ≡ Ok tt → Takes tables old event passed new
   commit_passed its passed handed_is passed_is =
-      let P : Result (List Operation) EventFault → Type 0 = λ r. Judges tables old (Commit t) (handed r) new in
+      let P : Result (List Executed) EventFault → Type 0 = λ r. Judges tables old (Commit t) (handed r) new in
       rw (is, passed_is) (Some its, subst P handed_is judged)
 
   -- or it isn't taken
   pub commit_failed : (fault : EventFault) (passed : Result (Unit {0}) EventFault) → result ≡ Err fault → passed ≡ Err fault → Takes tables old event passed new
   commit_failed fault passed handed_is passed_is =
-      let P : Result (List Operation) EventFault → Type 0 = λ r. Judges tables old (Commit t) (handed r) new in
+      let P : Result (List Executed) EventFault → Type 0 = λ r. Judges tables old (Commit t) (handed r) new in
       rw (is, passed_is) (subst P handed_is judged)

@@ -19,4 +19,5 @@ pub mod DatesKept
 pub mod Ordered
 pub mod InOrderDecided
 pub mod Examples
+pub mod Purse
 pub mod Agree

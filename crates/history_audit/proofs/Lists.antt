@@ -8,7 +8,7 @@ use Rattle.type_table.proofs.Elements.{filter-turned}
 use Rattle.serial_order.specs.Operations.{is_among, ops, at_object, is_by, of, serial}
 use Rattle.serial_order.specs.declared.entry.Entry.{Entry}
 use Rattle.history_audit.specs.Rows.{plain}
-use Rattle.history_audit.specs.declared.operation.Operation.{Operation}
+use Rattle.history_audit.specs.declared.executed.Executed.{Executed}
 use Rattle.history_audit.specs.Replay.{ops_at}
 
 -- ---- what is at a place
@@ -66,23 +66,23 @@ pub own-ops : (x t : ℕ) (V : List Entry) → ops (of t (at_object x V)) ≡ op
 own-ops x t V = ap ops (filter-turned (is_by t) (λ e. e.at == x) V) ∙ plain-ops x (of t V)
 
 -- one more operation at the object
-pub ops_at-here : (x : ℕ) (its : List Operation) (o : Operation) → (o.x == x) ≡ true → ops_at x (its ++ o ∷ []) ≡ ops_at x its ++ o.k ∷ []
+pub ops_at-here : (x : ℕ) (its : List Executed) (o : Executed) → (o.x == x) ≡ true → ops_at x (its ++ o ∷ []) ≡ ops_at x its ++ o.k ∷ []
 ops_at-here x its o is =
-    ap (map (λ (p : Operation). p.k)) (filter-append (λ (p : Operation). p.x == x) its (o ∷ []) ∙ ap (λ b. filter (λ (p : Operation). p.x == x) its ++ cond b (o ∷ []) []) is)
-    ∙ map-append (λ (p : Operation). p.k) (filter (λ (p : Operation). p.x == x) its) (o ∷ [])
+    ap (map (λ (p : Executed). p.k)) (filter-append (λ (p : Executed). p.x == x) its (o ∷ []) ∙ ap (λ b. filter (λ (p : Executed). p.x == x) its ++ cond b (o ∷ []) []) is)
+    ∙ map-append (λ (p : Executed). p.k) (filter (λ (p : Executed). p.x == x) its) (o ∷ [])
 
 -- and one at another
-pub ops_at-apart : (x : ℕ) (its : List Operation) (o : Operation) → (o.x == x) ≡ false → ops_at x (its ++ o ∷ []) ≡ ops_at x its
+pub ops_at-apart : (x : ℕ) (its : List Executed) (o : Executed) → (o.x == x) ≡ false → ops_at x (its ++ o ∷ []) ≡ ops_at x its
 ops_at-apart x its o isnt =
-    ap (map (λ (p : Operation). p.k)) (filter-append (λ (p : Operation). p.x == x) its (o ∷ []) ∙ ap (λ b. filter (λ (p : Operation). p.x == x) its ++ cond b (o ∷ []) []) isnt)
-    ∙ map-append (λ (p : Operation). p.k) (filter (λ (p : Operation). p.x == x) its) []
+    ap (map (λ (p : Executed). p.k)) (filter-append (λ (p : Executed). p.x == x) its (o ∷ []) ∙ ap (λ b. filter (λ (p : Executed). p.x == x) its ++ cond b (o ∷ []) []) isnt)
+    ∙ map-append (λ (p : Executed). p.k) (filter (λ (p : Executed). p.x == x) its) []
     ∙ append-nil (ops_at x its)
 
 -- the operations at the object before one of them, it, and those after it
-pub ops_at-split : (x : ℕ) (its : List Operation) (p : ℕ) (o : Operation) → slice_get its p ≡ Some o → (o.x == x) ≡ true → (rest : List ℕ) × (ops_at x its ≡ ops_at x (take p its) ++ o.k ∷ rest)
+pub ops_at-split : (x : ℕ) (its : List Executed) (p : ℕ) (o : Executed) → slice_get its p ≡ Some o → (o.x == x) ≡ true → (rest : List ℕ) × (ops_at x its ≡ ops_at x (take p its) ++ o.k ∷ rest)
 ops_at-split x [] p o at is = absurd (none-some o at)
 ops_at-split x (a ∷ its) zero o at is =
-    let P : Operation → Type 0 = λ b. ops_at x (b ∷ its) ≡ o.k ∷ ops_at x its in
+    let P : Executed → Type 0 = λ b. ops_at x (b ∷ its) ≡ o.k ∷ ops_at x its in
     (ops_at x its, subst P (sym (same_Some a o at)) (rw is refl))
 ops_at-split x (a ∷ its) (suc p) o at is =
     let (rest, same) = ops_at-split x its p o at is in (
@@ -94,7 +94,7 @@ ops_at-split x (a ∷ its) (suc p) o at is =
     )
 
 -- of the first n operations no more than n are at the object
-pub ops_at-few : (x : ℕ) (its : List Operation) (n : ℕ) → length (ops_at x (take n its)) ≤ n
+pub ops_at-few : (x : ℕ) (its : List Executed) (n : ℕ) → length (ops_at x (take n its)) ≤ n
 ops_at-few x its zero = omega arith
 ops_at-few x [] (suc n) = omega arith
 ops_at-few x (o ∷ its) (suc n) =

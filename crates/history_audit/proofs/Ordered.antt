@@ -1,5 +1,5 @@
 -- Orders of committed transactions: one more, which are there, and why one may not be asked for.
-use Rattle.std.proofs.Common.{◌≡◌, ◌↔◌, ℕ, ◌+◌, ◌<◌, ◌≤◌, Bool, true, false, ◌||◌, ◌==◌, List, [], ◌∷◌, ◌++◌, length, map, take, set, get_or, Option, Some, None, Result, Ok, Err, slice_get, is_some, zero, suc, option_map, MatchOption, MatchResult, IfOk, IfErr, nat_lt, refl, sym, ap, subst, ◌∙◌, inl, inr, arith, add-one, replicate}
+use Rattle.std.proofs.Common.{◌≡◌, ℕ, ◌+◌, ◌<◌, ◌≤◌, Bool, true, false, ◌||◌, ◌==◌, List, [], ◌∷◌, ◌++◌, length, take, set, get_or, Option, Some, None, Result, Ok, Err, slice_get, is_some, zero, suc, option_map, MatchOption, MatchResult, IfOk, IfErr, nat_lt, refl, sym, ap, subst, ◌∙◌, inl, inr, arith, add-one, replicate}
 use Rattle.std.specs.Prelude.{min, unwrap_or}
 use Rattle.std.proofs.lemmas.Bool.Decides.{nat_tests}
 use Rattle.std.specs.List.{AllByRecursion}
@@ -12,9 +12,9 @@ use Rattle.object_trait.specs.declared.event.Event.{Event}
 use Rattle.serial_order.specs.Operations.{is_among}
 use Rattle.serial_order.specs.History.{commits, IsHistory}
 use Rattle.serial_order.proofs.Lists.{is_among-none_more, is_among-one_more, is_among-snoc}
-use Rattle.history_audit.specs.Commits.{AreCommits, ArePlaces, IsPlace, numbers, place_in}
-use Rattle.history_audit.specs.InOrder.{AreCommitted, AuditsInOrder, HasAll, HasOrderFault, IsLeastAbsent, IsMissing, IsNotCommitted, IsTwice, IsOutOfOrder, KeepsPrecedes, KeepsPrecedesAt, Precedes}
-use Rattle.history_audit.specs.OrderTests.{AllMarked, AreDates, AreMarked, IsDate, IsLeastUnmarked, KeepsDatesAt, RunsInOrder, StopsOrder}
+use Rattle.history_audit.specs.Commits.{ArePlaces, IsPlace, numbers, place_in}
+use Rattle.history_audit.specs.InOrder.{AreCommitted, AuditsInOrder, HasAll, IsLeastAbsent, IsMissing, IsNotCommitted, IsTwice, KeepsPrecedes, KeepsPrecedesAt}
+use Rattle.history_audit.specs.OrderTests.{AllMarked, AreDates, AreMarked, IsLeastUnmarked, KeepsDatesAt, RunsInOrder, StopsOrder}
 use Rattle.history_audit.specs.declared.committed.Committed.{Committed}
 use Rattle.history_audit.specs.declared.in_order_fault.InOrderFault.{InOrderFault}
 use Rattle.history_audit.specs.declared.in_order_fault.InOrderFault.TheVariants as no

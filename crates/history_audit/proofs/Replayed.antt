@@ -1,16 +1,18 @@
 -- One more operation of a transaction: what was run before it, and it.
 use Rattle.std.proofs.Common.{◌≡◌, ℕ, zero, suc, ◌+◌, ◌<◌, ◌≤◌, true, false, ◌==◌, nat_le, List, [], ◌∷◌, ◌++◌, length, map, take, set, get_or, IfSome, Option, Some, None, slice_get, refl, sym, ap, subst, ◌∙◌, inl, inr, arith}
 use Rattle.std.specs.List.{AllByRecursion}
+use Rattle.std.specs.Option.{option_map}
 use Rattle.std.proofs.lemmas.List.{length-map}
 use Rattle.std.proofs.lemmas.Bool.{cases_Bool, eqb-true, false≢true}
 use Rattle.std.proofs.lemmas.Bool.Decides.{nat_tests}
-use Rattle.std.proofs.lemmas.Option.{none-some, same_Some, slice_get_within, slice_get-get_or}
+use Rattle.std.proofs.lemmas.Option.{none-some, same_Some, slice_get_within, slice_get_read, slice_get-map}
 use Rattle.type_table.specs.Table.{Table, next}
 use Rattle.type_table.specs.Run.{run, next_of}
 use Rattle.type_table.specs.Laws.{RunsAlong}
 use Rattle.type_table.proofs.Elements.{each-found, found-set, found-set_other, take-found}
+use Rattle.table_checker.proofs.TableOps.{op_below}
 use Rattle.serial_order.specs.History.{IsOperation}
-use Rattle.history_audit.specs.declared.operation.Operation.{Operation}
+use Rattle.history_audit.specs.declared.executed.Executed.{Executed}
 use Rattle.history_audit.specs.Replay.{ops_at, AreOperations, AreStates, next_by, next_at, is_stopped_at, with_state, stop_by, states_after, stop_after, IsStopped, AreReplayed}
 use Rattle.history_audit.specs.SerialRun.{AreInitial}
 use Rattle.history_audit.specs.declared.replay.Stop.{Stop}
@@ -40,6 +42,29 @@ table-of : (table : Option Table) (k : ℕ) → IsOperation table k → (T : Tab
 table-of None k there = absurd there
 table-of (Some T) k there = (T, refl)
 
+-- it has the operation
+pub operation-below : (table : Option Table) (T : Table) (k : ℕ) → table ≡ Some T → IsOperation table k → k < length T.ops
+operation-below table T k is there = op_below T k (subst (λ t. IsOperation t k) is there)
+
+-- there are as many types as tables
+object-below : {A : Type 0} (table : A → Table) (types : List A) (x k : ℕ) → IsOperation (slice_get (map table types) x) k → x < length types
+object-below table types x k there =
+    let (T, at) = table-of (slice_get (map table types) x) k there in
+    let inside = slice_get_within (map table types) x T at in
+    omega (arith, inside, length-map types table)
+
+pub table-read : {A : Type 0} (table : A → Table) (types : List A) (x k : ℕ) (a : A) → IsOperation (slice_get (map table types) x) k → a ≡ get_or types x a
+    → slice_get (map table types) x ≡ Some (table a)
+table-read table types x k a there is =
+    slice_get-map table types x ∙ ap (option_map table) (slice_get_read types (length types) x a refl (object-below table types x k there) is)
+
+pub state-below : {A : Type 0} (table : A → Table) (types : List A) (states : List ℕ) (x k : ℕ) → AreStates (map table types) states → IsOperation (slice_get (map table types) x) k
+    → x < length states
+state-below table types states x k ready there =
+    let many = ready.as_many in
+    let below = object-below table types x k there in
+    omega (arith, many, below, length-map types table)
+
 -- ---- runs
 
 -- one more operation, from where the run came
@@ -47,12 +72,12 @@ run-more : RunsAlong → (T : Table) (s e k : ℕ) (w : List ℕ) → run T (Som
 run-more along T s e k w reached = along T (Some s) w (k ∷ []) ∙ ap (λ from. next_of T from k) reached
 
 -- the next state at an object, where its table and its state are these
-next-there : (table : Option Table) (state : Option ℕ) (T : Table) (s k : ℕ) → table ≡ Some T → state ≡ Some s → next_by table state k ≡ next T s k
+pub next-there : (table : Option Table) (state : Option ℕ) (T : Table) (s k : ℕ) → table ≡ Some T → state ≡ Some s → next_by table state k ≡ next T s k
 next-there table state T s k is at = ap (λ t. next_by t state k) is ∙ ap (λ a. next_by (Some T) a k) at
 
 -- ---- one more operation
 
-module _ (along : RunsAlong) (tables : List Table) (old : List ℕ) (its : List Operation) (n : ℕ) (states : List ℕ) (stop : Option Stop) (o : Operation)
+module _ (along : RunsAlong) (tables : List Table) (old : List ℕ) (its : List Executed) (n : ℕ) (states : List ℕ) (stop : Option Stop) (o : Executed)
     (begun : AreStates tables old) (ready : AreStates tables states) (there : IsOperation (slice_get tables o.x) o.k) (at : slice_get its n ≡ Some o)
     (known : AreReplayed tables old its n states stop) where
   -- it adds nothing at another object
@@ -135,7 +160,7 @@ module _ (along : RunsAlong) (tables : List Table) (old : List ℕ) (its : List 
       ]
 
 -- before the first operation
-pub replayed-none : (tables : List Table) (old : List ℕ) (its : List Operation) → AreReplayed tables old its 0 old None
+pub replayed-none : (tables : List Table) (old : List ℕ) (its : List Executed) → AreReplayed tables old its 0 old None
 replayed-none tables old its = record {
   states_are = λ x T s table from goes. sym from;
   stopped = λ q is. absurd (none-some q is);
@@ -143,24 +168,17 @@ replayed-none tables old its = record {
 
 -- ---- the operation at a place
 
--- in place of one that isn't there
-abbrev pub nothing : Operation
-nothing = record { x = 0; k = 0 }
+pub there-at : (tables : List Table) (its : List Executed) (n : ℕ) (o : Executed) → AreOperations tables its → slice_get its n ≡ Some o → IsOperation (slice_get tables o.x) o.k
+there-at tables its n o there at = each-found (λ (o : Executed). IsOperation (slice_get tables o.x) o.k) its n o there at
 
-pub there-at : (tables : List Table) (its : List Operation) (n : ℕ) → AreOperations tables its → n < length its
-    → IsOperation (slice_get tables (get_or its n nothing).x) (get_or its n nothing).k
-there-at tables its n there inside =
-    each-found (λ (o : Operation). IsOperation (slice_get tables o.x) o.k) its n (get_or its n nothing) there (slice_get-get_or its n nothing inside)
-
-pub replayed-at : RunsAlong → (tables : List Table) (old : List ℕ) (its : List Operation) (n : ℕ) (states : List ℕ) (stop : Option Stop)
-    → AreStates tables old → AreStates tables states → AreOperations tables its → n < length its → AreReplayed tables old its n states stop
-    → AreReplayed tables old its (n + 1) (states_after tables states stop (get_or its n nothing)) (stop_after tables states stop n (get_or its n nothing))
-replayed-at along tables old its n states stop begun ready there inside known =
-    replayed-more along tables old its n states stop (get_or its n nothing) begun ready (there-at tables its n there inside) (slice_get-get_or its n nothing inside) known
+pub replayed-at : RunsAlong → (tables : List Table) (old : List ℕ) (its : List Executed) (n : ℕ) (o : Executed) (states : List ℕ) (stop : Option Stop)
+    → AreStates tables old → AreStates tables states → AreOperations tables its → slice_get its n ≡ Some o → AreReplayed tables old its n states stop
+    → AreReplayed tables old its (n + 1) (states_after tables states stop o) (stop_after tables states stop n o)
+replayed-at along tables old its n o states stop begun ready there at known = replayed-more along tables old its n states stop o begun ready (there-at tables its n o there at) at known
 
 -- ---- all of them
 
-pub stopped-within : (tables : List Table) (old : List ℕ) (its : List Operation) (n : ℕ) (states : List ℕ) (stop : Option Stop)
+pub stopped-within : (tables : List Table) (old : List ℕ) (its : List Executed) (n : ℕ) (states : List ℕ) (stop : Option Stop)
     → AreReplayed tables old its n states stop → IfSome stop (λ q. q.place ≤ length its)
 stopped-within tables old its n states None known = tt
 stopped-within tables old its n states (Some q) known =

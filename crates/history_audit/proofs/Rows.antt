@@ -14,14 +14,14 @@ use Rattle.serial_order.specs.Operations.{is_by, of}
 use Rattle.serial_order.specs.History.{Summary, summary, is_open, ContinuesHistory}
 use Rattle.serial_order.specs.After.{summary_next, AreInRun, is_open_after, SummaryAfter, HistoryOpensAfter}
 use Rattle.serial_order.specs.Held.{own_after, OwnAfter}
-use Rattle.history_audit.specs.declared.operation.Operation.{Operation}
+use Rattle.history_audit.specs.declared.executed.Executed.{Executed}
 use Rattle.history_audit.specs.Rows.{plain, operations_of, IsRow, AreRows}
 use Rattle.history_audit.specs.Moves.{IsRowMoved, RowsMove, MovedRowsAgree}
 
 -- ---- one row
 
 -- the row of an open transaction, of which the operations are known
-open-row : (its : List Operation) (t : ℕ) (s : Summary) → is_open s t ≡ true → its ≡ operations_of t s → IsRow (Some its) t s
+open-row : (its : List Executed) (t : ℕ) (s : Summary) → is_open s t ≡ true → its ≡ operations_of t s → IsRow (Some its) t s
 open-row its t s open_now operations = record {
   going = sym open_now;
   operations = λ those is. sym (same_Some its those is) ∙ operations;
@@ -35,7 +35,7 @@ closed-row t s closed = record {
 }
 
 -- of a transaction to which nothing happened
-same-row : (row : Option (List Operation)) (t : ℕ) (s now : Summary) → is_open now t ≡ is_open s t → of t now.survives ≡ of t s.survives → IsRow row t s → IsRow row t now
+same-row : (row : Option (List Executed)) (t : ℕ) (s now : Summary) → is_open now t ≡ is_open s t → of t now.survives ≡ of t s.survives → IsRow row t s → IsRow row t now
 same-row row t s now opens own known = record {
   going = known.going ∙ sym opens;
   operations = λ its is. known.operations its is ∙ ap (map plain) (sym own);
@@ -43,10 +43,10 @@ same-row row t s now opens own known = record {
 
 -- ---- one row moved
 
-module _ (old new : List (Option (List Operation))) (s now : Summary) (known : AreRows old s) (in_run : AreInRun now) where
+module _ (old new : List (Option (List Executed))) (s now : Summary) (known : AreRows old s) (in_run : AreInRun now) where
   -- where the moved row is right, and nothing happened to other transactions
-  rows-moved : (t : ℕ) (moved : List Operation → Option (List Operation)) → IsRowMoved old new t moved → now.begun ≡ s.begun
-      → ((its : List Operation) → its ≡ operations_of t s → IsRow (moved its) t now)
+  rows-moved : (t : ℕ) (moved : List Executed → Option (List Executed)) → IsRowMoved old new t moved → now.begun ≡ s.begun
+      → ((its : List Executed) → its ≡ operations_of t s → IsRow (moved its) t now)
       → ((u : ℕ) → (u == t) ≡ false → is_open now u ≡ is_open s u) → ((u : ℕ) → (t == u) ≡ false → of u now.survives ≡ of u s.survives)
       → AreRows new now
   rows-moved t moved move begun here opens own = record {
@@ -72,7 +72,7 @@ module _ (old new : List (Option (List Operation))) (s now : Summary) (known : A
 
 -- ---- each kind of event
 
-module _ (old new : List (Option (List Operation))) (s : Summary) (known : AreRows old s) where
+module _ (old new : List (Option (List Executed))) (s : Summary) (known : AreRows old s) where
   -- an operation
   rows-op : (t x k : ℕ) → AreInRun (summary_next s (Op t x k)) → is_open s t ≡ true → ((u : ℕ) → of u (summary_next s (Op t x k)).survives ≡ own_after u s (Op t x k))
       → RowsMove (Op t x k) old new → AreRows new (summary_next s (Op t x k))
@@ -85,7 +85,7 @@ module _ (old new : List (Option (List Operation))) (s : Summary) (known : AreRo
       mine : of t (summary_next s (Op t x k)).survives ≡ of t s.survives ++ (record { by = t; at = x; op = k }) ∷ []
       mine = own t ∙ rw (eq-eqb t t refl) refl
 
-      operations : (its : List Operation) → its ≡ operations_of t s → its ++ (record { x = x; k = k }) ∷ [] ≡ operations_of t (summary_next s (Op t x k))
+      operations : (its : List Executed) → its ≡ operations_of t s → its ++ (record { x = x; k = k }) ∷ [] ≡ operations_of t (summary_next s (Op t x k))
       operations its was =
           ap (λ those. those ++ (record { x = x; k = k }) ∷ []) was
           ∙ sym (map-append plain (of t s.survives) ((record { by = t; at = x; op = k }) ∷ []))
@@ -103,7 +103,7 @@ module _ (old new : List (Option (List Operation))) (s : Summary) (known : AreRo
       mine : of t (summary_next s (Rollback t n)).survives ≡ take (length (of t s.survives) - n) (of t s.survives)
       mine = own t ∙ rw (eq-eqb t t refl) refl
 
-      operations : (its : List Operation) → its ≡ operations_of t s → take (length its - n) its ≡ operations_of t (summary_next s (Rollback t n))
+      operations : (its : List Executed) → its ≡ operations_of t s → take (length its - n) its ≡ operations_of t (summary_next s (Rollback t n))
       operations its was =
           ap (λ those. take (length those - n) those) was
           ∙ ap (λ l. take (l - n) (operations_of t s)) (length-map (of t s.survives) plain)
@@ -123,7 +123,7 @@ module _ (old new : List (Option (List Operation))) (s : Summary) (known : AreRo
         ];
   }
     where
-      earlier : (u : ℕ) (row : Option (List Operation)) → slice_get old u ≡ Some row → (u == t) ≡ false
+      earlier : (u : ℕ) (row : Option (List Executed)) → slice_get old u ≡ Some row → (u == t) ≡ false
       earlier u row was = let low = slice_get_within old u row was in let all = known.begun in grind (arith, nat_tests, low, all, next)
 
       none : of s.begun s.survives ≡ []
@@ -135,7 +135,7 @@ module _ (old new : List (Option (List Operation))) (s : Summary) (known : AreRo
           (sym (ap (λ n. map plain (of n s.survives)) is ∙ ap (map plain) none))
 
 -- any event that may come next
-rows-after : (tables : List Table) (old new : List (Option (List Operation))) (s : Summary) (happened : EventKind)
+rows-after : (tables : List Table) (old new : List (Option (List Executed))) (s : Summary) (happened : EventKind)
     → AreRows old s → AreInRun (summary_next s happened) → ContinuesHistory tables s happened
     → ((u : ℕ) → is_open (summary_next s happened) u ≡ is_open_after s happened u) → ((u : ℕ) → of u (summary_next s happened).survives ≡ own_after u s happened)
     → RowsMove happened old new → AreRows new (summary_next s happened)

@@ -16,7 +16,7 @@ use Rattle.serial_order.specs.History.{summary, surviving}
 use Rattle.serial_order.specs.Serial.{surviving_at}
 use Rattle.serial_order.specs.declared.entry.Entry.{Entry}
 use Rattle.history_audit.specs.Rows.{operations_of}
-use Rattle.history_audit.specs.declared.operation.Operation.{Operation}
+use Rattle.history_audit.specs.declared.executed.Executed.{Executed}
 use Rattle.history_audit.specs.Audit.{LeadsTo, IsIllegalAt, IsFirstIllegal, serial_up_to}
 use Rattle.history_audit.specs.Replay.{ops_at, AreStates, is_stopped_at, IsStopped, AreReplayed}
 use Rattle.history_audit.specs.SerialRun.{IsRunOf, RunsTo, ReplaysFrom, illegal_at}
@@ -27,7 +27,7 @@ use Rattle.history_audit.proofs.Kept.{first-more, illegal-front}
 use Rattle.history_audit.proofs.Lists.{take-and_next, own-ops, ops_at-split}
 use Rattle.history_audit.proofs.Serials.{found, stuck-along, leads-legal, serial-each}
 
-module _ (along : RunsAlong) (tables : List Table) (H : List Event) (ts : List ℕ) (t : ℕ) (its : List Operation) (are : its ≡ operations_of t (summary H))
+module _ (along : RunsAlong) (tables : List Table) (H : List Event) (ts : List ℕ) (t : ℕ) (its : List Executed) (are : its ≡ operations_of t (summary H))
     (old : List ℕ) (known : LeadsTo tables H ts old) where
   -- the transaction's operations at an object
   own : (x : ℕ) → ops (of t (surviving_at x H)) ≡ ops_at x its
@@ -159,7 +159,7 @@ module _ (along : RunsAlong) (tables : List Table) (H : List Event) (ts : List �
   runs-on new None ready replayed = leads-on new ready replayed
   runs-on new (Some q) ready replayed = committed-illegal new ready q replayed (replayed.stopped q refl)
 
-module _ (along : RunsAlong) (tables : List Table) (H : List Event) (ts : List ℕ) (t : ℕ) (its : List Operation) (are : its ≡ operations_of t (summary H))
+module _ (along : RunsAlong) (tables : List Table) (H : List Event) (ts : List ℕ) (t : ℕ) (its : List Executed) (are : its ≡ operations_of t (summary H))
     (old new : SerialRun) (known : IsRunOf tables H ts old) (ready : AreStates tables new.states.items) where
   taken-from : (illegal : Option Illegal) → old.illegal ≡ illegal → RunsTo tables H ts old.states.items illegal → ReplaysFrom illegal tables t its old new → IsRunOf tables H (ts ++ t ∷ []) new
   taken-from None is leads replays =

@@ -1,5 +1,5 @@
 -- Audits of histories one after another: what they say of the serial order over all.
-use Rattle.std.proofs.Common.{◌≡◌, ◌≢◌, ◌↔◌, ℕ, zero, suc, List, [], ◌∷◌, ◌++◌, take, Some, Result, Ok, Err, IsOk, Vec, slice_get, refl, sym, ap, subst, ◌∙◌, append_assoc}
+use Rattle.std.proofs.Common.{◌≡◌, ◌≢◌, ◌↔◌, ℕ, zero, suc, List, [], ◌∷◌, ◌++◌, take, Option, Some, Result, Ok, Err, IsOk, Vec, slice_get, refl, sym, ap, subst, ◌∙◌, append_assoc}
 use Rattle.std.specs.declared.alloc.Global.{Global}
 use Rattle.std.proofs.lemmas.Bool.{false≢true}
 use Rattle.std.proofs.lemmas.Option.{none-some, same_Some}
@@ -11,7 +11,7 @@ use Rattle.object_trait.specs.declared.event.EventKind.{EventKind}
 use Rattle.object_trait.specs.declared.event.EventKind.TheVariants as kind
 use Rattle.object_trait.specs.declared.event.EventKind.TheVariants.{Begin, Op, Busy, Commit, Abort, Rollback}
 use Rattle.serial_order.specs.Operations.{ops}
-use Rattle.serial_order.specs.History.{Summary, commits, summary, IsOperation, ContinuesHistory, AllContinue, IsHistory}
+use Rattle.serial_order.specs.History.{Summary, commits, summary, IsOperation, IsPlace, ContinuesHistory, AllContinue, IsHistory}
 use Rattle.serial_order.specs.Serial.{serial_at}
 use Rattle.history_audit.specs.Audit.{AreSerial}
 use Rattle.history_audit.specs.Epochs.{tables_at, tables_after, AreAudits, HasFault, AuditsEpochs, serial_over, AreSerialOver, AreHistories, YesIsSerialOver, EpochsDecide}
@@ -32,19 +32,27 @@ at-state (U ∷ tables) [] x T s at there = absurd (none-some s there)
 at-state (U ∷ tables) (r ∷ states) zero T s at there = ap Some (ap (λ V. table_at V r) (same_Some U T at) ∙ ap (table_at T) (same_Some r s there))
 at-state (U ∷ tables) (r ∷ states) (suc x) T s at there = at-state tables states x T s at there
 
--- the same operations are those of the tables
-pub same-operations : (tables : List Table) (states : List ℕ) (x k : ℕ) → IsOperation (slice_get (tables_at tables states) x) k ≡ IsOperation (slice_get tables x) k
-same-operations [] states x k = refl
-same-operations (T ∷ tables) [] x k = refl
-same-operations (T ∷ tables) (s ∷ states) zero k = refl
-same-operations (T ∷ tables) (s ∷ states) (suc x) k = same-operations tables states x k
+-- what doesn't depend on where a type begins is the same of the tables
+same-at : (P : Option Table → Type 0) → ((T : Table) (s : ℕ) → P (Some (table_at T s)) ≡ P (Some T)) → (tables : List Table) (states : List ℕ) (x : ℕ)
+    → P (slice_get (tables_at tables states) x) ≡ P (slice_get tables x)
+same-at P same [] states x = refl
+same-at P same (T ∷ tables) [] x = refl
+same-at P same (T ∷ tables) (s ∷ states) zero = same T s
+same-at P same (T ∷ tables) (s ∷ states) (suc x) = same-at P same tables states x
+
+-- so are their operations, and the places of these
+same-operations : (tables : List Table) (states : List ℕ) (x k : ℕ) → IsOperation (slice_get (tables_at tables states) x) k ≡ IsOperation (slice_get tables x) k
+same-operations tables states x k = same-at (λ table. IsOperation table k) (λ T s. refl) tables states x
+
+same-places : (tables : List Table) (states : List ℕ) (x place : ℕ) → IsPlace (slice_get (tables_at tables states) x) place ≡ IsPlace (slice_get tables x) place
+same-places tables states x place = same-at (λ table. IsPlace table place) (λ T s. refl) tables states x
 
 -- and the same events may come next
 same-events : (tables : List Table) (states : List ℕ) (s : Summary) (e : EventKind) → ContinuesHistory (tables_at tables states) s e ≡ ContinuesHistory tables s e
 same-events tables states s (Begin t) = refl
 same-events tables states s (Op t x k) = rw (same-operations tables states x k) refl
-same-events tables states s (Busy c t x u) = rw (same-operations tables states x c) refl
-same-events tables states s (kind.None t x c) = rw (same-operations tables states x c) refl
+same-events tables states s (Busy c t x u) = rw (same-places tables states x c) refl
+same-events tables states s (kind.None t x c) = rw (same-places tables states x c) refl
 same-events tables states s (Commit t) = refl
 same-events tables states s (Abort t) = refl
 same-events tables states s (Rollback t n) = refl

@@ -11,7 +11,7 @@ use Rattle.history_audit.specs.Rows.{AreRows, operations_of}
 use Rattle.history_audit.specs.Audit.{IsFirstBad}
 use Rattle.history_audit.specs.Replay.{AreOperations}
 use Rattle.history_audit.specs.declared.committed.Committed.{Committed}
-use Rattle.history_audit.specs.declared.operation.Operation.{Operation}
+use Rattle.history_audit.specs.declared.executed.Executed.{Executed}
 use Rattle.history_audit.specs.declared.event_fault.EventFault.{EventFault}
 use Rattle.history_audit.specs.declared.event_fault.EventFault.TheVariants.{Bad}
 use Rattle.history_audit.specs.declared.event_fault.EventFault.TheVariants as judge
@@ -19,7 +19,7 @@ use Rattle.history_audit.specs.declared.outcome.AuditFault.{AuditFault}
 use Rattle.history_audit.specs.declared.outcome.AuditFault.TheVariants.{BadEvent, IllegalOp, NoMemory}
 
 -- the events are a history, with which the rows agree, and each operation that survives is one of an object that is there
-pub record IsJudged (tables : List Table) (H : List Event) (rows : List (Option (List Operation))) : Type 0 where
+pub record IsJudged (tables : List Table) (H : List Event) (rows : List (Option (List Executed))) : Type 0 where
   pub history : IsHistory tables H
   pub agree : AreRows rows (summary H)
   pub there : AllByRecursion (λ (e : Entry). IsOperation (slice_get tables e.at) e.op) (surviving H)

@@ -5,15 +5,15 @@ use Rattle.std.specs.List.{AllByRecursion}
 use Rattle.type_table.specs.Table.{Table, next}
 use Rattle.type_table.specs.Run.{run, IsLegal}
 use Rattle.serial_order.specs.History.{IsOperation}
-use Rattle.history_audit.specs.declared.operation.Operation.{Operation}
+use Rattle.history_audit.specs.declared.executed.Executed.{Executed}
 use Rattle.history_audit.specs.declared.replay.Stop.{Stop}
 
 -- the operations at x
-abbrev pub ops_at : ℕ → List Operation → List ℕ
+abbrev pub ops_at : ℕ → List Executed → List ℕ
 ops_at x its = map (λ o. o.k) (filter (λ o. o.x == x) its)
 
 -- each is an operation of the table of an object that is there
-abbrev pub AreOperations : List Table → List Operation → Type 0
+abbrev pub AreOperations : List Table → List Executed → Type 0
 AreOperations tables its = AllByRecursion (λ o. IsOperation (slice_get tables o.x) o.k) its
 
 -- a state for each object, which is one of its table's
@@ -30,7 +30,7 @@ next_by (Some T) None k = None
 next_by (Some T) (Some s) k = next T s k
 
 -- the next state of the operation's object
-abbrev pub next_at : List Table → List ℕ → Operation → Option ℕ
+abbrev pub next_at : List Table → List ℕ → Executed → Option ℕ
 next_at tables states o = next_by (slice_get tables o.x) (slice_get states o.x) o.k
 
 -- an operation at this object or at a lower one wasn't legal
@@ -49,20 +49,20 @@ stop_by stop place x None = Some (record { object = x; place = place })
 stop_by stop place x (Some s) = stop
 
 -- what an operation makes of the states
-abbrev pub states_after : List Table → List ℕ → Option Stop → Operation → List ℕ
+abbrev pub states_after : List Table → List ℕ → Option Stop → Executed → List ℕ
 states_after tables states stop o = if is_stopped_at stop o.x then states else with_state states o.x (next_at tables states o)
 
 -- and where it stops, which is at the operation's place among the others where the operation isn't legal
-abbrev pub stop_after : List Table → List ℕ → Option Stop → ℕ → Operation → Option Stop
+abbrev pub stop_after : List Table → List ℕ → Option Stop → ℕ → Executed → Option Stop
 stop_after tables states stop place o = if is_stopped_at stop o.x then stop else stop_by stop place o.x (next_at tables states o)
 
 -- ---- all of them
 
 -- from the old states: the operations at the object before this place are legal, and the one at this place isn't
-pub record IsStopped (tables : List Table) (old : List ℕ) (its : List Operation) (q : Stop) : Type 0 where
+pub record IsStopped (tables : List Table) (old : List ℕ) (its : List Executed) (q : Stop) : Type 0 where
   pub table : Table
   pub from : ℕ
-  pub operation : Operation
+  pub operation : Executed
   pub object : slice_get tables q.object ≡ Some table
   pub state : slice_get old q.object ≡ Some from
   pub there : slice_get its q.place ≡ Some operation
@@ -72,7 +72,7 @@ pub record IsStopped (tables : List Table) (old : List ℕ) (its : List Operatio
 
 -- the first n operations were run: at each object below that where it stopped, or at each where it didn't, its state is that after
 -- its operations
-pub record AreReplayed (tables : List Table) (old : List ℕ) (its : List Operation) (n : ℕ) (states : List ℕ) (stop : Option Stop) : Type 0 where
+pub record AreReplayed (tables : List Table) (old : List ℕ) (its : List Executed) (n : ℕ) (states : List ℕ) (stop : Option Stop) : Type 0 where
   pub states_are : (x : ℕ) (T : Table) (s : ℕ) → slice_get tables x ≡ Some T → slice_get old x ≡ Some s → is_stopped_at stop x ≡ false
       → run T (Some s) (ops_at x (take n its)) ≡ slice_get states x
   pub stopped : (q : Stop) → stop ≡ Some q → IsStopped tables old its q

@@ -2,7 +2,7 @@
 use Rattle.std.specs.Prelude.{◌≡◌, ℕ, List, [], ◌∷◌, ◌++◌, length, take, Option, Some, None, slice_get}
 use Rattle.type_table.specs.Table.{Table}
 use Rattle.object_trait.specs.declared.event.Event.{Event}
-use Rattle.history_audit.specs.declared.operation.Operation.{Operation}
+use Rattle.history_audit.specs.declared.executed.Executed.{Executed}
 use Rattle.history_audit.specs.Audit.{LeadsTo, IsFirstIllegal}
 use Rattle.history_audit.specs.Replay.{ops_at, AreStates, AreReplayed}
 use Rattle.history_audit.specs.declared.replay.Stop.{Stop}
@@ -29,19 +29,19 @@ pub record AreInitial (tables : List Table) (states : List ℕ) : Type 0 where
 
 -- the place of the operation at which the replay of the i-th transaction stopped; its own place is counted among the operations at
 -- its object
-abbrev pub illegal_at : ℕ → List Operation → Option Stop → Option Illegal
+abbrev pub illegal_at : ℕ → List Executed → Option Stop → Option Illegal
 illegal_at i its None = None
 illegal_at i its (Some q) = Some (record { commit_index = i; object = q.object; op_index = length (ops_at q.object (take q.place its)) })
 
 -- the transaction's operations were replayed on the old states; it is the next in the order, and where an operation isn't legal its
 -- place is kept
-pub record Replays (tables : List Table) (t : ℕ) (its : List Operation) (old new : SerialRun) : Type 0 where
+pub record Replays (tables : List Table) (t : ℕ) (its : List Executed) (old new : SerialRun) : Type 0 where
   pub stop : Option Stop
   pub replayed : AreReplayed tables old.states.items its (length its) new.states.items stop
   pub order : new.order.items ≡ old.order.items ++ t ∷ []
   pub illegal : new.illegal ≡ illegal_at (length old.order.items) its stop
 
 -- after the first operation that isn't legal nothing is replayed
-abbrev pub ReplaysFrom : Option Illegal → List Table → ℕ → List Operation → SerialRun → SerialRun → Type 0
+abbrev pub ReplaysFrom : Option Illegal → List Table → ℕ → List Executed → SerialRun → SerialRun → Type 0
 ReplaysFrom None tables t its old new = Replays tables t its old new
 ReplaysFrom (Some p) tables t its old new = new ≡ old

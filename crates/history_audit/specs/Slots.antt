@@ -1,7 +1,7 @@
 -- The slots of the open transactions of a history, and the index of each.
 use Rattle.std.specs.Prelude.{ℕ, List, [], Option, None, Some}
 use Rattle.open_transactions.specs.InSlots.{shown_rows}
-use Rattle.history_audit.specs.declared.operation.Operation.{Operation}
+use Rattle.history_audit.specs.declared.executed.Executed.{Executed}
 use Rattle.history_audit.specs.declared.slots.Slot.{Slot}
 
 -- the number of an open transaction
@@ -9,14 +9,14 @@ abbrev pub number_of : Slot → ℕ
 number_of slot = slot.number
 
 -- its row: its operations that survive
-abbrev pub row_of : Slot → List Operation
+abbrev pub row_of : Slot → List Executed
 row_of slot = slot.operations
 
 -- the rows that slots show
-abbrev pub rows_of : List Slot → List ℕ → List (Option (List Operation))
+abbrev pub rows_of : List Slot → List ℕ → List (Option (List Executed))
 rows_of slots index = shown_rows row_of slots index
 
 -- the operations of a row, and none where there is none
-abbrev pub its_of : Option (List Operation) → List Operation
+abbrev pub its_of : Option (List Executed) → List Executed
 its_of None = []
 its_of (Some its) = its

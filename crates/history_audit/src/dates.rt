@@ -54,7 +54,8 @@ impl Dates {
         ensures taken { AreDatesFrom at events.now self.new }
         ensures long { length self.new.dates.items ≡ length self.old.dates.items }
     {
-        match events[at].kind {
+        let event = events[at];
+        match event.kind {
             EventKind::Op { t, .. } => self.op(t),
             EventKind::Commit { .. } => self.committed -= 1,
             EventKind::Rollback { t, n } => self.rollback(t, n),

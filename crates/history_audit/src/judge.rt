@@ -1,6 +1,6 @@
 ghost use Rattle.std.specs.Prelude.{◌≡◌, ◌↔◌, ◌+◌, ◌<◌, ℕ, [], List, length, map, take, slice_get, IfErr, IfOk, IsTrue, OnErr};
 ghost use Rattle.type_table.specs.Table.{Table};
-ghost use Rattle.serial_order.specs.History.{IsOperation};
+ghost use Rattle.serial_order.specs.History.{IsOperation, IsPlace};
 ghost use Rattle.object_trait.specs.declared.event.EventKind.TheVariants as kind;
 ghost use Rattle.table_checker.specs.Declarations.{table_of};
 ghost use Rattle.history_audit.specs.Judges.{Judges, Takes, handed};
@@ -8,8 +8,8 @@ ghost use Rattle.history_audit.specs.Judged.{IsHanded, IsJudged, StopsJudge, fau
 
 use crate::committed::Committed;
 use crate::event_fault::EventFault;
+use crate::executed::Executed;
 use crate::laws::moved_rows_agree;
-use crate::operation::Operation;
 use crate::operations::Operations;
 use crate::outcome::AuditFault;
 use crate::slots::Slots;
@@ -18,6 +18,7 @@ use serial_order::summary_after;
 use std::alloc::Global;
 use std::marker::Model;
 use table_checker::DeclaredType;
+use type_table::Operation;
 
 /// What comes of an event: it is taken, or why it isn't.
 type Verdict = Result<(), EventFault>;
@@ -31,9 +32,9 @@ pub struct Judge {
 
 impl Model for Judge {
     ghost use Rattle.std.specs.Prelude.{List, Option};
-    ghost use Rattle.history_audit.specs.declared.operation.Operation.{Operation};
+    ghost use Rattle.history_audit.specs.declared.executed.Executed.{Executed};
 
-    ghost Value = { List (Option (List Operation)) };
+    ghost Value = { List (Option (List Executed)) };
 
     ghost view = { λ a. a.rows };
 }
@@ -56,9 +57,9 @@ impl Judge {
     {
         match event {
             EventKind::Begin { t } => self.begin(t),
-            EventKind::Op { t, x, k } => self.op(types, t, Operation { x, k }),
-            EventKind::Busy { c, t, x, .. } => self.unanswered(types, t, Operation { x, k: c }),
-            EventKind::None { t, x, c } => self.unanswered(types, t, Operation { x, k: c }),
+            EventKind::Op { t, x, k } => self.op(types, t, x, k),
+            EventKind::Busy { c, t, x, .. } => self.unanswered(types, t, x, c),
+            EventKind::None { t, x, c } => self.unanswered(types, t, x, c),
             EventKind::Commit { t } => match self.commit(t) {
                 Ok(_) => Ok(()),
                 Err(fault) => Err(fault),
@@ -126,30 +127,30 @@ impl Judge {
     }
 
     // An operation of an open transaction.
-    fn op(&mut self, types: &[&DeclaredType], t: u32, operation: Operation) -> Verdict
-        ensures judged { Takes (map (λ t. table_of t.now) types.now) self.old (kind.Op t operation.x operation.k) result self.new }
+    fn op(&mut self, types: &[&DeclaredType], t: u32, x: u32, k: Operation) -> Verdict
+        ensures judged { Takes (map (λ t. table_of t.now) types.now) self.old (kind.Op t x k) result self.new }
         ensures kept { OnErr result (self.new ≡ self.old) }
     {
         moved_rows_agree();
-        if !is_operation(types, operation) {
+        if !is_operation(types, x, k) {
             return Err(EventFault::Bad);
         }
         if !self.rows.is_open(t) {
             return Err(EventFault::Bad);
         }
-        match self.rows.add(t, operation) {
+        match self.rows.add(t, Executed { x, k }) {
             Ok(()) => Ok(()),
             Err(_) => Err(EventFault::NoMemory),
         }
     }
 
-    // An answer to an open transaction that isn't an operation, which changes nothing.
-    fn unanswered(&self, types: &[&DeclaredType], t: u32, operation: Operation) -> Verdict
-        ensures busy { (u : ℕ) → Takes (map (λ t. table_of t.now) types.now) self.now (kind.Busy operation.k t operation.x u) result self.now }
-        ensures none { Takes (map (λ t. table_of t.now) types.now) self.now (kind.None t operation.x operation.k) result self.now }
+    // An answer to an open transaction that isn't an operation, which changes nothing. It names its call by a place.
+    fn unanswered(&self, types: &[&DeclaredType], t: u32, x: u32, place: u8) -> Verdict
+        ensures busy { (u : ℕ) → Takes (map (λ t. table_of t.now) types.now) self.now (kind.Busy place t x u) result self.now }
+        ensures none { Takes (map (λ t. table_of t.now) types.now) self.now (kind.None t x place) result self.now }
     {
         moved_rows_agree();
-        if !is_operation(types, operation) {
+        if !is_place(types, x, place) {
             return Err(EventFault::Bad);
         }
         if !self.rows.is_open(t) {
@@ -200,12 +201,22 @@ fn fault_at(fault: EventFault, at: usize) -> AuditFault
     }
 }
 
-/// Whether the object is there and the operation is one of its table.
-fn is_operation(types: &[&DeclaredType], operation: Operation) -> bool
-    ensures { IsTrue result ↔ IsOperation (slice_get (map (λ t. table_of t.now) types.now) operation.x) operation.k }
+/// Whether the object is there and the operation is one of its type.
+fn is_operation(types: &[&DeclaredType], x: u32, k: Operation) -> bool
+    ensures { IsTrue result ↔ IsOperation (slice_get (map (λ t. table_of t.now) types.now) x) k }
 {
-    match types.get(operation.x as usize) {
-        Some(declared) => operation.k < declared.op_count(),
+    match types.get(x as usize) {
+        Some(declared) => declared.op(k).is_some(),
+        None => false,
+    }
+}
+
+/// Whether the object is there and some operation of its type has this place.
+fn is_place(types: &[&DeclaredType], x: u32, place: u8) -> bool
+    ensures { IsTrue result ↔ IsPlace (slice_get (map (λ t. table_of t.now) types.now) x) place }
+{
+    match types.get(x as usize) {
+        Some(declared) => declared.has_place(place),
         None => false,
     }
 }

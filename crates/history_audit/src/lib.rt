@@ -9,12 +9,12 @@ mod committed;
 mod dates;
 mod epoch_lines;
 mod event_fault;
+mod executed;
 mod in_order;
 mod in_order_fault;
 mod in_turn;
 mod judge;
 mod laws;
-mod operation;
 mod operations;
 mod order_tests;
 mod outcome;
@@ -37,3 +37,4 @@ pub use outputs::{Out, OutFault};
 pub use write::write_audit;
 
 pub mod worked;
+pub mod worked_amounts;

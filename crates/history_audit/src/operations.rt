@@ -1,6 +1,6 @@
 ghost use Rattle.std.specs.Prelude.{◌≡◌, [], ◌∷◌, ◌++◌, length, take, OnOk, OnErr};
 
-use crate::operation::Operation;
+use crate::executed::Executed;
 use smallvec::SmallVec;
 use std::alloc::{AllocError, Global};
 use std::marker::Model;
@@ -9,14 +9,14 @@ use std::marker::Model;
 /// list of them.
 #[derive(Drop)]
 pub struct Operations {
-    list: SmallVec<Operation, 8>,
+    list: SmallVec<Executed, 8>,
 }
 
 impl Model for Operations {
     ghost use Rattle.std.specs.Prelude.{List};
-    ghost use Rattle.history_audit.specs.declared.operation.Operation.{Operation};
+    ghost use Rattle.history_audit.specs.declared.executed.Executed.{Executed};
 
-    ghost Value = { List Operation };
+    ghost Value = { List Executed };
 
     ghost view = { λ a. a.list.items };
 }
@@ -32,7 +32,7 @@ impl Operations {
     }
 
     /// All of them, in order.
-    pub fn as_slice(&self) -> &[Operation]
+    pub fn as_slice(&self) -> &[Executed]
         ensures { result.now ≡ self.now }
     {
         self.list.as_slice()
@@ -46,7 +46,7 @@ impl Operations {
     }
 
     /// One more at the end.
-    pub(crate) fn push(&mut self, operation: Operation) -> Result<(), AllocError>
+    pub(crate) fn push(&mut self, operation: Executed) -> Result<(), AllocError>
         ensures ok { OnOk result (self.new ≡ self.old ++ operation ∷ []) }
         ensures err { OnErr result (self.new ≡ self.old) }
     {

@@ -6,7 +6,7 @@ ghost use Rattle.table_checker.specs.Declarations.{table_of};
 ghost use Rattle.serial_order.specs.History.{IsOperation};
 ghost use Rattle.history_audit.specs.Replay.{ops_at, AreOperations, AreStates, next_at, is_stopped_at, states_after, stop_after, AreReplayed};
 
-use crate::operation::Operation;
+use crate::executed::Executed;
 use table_checker::DeclaredType;
 use type_table::runs_along;
 
@@ -24,7 +24,7 @@ pub struct Stop {
 pub fn replay(
     states: &mut Vec<u32>,
     types: &[&DeclaredType],
-    operations: &[Operation],
+    operations: &[Executed],
 ) -> Option<Stop>
     requires states { AreStates (map (λ t. table_of t.now) types.now) states.old.items }
     requires operations { AreOperations (map (λ t. table_of t.now) types.now) operations.now }
@@ -34,7 +34,7 @@ pub fn replay(
     runs_along();
     let mut stop = None;
     for place in 0..operations.len() {
-        stop = replay_one(states, types, operations[place], place, stop);
+        stop = replay_one(states, types, &operations[place], place, stop);
     }
     stop
 }
@@ -43,15 +43,15 @@ pub fn replay(
 fn replay_one(
     states: &mut Vec<u32>,
     types: &[&DeclaredType],
-    operation: Operation,
+    operation: &Executed,
     place: usize,
     stop: Option<Stop>,
 ) -> Option<Stop>
     requires states { AreStates (map (λ t. table_of t.now) types.now) states.old.items }
-    requires operation { IsOperation (slice_get (map (λ t. table_of t.now) types.now) operation.x) operation.k }
-    ensures states { states.new.items ≡ states_after (map (λ t. table_of t.now) types.now) states.old.items stop operation }
+    requires operation { IsOperation (slice_get (map (λ t. table_of t.now) types.now) operation.now.x) operation.now.k }
+    ensures states { states.new.items ≡ states_after (map (λ t. table_of t.now) types.now) states.old.items stop operation.now }
     ensures inside { AreStates (map (λ t. table_of t.now) types.now) states.new.items }
-    ensures stop { result ≡ stop_after (map (λ t. table_of t.now) types.now) states.old.items stop place operation }
+    ensures stop { result ≡ stop_after (map (λ t. table_of t.now) types.now) states.old.items stop place operation.now }
 {
     if is_stopped_at(stop, operation.x) {
         return stop;
@@ -79,19 +79,19 @@ fn is_stopped_at(stop: Option<Stop>, x: u32) -> bool
 }
 
 /// The next state of the operation's object, where the operation is legal.
-fn next_at(states: &Vec<u32>, types: &[&DeclaredType], operation: Operation) -> Option<u32>
+fn next_at(states: &Vec<u32>, types: &[&DeclaredType], operation: &Executed) -> Option<u32>
     requires states { AreStates (map (λ t. table_of t.now) types.now) states.now.items }
-    requires operation { IsOperation (slice_get (map (λ t. table_of t.now) types.now) operation.x) operation.k }
-    ensures exact { result ≡ next_at (map (λ t. table_of t.now) types.now) states.now.items operation }
-    ensures there { operation.x < length states.now.items }
-    ensures inside { IfSome result (λ s. (T : Table) → slice_get (map (λ t. table_of t.now) types.now) operation.x ≡ Some T → s < T.states) }
+    requires operation { IsOperation (slice_get (map (λ t. table_of t.now) types.now) operation.now.x) operation.now.k }
+    ensures exact { result ≡ next_at (map (λ t. table_of t.now) types.now) states.now.items operation.now }
+    ensures there { operation.now.x < length states.now.items }
+    ensures inside { IfSome result (λ s. (T : Table) → slice_get (map (λ t. table_of t.now) types.now) operation.now.x ≡ Some T → s < T.states) }
 {
     let x = operation.x as usize;
     types[x].next(states[x], operation.k)
 }
 
 /// How many of these operations are at the object.
-pub fn count_at(operations: &[Operation], object: u32) -> usize
+pub fn count_at(operations: &[Executed], object: u32) -> usize
     ensures { result ≡ length (ops_at object operations.now) }
 {
     let mut count = 0;

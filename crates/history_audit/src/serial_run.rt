@@ -6,7 +6,7 @@ ghost use Rattle.table_checker.specs.Declarations.{table_of};
 ghost use Rattle.history_audit.specs.Replay.{AreOperations, AreStates};
 ghost use Rattle.history_audit.specs.SerialRun.{AreInitial, illegal_at, Replays, ReplaysFrom};
 
-use crate::operation::Operation;
+use crate::executed::Executed;
 use crate::outcome::{Audit, AuditFault};
 use crate::replay::{Stop, count_at, replay};
 use std::alloc::{AllocError, Global};
@@ -50,7 +50,7 @@ impl SerialRun {
         &mut self,
         types: &[&DeclaredType],
         t: u32,
-        operations: &[Operation],
+        operations: &[Executed],
     ) -> Result<(), AllocError>
         requires states { AreStates (map (λ t. table_of t.now) types.now) self.old.states.items }
         requires operations { AreOperations (map (λ t. table_of t.now) types.now) operations.now }
@@ -68,7 +68,7 @@ impl SerialRun {
         &mut self,
         types: &[&DeclaredType],
         t: u32,
-        operations: &[Operation],
+        operations: &[Executed],
     ) -> Result<(), AllocError>
         requires states { AreStates (map (λ t. table_of t.now) types.now) self.old.states.items }
         requires operations { AreOperations (map (λ t. table_of t.now) types.now) operations.now }
@@ -107,7 +107,7 @@ impl SerialRun {
 }
 
 /// The place of the operation at which a replay stopped, of the transaction with this place in the order.
-fn illegal_at(commit_index: usize, operations: &[Operation], stop: Option<Stop>) -> Option<Illegal>
+fn illegal_at(commit_index: usize, operations: &[Executed], stop: Option<Stop>) -> Option<Illegal>
     requires { IfSome stop (λ q. q.place ≤ length operations.now) }
     ensures { result ≡ illegal_at commit_index operations.now stop }
 {

@@ -4,7 +4,7 @@ ghost use Rattle.std.specs.Prelude.{◌≡◌, true, [], ◌∷◌, ◌++◌, le
 ghost use Rattle.open_transactions.specs.Transactions.{row, is_open};
 ghost use Rattle.history_audit.specs.Slots.{its_of};
 
-use crate::operation::Operation;
+use crate::executed::Executed;
 use crate::operations::Operations;
 use std::alloc::{AllocError, Global};
 use std::marker::Model;
@@ -34,10 +34,10 @@ pub(crate) struct Slots {
 impl Model for Slots {
     ghost use Rattle.std.specs.Prelude.{List, map, Option};
     ghost use Rattle.open_transactions.specs.InSlots.{IsPlaced};
-    ghost use Rattle.history_audit.specs.declared.operation.Operation.{Operation};
+    ghost use Rattle.history_audit.specs.declared.executed.Executed.{Executed};
     ghost use Rattle.history_audit.specs.Slots.{number_of, rows_of};
 
-    ghost Value = { List (Option (List Operation)) };
+    ghost Value = { List (Option (List Executed)) };
 
     ghost view = { λ a. rows_of a.slots.items a.slot_of.items };
 
@@ -101,7 +101,7 @@ impl Slots {
     }
 
     /// One more operation of t.
-    pub(crate) fn add(&mut self, t: u32, operation: Operation) -> Result<(), AllocError>
+    pub(crate) fn add(&mut self, t: u32, operation: Executed) -> Result<(), AllocError>
         requires { is_open self.old t ≡ true }
         ensures ok { OnOk result (self.new ≡ slice_set self.old t (Some (its_of (row self.old t) ++ operation ∷ []))) }
         ensures err { OnErr result (self.new ≡ self.old) }

@@ -1,29 +1,40 @@
 -- The numbers and counts of a history that was read.
-use Rattle.std.proofs.Common.{◌≡◌, true, List, [], ◌∷◌, map, refl, sym, ap, ◌∙◌}
+use Rattle.std.proofs.Common.{◌≡◌, ℕ, ◌<◌, true, List, [], ◌∷◌, map, Some, None, refl, sym, ap, ◌∙◌, arith}
 use Rattle.std.specs.Prelude.{Vec}
+use Rattle.std.proofs.lemmas.Bool.{leb-true, and_parts}
 use Rattle.std.proofs.lemmas.List.{length-map}
 use Rattle.std.specs.List.{AllByRecursion}
 use Rattle.std.specs.declared.alloc.Global.{Global}
+use Rattle.type_table.specs.Operation.{place-of-operation, amount-of-operation}
 use Rattle.object_trait.specs.declared.event.Event.{Event}
 use Rattle.store_text.specs.Parts.{IsPartsOf, AreFit}
 use Rattle.store_text.specs.declared.line.Line.{Line}
 use Rattle.store_text.specs.declared.parts.Parts.{Parts}
 use Rattle.history_text.specs.declared.event_line.EventLine.{EventLine}
-use Rattle.history_text.specs.declared.event_line.EventLine.TheVariants.{Begin, Op, Busy, Nothing, Commit, Abort, Rollback}
-use Rattle.history_text.specs.Events.{events, event_of, line_of, is_in_range}
+use Rattle.history_text.specs.declared.event_line.EventLine.TheVariants.{Begin, Op, OpOf, Busy, Nothing, Commit, Abort, Rollback}
+use Rattle.history_text.specs.Events.{events, event_of, line_of, is_operation, is_in_range}
 use Rattle.history_text.specs.History.{IsHistoryOf}
 use Rattle.history_text.specs.Canonical.{AreInRange}
 use Rattle.history_text.proofs.Said.{event_again}
 
--- the event of a line is said by that line
-pub line_again : (x : EventLine) → line_of (event_of x) ≡ x
-line_again (Begin w t) = refl
-line_again (Op w t x k) = refl
-line_again (Busy w t x c u) = refl
-line_again (Nothing w t x c) = refl
-line_again (Commit w t) = refl
-line_again (Abort w t) = refl
-line_again (Rollback w t n) = refl
+-- an operation's place is a byte
+is_place : (k : ℕ) → is_operation k ≡ true → k < 256
+is_place k h = omega (arith, leb-true k 63 h)
+
+-- the event of a line whose numbers are in range is said by that line
+pub line_again : (x : EventLine) → is_in_range x ≡ true → line_of (event_of x) ≡ x
+line_again (Begin w t) h = refl
+line_again (Op w t x k) h =
+    let small : k < 256 = is_place k (and_parts _ _ h).1 in
+    rw (place-of-operation k None small, amount-of-operation k None small) refl
+line_again (OpOf w t x k n) h =
+    let small : k < 256 = is_place k (and_parts _ _ (and_parts _ _ h).0).1 in
+    rw (place-of-operation k (Some n) small, amount-of-operation k (Some n) small) refl
+line_again (Busy w t x c u) h = refl
+line_again (Nothing w t x c) h = refl
+line_again (Commit w t) h = refl
+line_again (Abort w t) h = refl
+line_again (Rollback w t n) h = refl
 
 -- the lines of events say them
 pub lines_again : (happened : List Event) → happened ≡ map event_of (map line_of happened)

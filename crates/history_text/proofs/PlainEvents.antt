@@ -7,7 +7,7 @@ use Rattle.line_text.proofs.Items.{keyword}
 use Rattle.store_text.specs.Body.{line_of}
 use Rattle.store_text.specs.declared.line.Line.TheVariants.{Entry}
 use Rattle.history_text.specs.declared.event_line.EventLine.TheVariants.{Begin, Op, Busy, Nothing, Commit, Abort, Rollback}
-use Rattle.history_text.specs.Events.{events, event_line_of, begin_of, op_of, busy_of, nothing_of, commit_of, abort_of, rollback_of}
+use Rattle.history_text.specs.Events.{events, event_line_of, begin_of, op_of, listed_of, busy_of, nothing_of, commit_of, abort_of, rollback_of}
 
 pub begin_plainly : (w t : ℕ) (rest first behind : List ℕ) → IsNumberBefore 32 rest w first → IsNumberBefore 10 first t behind
     → SaysPlainly (line_of events) (codes "begin " ++ rest) (Entry (Begin w t)) behind
@@ -22,7 +22,7 @@ begin_plainly w t rest first behind pw pt = record {
 
 pub op_plainly : (w t x k : ℕ) (rest first second third behind : List ℕ) → IsNumberBefore 32 rest w first → IsNumberBefore 32 first t second → IsNumberBefore 32 second x third → IsNumberBefore 10 third k behind
     → SaysPlainly (line_of events) (codes "op " ++ rest) (Entry (Op w t x k)) behind
-unfolding line_of is_key event_line_of op_of exactly number_at
+unfolding line_of is_key event_line_of op_of listed_of exactly number_at
 op_plainly w t x k rest first second third behind pw pt px pk = record {
   words = codes "op" ∷ pw.word ∷ pt.word ∷ px.word ∷ pk.word ∷ [];
   line = (rest, keyword (codes "op") refl refl, refl, (first, pw.is_word, pw.front, (second, pt.is_word, pt.front, (third, px.is_word, px.front, (pk.is_word, pk.front)))));

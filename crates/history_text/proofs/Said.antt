@@ -1,12 +1,13 @@
 -- What the lines of a canonical text say.
-use Rattle.std.proofs.Common.{◌≡◌, ℕ, List, [], ◌∷◌, ◌++◌, map, refl, ap, ◌∙◌}
+use Rattle.std.proofs.Common.{◌≡◌, ℕ, List, [], ◌∷◌, ◌++◌, map, Option, Some, None, refl, ap, ◌∙◌}
+use Rattle.type_table.specs.Operation.{operation_at, place_of, amount_of, operation-again}
 use Rattle.object_trait.specs.declared.event.Event.{Event}
 use Rattle.object_trait.specs.declared.event.EventKind.{EventKind}
 use Rattle.object_trait.specs.declared.event.EventKind.TheVariants as kind
 use Rattle.store_text.specs.Said.{objects_of, entries_of}
 use Rattle.store_text.specs.declared.line.Line.TheVariants.{End}
 use Rattle.store_text.specs.declared.line.ObjectLine.{ObjectLine}
-use Rattle.history_text.specs.Events.{event_of, line_at}
+use Rattle.history_text.specs.Events.{event_of, line_at, op_line}
 use Rattle.history_text.specs.Canonical.{event_line, canonical_lines}
 
 -- the lines of events say no object
@@ -19,10 +20,15 @@ pub objects_said : (objects : List ObjectLine) (happened : List Event) → objec
 objects_said [] happened = no_object happened
 objects_said (o ∷ objects) happened = ap (λ rest. o ∷ rest) (objects_said objects happened)
 
+-- the line of an operation says its place and its amount
+op_again : (w t x k : ℕ) (amount : Option ℕ) → event_of (op_line w t x k amount) ≡ record { worker = w; kind = kind.Op t x (operation_at k amount) }
+op_again w t x k None = refl
+op_again w t x k (Some n) = refl
+
 -- the line of an event says it
 pub event_again : (w : ℕ) (k : EventKind) → event_of (line_at w k) ≡ record { worker = w; kind = k }
 event_again w (kind.Begin t) = refl
-event_again w (kind.Op t x k) = refl
+event_again w (kind.Op t x k) = op_again w t x (place_of k) (amount_of k) ∙ ap (λ p. record { worker = w; kind = kind.Op t x p }) (operation-again k)
 event_again w (kind.Busy c t x u) = refl
 event_again w (kind.None t x c) = refl
 event_again w (kind.Commit t) = refl

@@ -1,19 +1,22 @@
 -- The words of a line say it.
-use Rattle.std.proofs.Common.{◌≡◌, ℕ, ◌+◌, ◌*◌, ◌<◌, ◌≤◌, ◌^◌, true, ◌&&◌, leb, List, [], ◌∷◌, length, map, refl, arith}
+use Rattle.std.proofs.Common.{◌≡◌, ℕ, ◌+◌, ◌*◌, ◌<◌, ◌≤◌, ◌^◌, true, ◌&&◌, leb, List, [], ◌∷◌, ◌++◌, length, map, refl, arith}
 use Rattle.std.specs.Prelude.{codes}
 use Rattle.std.specs.Fmt.{decimal}
 use Rattle.std.specs.List.{AllByRecursion}
 use Rattle.std.proofs.lemmas.Bool.{leb-true, and_parts}
 use Rattle.type_table.specs.declared.kind.Kind.{Kind}
 use Rattle.type_table.specs.declared.kind.Kind.TheVariants.{Undo, Intentions, Escrow}
+use Rattle.type_table.proofs.Elements.{each-append}
+use Rattle.line_text.specs.LongNumbers.{long_number_at}
 use Rattle.line_text.specs.Shapes.{exactly, number_at, kind_at, is_key}
 use Rattle.line_text.specs.Spelling.{spaced, IsWord, Spells, NumberIsReadAgain}
 use Rattle.line_text.proofs.Items.{keyword, length-spaced}
+use Rattle.line_text.proofs.LongDecimals.{read_long}
 use Rattle.store_text.specs.Body.{store_rules, line_of, object_of_words, end_of_words}
 use Rattle.store_text.specs.declared.line.Line.TheVariants.{Object, Entry, End}
 use Rattle.history_text.specs.declared.event_line.EventLine.{EventLine}
-use Rattle.history_text.specs.declared.event_line.EventLine.TheVariants.{Begin, Op, Busy, Nothing, Commit, Abort, Rollback}
-use Rattle.history_text.specs.Events.{events, event_line_of, begin_of, op_of, busy_of, nothing_of, commit_of, abort_of, rollback_of, is_in_range, is_worker, is_transaction, is_object, is_operation}
+use Rattle.history_text.specs.declared.event_line.EventLine.TheVariants.{Begin, Op, OpOf, Busy, Nothing, Commit, Abort, Rollback}
+use Rattle.history_text.specs.Events.{events, event_line_of, begin_of, op_of, counted_of, listed_of, busy_of, nothing_of, commit_of, abort_of, rollback_of, is_in_range, is_worker, is_transaction, is_object, is_operation, is_amount}
 use Rattle.history_text.specs.Canonical.{words_of}
 
 -- ---- ranges
@@ -44,6 +47,11 @@ module _ (numbers : (n : ℕ) → n < 10 ^ 7 → NumberIsReadAgain n) where
   short_line : (w : List ℕ) (ns : List ℕ) → AreSmall ns → length (spaced (w ∷ map decimal ns)) ≤ length w + 8 * length ns
   short_line w [] h = omega arith
   short_line w (n ∷ ns) h = omega (arith, length-spaced w (decimal n) (map decimal ns), short_line (decimal n) ns h.1, (numbers n h.0).short)
+
+  -- so is one that ends in a number of up to ten digits
+  short_long_line : (w : List ℕ) (ns : List ℕ) (n : ℕ) → AreSmall ns → length (decimal n) ≤ 10 → length (spaced (w ∷ map decimal ns ++ decimal n ∷ [])) ≤ length w + 8 * length ns + 11
+  short_long_line w [] n h last = omega (arith, length-spaced w (decimal n) [], last)
+  short_long_line w (m ∷ ns) n h last = omega (arith, length-spaced w (decimal m) (map decimal ns ++ decimal n ∷ []), short_long_line (decimal m) ns n h.1 last, (numbers m h.0).short)
 
   -- the words of an `object` line
   object_spells : (kind : Kind) (file : ℕ) → file < 10 ^ 7 → Spells (store_rules events) (Object kind file) (words_of (Object kind file))
@@ -85,7 +93,7 @@ module _ (numbers : (n : ℕ) → n < 10 ^ 7 → NumberIsReadAgain n) where
 
   -- the words of a `op` line
   op_spells : (w t x k : ℕ) → w < 10 ^ 7 → t < 10 ^ 7 → x < 10 ^ 7 → k < 10 ^ 7 → Spells (store_rules events) (Entry (Op w t x k)) (words_of (Entry (Op w t x k)))
-  unfolding line_of event_line_of op_of exactly number_at is_key
+  unfolding line_of event_line_of op_of listed_of exactly number_at is_key
   op_spells w t x k w_small t_small x_small k_small =
       let small : AreSmall (w ∷ t ∷ x ∷ k ∷ []) = (w_small, (t_small, (x_small, (k_small, tt)))) in
       record {
@@ -94,6 +102,20 @@ module _ (numbers : (n : ℕ) → n < 10 ^ 7 → NumberIsReadAgain n) where
         no_comment = λ e. omega (arith, e);
         short = omega (arith, short_line (codes "op") (w ∷ t ∷ x ∷ k ∷ []) small);
         said = rw ((numbers w w_small).read, (numbers t t_small).read, (numbers x x_small).read, (numbers k k_small).read) refl;
+      }
+
+  -- those of one with an amount
+  counted_spells : (w t x k n : ℕ) → w < 10 ^ 7 → t < 10 ^ 7 → x < 10 ^ 7 → k < 10 ^ 7 → n ≤ 4294967295 → Spells (store_rules events) (Entry (OpOf w t x k n)) (words_of (Entry (OpOf w t x k n)))
+  unfolding line_of event_line_of op_of counted_of exactly number_at long_number_at is_key
+  counted_spells w t x k n w_small t_small x_small k_small n_fits =
+      let small : AreSmall (w ∷ t ∷ x ∷ k ∷ []) = (w_small, (t_small, (x_small, (k_small, tt)))) in
+      let amount = read_long n n_fits in
+      record {
+        some = omega arith;
+        each = (keyword (codes "op") refl refl, each-append IsWord (map decimal (w ∷ t ∷ x ∷ k ∷ [])) (decimal n ∷ []) (are_words (w ∷ t ∷ x ∷ k ∷ []) small) (amount.is_word, tt));
+        no_comment = λ e. omega (arith, e);
+        short = omega (arith, short_long_line (codes "op") (w ∷ t ∷ x ∷ k ∷ []) n small amount.short);
+        said = rw ((numbers w w_small).read, (numbers t t_small).read, (numbers x x_small).read, (numbers k k_small).read, amount.read) refl;
       }
 
   -- the words of a `busy` line
@@ -186,6 +208,12 @@ module _ (numbers : (n : ℕ) → n < 10 ^ 7 → NumberIsReadAgain n) where
       let p2 : ((is_worker w && is_transaction t) ≡ true) × ((is_object x) ≡ true) = and_parts _ _ p3.0 in
       let p1 : ((is_worker w) ≡ true) × ((is_transaction t) ≡ true) = and_parts _ _ p2.0 in
       op_spells w t x k (worker w p1.0) (transaction t p1.1) (object x p2.1) (operation k p3.1)
+  event_line_spells (OpOf w t x k n) h =
+      let p4 : ((is_worker w && is_transaction t && is_object x && is_operation k) ≡ true) × ((is_amount n) ≡ true) = and_parts _ _ h in
+      let p3 : ((is_worker w && is_transaction t && is_object x) ≡ true) × ((is_operation k) ≡ true) = and_parts _ _ p4.0 in
+      let p2 : ((is_worker w && is_transaction t) ≡ true) × ((is_object x) ≡ true) = and_parts _ _ p3.0 in
+      let p1 : ((is_worker w) ≡ true) × ((is_transaction t) ≡ true) = and_parts _ _ p2.0 in
+      counted_spells w t x k n (worker w p1.0) (transaction t p1.1) (object x p2.1) (operation k p3.1) (leb-true n 4294967295 p4.1)
   event_line_spells (Busy w t x c u) h =
       let p4 : ((is_worker w && is_transaction t && is_object x && is_operation c) ≡ true) × ((is_transaction u) ≡ true) = and_parts _ _ h in
       let p3 : ((is_worker w && is_transaction t && is_object x) ≡ true) × ((is_operation c) ≡ true) = and_parts _ _ p4.0 in

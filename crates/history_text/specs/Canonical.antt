@@ -15,7 +15,7 @@ use Rattle.store_text.specs.declared.line.Line.{Line}
 use Rattle.store_text.specs.declared.line.Line.TheVariants.{Max, Object, Entry, End}
 use Rattle.store_text.specs.declared.line.ObjectLine.{ObjectLine}
 use Rattle.history_text.specs.declared.event_line.EventLine.{EventLine}
-use Rattle.history_text.specs.declared.event_line.EventLine.TheVariants.{Begin, Op, Busy, Nothing, Commit, Abort, Rollback}
+use Rattle.history_text.specs.declared.event_line.EventLine.TheVariants.{Begin, Op, OpOf, Busy, Nothing, Commit, Abort, Rollback}
 use Rattle.history_text.specs.declared.history_file.HistoryFile.{HistoryFile}
 use Rattle.history_text.specs.Events.{events, event_of, line_of, is_in_range}
 use Rattle.history_text.specs.History.{IsHistoryOf}
@@ -26,6 +26,7 @@ use Rattle.history_text.specs.History.{IsHistoryOf}
 abbrev pub event_words : EventLine → List (List ℕ)
 event_words (Begin w t) = codes "begin" ∷ decimal w ∷ decimal t ∷ []
 event_words (Op w t x k) = codes "op" ∷ decimal w ∷ decimal t ∷ decimal x ∷ decimal k ∷ []
+event_words (OpOf w t x k n) = codes "op" ∷ decimal w ∷ decimal t ∷ decimal x ∷ decimal k ∷ decimal n ∷ []
 event_words (Busy w t x c u) = codes "busy" ∷ decimal w ∷ decimal t ∷ decimal x ∷ decimal c ∷ decimal u ∷ []
 event_words (Nothing w t x c) = codes "none" ∷ decimal w ∷ decimal t ∷ decimal x ∷ decimal c ∷ []
 event_words (Commit w t) = codes "commit" ∷ decimal w ∷ decimal t ∷ []

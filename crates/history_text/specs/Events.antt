@@ -1,14 +1,16 @@
 -- The event lines of a history.
-use Rattle.std.specs.Prelude.{ℕ, Bool, false, ◌&&◌, nat_le, List, if◌then◌else◌, Result, Ok, Err, codes}
+use Rattle.std.specs.Prelude.{ℕ, Bool, false, ◌&&◌, ◌==◌, nat_le, List, length, if◌then◌else◌, Option, Some, None, Result, Ok, Err, codes}
 use Rattle.object_trait.specs.declared.event.Event.{Event}
 use Rattle.object_trait.specs.declared.event.EventKind.{EventKind}
 use Rattle.object_trait.specs.declared.event.EventKind.TheVariants as kind
+use Rattle.type_table.specs.Operation.{operation_at, place_of, amount_of}
+use Rattle.line_text.specs.LongNumbers.{long_number_at}
 use Rattle.line_text.specs.Shapes.{◌>>=◌, exactly, number_at, is_key}
 use Rattle.line_text.specs.declared.fault.FaultKind.{FaultKind}
 use Rattle.line_text.specs.declared.fault.FaultKind.TheVariants.{UnknownWord}
 use Rattle.store_text.specs.Body.{Body}
 use Rattle.history_text.specs.declared.event_line.EventLine.{EventLine}
-use Rattle.history_text.specs.declared.event_line.EventLine.TheVariants.{Begin, Op, Busy, Nothing, Commit, Abort, Rollback}
+use Rattle.history_text.specs.declared.event_line.EventLine.TheVariants.{Begin, Op, OpOf, Busy, Nothing, Commit, Abort, Rollback}
 
 -- ---- what a line says
 
@@ -19,14 +21,28 @@ begin_of words = do
   t ← number_at words 2
   Ok (Begin w t)
 
-unfoldable pub op_of : List (List ℕ) → Result EventLine FaultKind
-op_of words = do
+unfoldable pub listed_of : List (List ℕ) → Result EventLine FaultKind
+listed_of words = do
   done ← exactly words 5
   w ← number_at words 1
   t ← number_at words 2
   x ← number_at words 3
   k ← number_at words 4
   Ok (Op w t x k)
+
+unfoldable pub counted_of : List (List ℕ) → Result EventLine FaultKind
+counted_of words = do
+  done ← exactly words 6
+  w ← number_at words 1
+  t ← number_at words 2
+  x ← number_at words 3
+  k ← number_at words 4
+  n ← long_number_at words 5
+  Ok (OpOf w t x k n)
+
+-- with a sixth word, which is the amount, or without
+unfoldable pub op_of : List (List ℕ) → Result EventLine FaultKind
+op_of words = if length words == 6 then counted_of words else listed_of words
 
 unfoldable pub busy_of : List (List ℕ) → Result EventLine FaultKind
 busy_of words = do
@@ -90,16 +106,22 @@ event w kind = record { worker = w; kind = kind }
 abbrev pub event_of : EventLine → Event
 event_of (Begin w t) = event w (kind.Begin t)
 event_of (Op w t x k) = event w (kind.Op t x k)
+event_of (OpOf w t x k n) = event w (kind.Op t x (operation_at k (Some n)))
 event_of (Busy w t x c u) = event w (kind.Busy c t x u)
 event_of (Nothing w t x c) = event w (kind.None t x c)
 event_of (Commit w t) = event w (kind.Commit t)
 event_of (Abort w t) = event w (kind.Abort t)
 event_of (Rollback w t n) = event w (kind.Rollback t n)
 
+-- the line of an operation with its place and, where it has one, its amount
+abbrev pub op_line : ℕ → ℕ → ℕ → ℕ → Option ℕ → EventLine
+op_line w t x k None = Op w t x k
+op_line w t x k (Some n) = OpOf w t x k n
+
 -- the line of a kind of event at a worker's call
 abbrev pub line_at : ℕ → EventKind → EventLine
 line_at w (kind.Begin t) = Begin w t
-line_at w (kind.Op t x k) = Op w t x k
+line_at w (kind.Op t x k) = op_line w t x (place_of k) (amount_of k)
 line_at w (kind.Busy c t x u) = Busy w t x c u
 line_at w (kind.None t x c) = Nothing w t x c
 line_at w (kind.Commit t) = Commit w t
@@ -125,9 +147,13 @@ is_object x = nat_le x 255
 abbrev pub is_operation : ℕ → Bool
 is_operation k = nat_le k 63
 
+abbrev pub is_amount : ℕ → Bool
+is_amount n = nat_le n 4294967295
+
 abbrev pub is_in_range : EventLine → Bool
 is_in_range (Begin w t) = is_worker w && is_transaction t
 is_in_range (Op w t x k) = is_worker w && is_transaction t && is_object x && is_operation k
+is_in_range (OpOf w t x k n) = is_worker w && is_transaction t && is_object x && is_operation k && is_amount n
 is_in_range (Busy w t x c u) = is_worker w && is_transaction t && is_object x && is_operation c && is_transaction u
 is_in_range (Nothing w t x c) = is_worker w && is_transaction t && is_object x && is_operation c
 is_in_range (Commit w t) = is_worker w && is_transaction t

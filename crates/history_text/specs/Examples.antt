@@ -1,6 +1,7 @@
 -- Texts of histories whose outcome was worked out by hand.
-use Rattle.std.specs.Prelude.{◌≡◌, ℕ, List, [], ◌∷◌, ◌++◌, slice_set, Ok, Err, codes}
+use Rattle.std.specs.Prelude.{◌≡◌, ℕ, List, [], ◌∷◌, ◌++◌, slice_set, Some, Ok, Err, codes}
 use Rattle.std.specs.List.{flat_map}
+use Rattle.type_table.specs.Operation.{operation_at}
 use Rattle.type_table.specs.declared.kind.Kind.TheVariants.{Undo, Intentions}
 use Rattle.object_trait.specs.declared.event.Event.{Event}
 use Rattle.object_trait.specs.declared.event.EventKind.{EventKind}
@@ -12,10 +13,10 @@ use Rattle.store_text.specs.declared.line.Line.{Line}
 use Rattle.store_text.specs.declared.line.Line.TheVariants.{Object, Entry, End}
 use Rattle.store_text.specs.declared.line.ObjectLine.{ObjectLine}
 use Rattle.history_text.specs.declared.event_line.EventLine.{EventLine}
-use Rattle.history_text.specs.declared.event_line.EventLine.TheVariants.{Begin, Op, Busy, Nothing, Commit, Abort, Rollback}
+use Rattle.history_text.specs.declared.event_line.EventLine.TheVariants.{Begin, Op, OpOf, Busy, Nothing, Commit, Abort, Rollback}
 use Rattle.history_text.specs.Events.{events}
 
--- a history over two objects, which has each kind of event
+-- a history over two objects, which has each kind of event, and an operation with an amount
 abbrev pub history_text : List (List ℕ)
 history_text =
     codes "object undo 0"
@@ -26,6 +27,7 @@ history_text =
     ∷ codes "busy 255 1 1 2 0"
     ∷ codes "none 255 1 0 3"
     ∷ codes "rollback 0 0 1"
+    ∷ codes "op 0 0 0 2 4294967295"
     ∷ codes "commit 0 0"
     ∷ codes "abort 255 1"
     ∷ codes "end"
@@ -42,6 +44,7 @@ history_lines =
     ∷ Entry (Busy 255 1 1 2 0)
     ∷ Entry (Nothing 255 1 0 3)
     ∷ Entry (Rollback 0 0 1)
+    ∷ Entry (OpOf 0 0 0 2 4294967295)
     ∷ Entry (Commit 0 0)
     ∷ Entry (Abort 255 1)
     ∷ End
@@ -63,6 +66,7 @@ some_events =
     ∷ at_worker 255 (kind.Busy 2 1 1 0)
     ∷ at_worker 255 (kind.None 1 0 3)
     ∷ at_worker 0 (kind.Rollback 0 1)
+    ∷ at_worker 0 (kind.Op 0 0 (operation_at 2 (Some 4294967295)))
     ∷ at_worker 0 (kind.Commit 0)
     ∷ at_worker 255 (kind.Abort 1)
     ∷ []

@@ -1,12 +1,14 @@
 //! An event as its line says it, with numbers that may be too great for an event.
 
 ghost use Rattle.std.specs.Prelude.{◌≡◌, true};
-ghost use Rattle.history_text.specs.Events.{event_of, is_in_range, is_worker, is_transaction, is_object, is_operation};
+ghost use Rattle.history_text.specs.Events.{event_of, is_in_range, is_worker, is_transaction, is_object, is_operation, is_amount};
 
 use object_trait::{Event, EventKind};
+use type_table::Operation;
 
 /// What a line of a history says of an event: its worker w, transactions t and u, an object x, an
-/// operation k, a call c, and how many operations are struck.
+/// operation by its place k and, where it has one, its amount n, a call by its place c, and how many
+/// operations are struck.
 #[derive(Clone, Copy)]
 pub enum EventLine {
     /// `begin W T`
@@ -20,6 +22,14 @@ pub enum EventLine {
         t: u32,
         x: u32,
         k: u32,
+    },
+    /// `op W T X K N`, with the amount n
+    OpOf {
+        w: u32,
+        t: u32,
+        x: u32,
+        k: u32,
+        n: u64,
     },
     /// `busy W T X C U`
     Busy {
@@ -65,6 +75,9 @@ impl EventLine {
             EventLine::Op { w, t, x, k } => {
                 is_worker(w) && is_transaction(t) && is_object(x) && is_operation(k)
             }
+            EventLine::OpOf { w, t, x, k, n } => {
+                is_worker(w) && is_transaction(t) && is_object(x) && is_operation(k) && is_amount(n)
+            }
             EventLine::Busy { w, t, x, c, u } => {
                 is_worker(w)
                     && is_transaction(t)
@@ -91,7 +104,14 @@ impl EventLine {
     {
         match self {
             EventLine::Begin { w, t } => event(w, EventKind::Begin { t }),
-            EventLine::Op { w, t, x, k } => event(w, EventKind::Op { t, x, k: k as u8 }),
+            EventLine::Op { w, t, x, k } => {
+                let k = Operation::listed(k as u8);
+                event(w, EventKind::Op { t, x, k })
+            }
+            EventLine::OpOf { w, t, x, k, n } => {
+                let k = Operation::with(k as u8, n as u32);
+                event(w, EventKind::Op { t, x, k })
+            }
             EventLine::Busy { w, t, x, c, u } => {
                 event(
                     w,
@@ -139,6 +159,12 @@ fn is_object(x: u32) -> bool
     ensures { result ≡ is_object x }
 {
     x <= 255
+}
+
+fn is_amount(n: u64) -> bool
+    ensures { result ≡ is_amount n }
+{
+    n <= 4_294_967_295
 }
 
 fn is_operation(k: u32) -> bool

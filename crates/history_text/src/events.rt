@@ -1,11 +1,11 @@
 //! The event lines of a history.
 
 ghost use Rattle.std.specs.Prelude.{◌≡◌, map};
-ghost use Rattle.history_text.specs.Events.{events, line_of, event_line_of, begin_of, op_of, busy_of, nothing_of, commit_of, abort_of, rollback_of};
+ghost use Rattle.history_text.specs.Events.{events, line_of, event_line_of, begin_of, op_of, counted_of, listed_of, busy_of, nothing_of, commit_of, abort_of, rollback_of};
 
 use crate::event_line::EventLine;
 use crate::plain::keep_plain;
-use line_text::{FaultKind, exactly, is_key, number_at};
+use line_text::{FaultKind, exactly, is_key, long_number_at, number_at};
 use object_trait::Event;
 use std::alloc::{AllocError, Global};
 use store_text::Entries;
@@ -53,7 +53,9 @@ impl Entries for Events {
     }
 
     fn keep(&self, happened: &mut Vec<Event>, entry: EventLine) -> Result<(), AllocError> {
-        happened.push(entry.event())?;
+        // by its parts, since the borrow checker can't follow an event that is passed on whole
+        let Event { worker, kind } = entry.event();
+        happened.push(Event { worker, kind })?;
         Ok(())
     }
 
@@ -87,6 +89,30 @@ fn begin_of(words: &[&[u8]]) -> Result<EventLine, FaultKind>
 #[tactic(auto, unfolding(crate::specs::Events::op_of))]
 fn op_of(words: &[&[u8]]) -> Result<EventLine, FaultKind>
     ensures { result ≡ op_of (map (λ w. w.now) words.now) }
+{
+    if words.len() == 6 {
+        counted_of(words)
+    } else {
+        listed_of(words)
+    }
+}
+
+#[tactic(auto, unfolding(crate::specs::Events::counted_of))]
+fn counted_of(words: &[&[u8]]) -> Result<EventLine, FaultKind>
+    ensures { result ≡ counted_of (map (λ w. w.now) words.now) }
+{
+    exactly(words, 6)?;
+    let w = number_at(words, 1)?;
+    let t = number_at(words, 2)?;
+    let x = number_at(words, 3)?;
+    let k = number_at(words, 4)?;
+    let n = long_number_at(words, 5)?;
+    Ok(EventLine::OpOf { w, t, x, k, n })
+}
+
+#[tactic(auto, unfolding(crate::specs::Events::listed_of))]
+fn listed_of(words: &[&[u8]]) -> Result<EventLine, FaultKind>
+    ensures { result ≡ listed_of (map (λ w. w.now) words.now) }
 {
     exactly(words, 5)?;
     let w = number_at(words, 1)?;

@@ -69,7 +69,9 @@ fn keep(kept: &mut Vec<Event>, line: EventLine) -> Option<()>
     if !line.is_in_range() {
         return None;
     }
-    kept.push_reserved(line.event());
+    // by its parts, since the borrow checker can't follow an event that is passed on whole
+    let Event { worker, kind } = line.event();
+    kept.push_reserved(Event { worker, kind });
     Some(())
 }
 
@@ -87,6 +89,7 @@ fn keep_begin<'a>(kept: &mut Vec<Event>, rest: &'a [u8]) -> Option<&'a [u8]>
     Some(behind)
 }
 
+/// Keeps an operation without an amount: a line with one is left to the reader of any line.
 #[inline(always)]
 fn keep_op<'a>(kept: &mut Vec<Event>, rest: &'a [u8]) -> Option<&'a [u8]>
     requires { vec_len kept.old < vec_capacity kept.old }

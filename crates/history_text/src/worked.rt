@@ -31,11 +31,13 @@ pub fn faults_of_the_history()
     ensures high_transaction { Refuses (history_with 2 (codes "begin 0 1000000")) 3 OutOfRange }
     ensures high_object { Refuses (history_with 4 (codes "op 0 0 256 0")) 5 OutOfRange }
     ensures high_operation { Refuses (history_with 4 (codes "op 0 0 1 64")) 5 OutOfRange }
+    ensures high_amount { Refuses (history_with 4 (codes "op 0 0 1 2 4294967296")) 5 OutOfRange }
+    ensures long_amount { Refuses (history_with 4 (codes "op 0 0 1 2 10000000000")) 5 BadNumber }
     ensures high_holder { Refuses (history_with 5 (codes "busy 0 0 1 1 1000000")) 6 OutOfRange }
     ensures nothing_struck { Refuses (history_with 7 (codes "rollback 0 0 0")) 8 OutOfRange }
     ensures leading_zero { Refuses (history_with 6 (codes "none 0 0 0 00")) 7 BadNumber }
     ensures number_missing { Refuses (history_with 5 (codes "busy 0 0 1 1")) 6 UnknownWord }
     ensures late_object { Refuses (history_with 8 (codes "object undo 0")) 9 OutOfOrder }
-    ensures no_end { Refuses (take 10 history_text) 11 Missing }
-    ensures second_end { Refuses (history_text ++ codes "end" ∷ []) 12 AfterEnd }
+    ensures no_end { Refuses (take 11 history_text) 12 Missing }
+    ensures second_end { Refuses (history_text ++ codes "end" ∷ []) 13 AfterEnd }
 {}

@@ -4,12 +4,15 @@ ghost use Rattle.std.specs.Prelude.{◌≡◌, ◌++◌, ◌∷◌, [], map, Non
 ghost use Rattle.line_text.specs.Spelling.{spaced, text_of};
 ghost use Rattle.outputs.specs.Out.{Puts};
 ghost use Rattle.store_text.specs.declared.line.Line.TheVariants.{End};
-ghost use Rattle.history_text.specs.Canonical.{canonical_text, words_of, object_line, event_line};
+ghost use Rattle.history_text.specs.Canonical.{canonical_text, event_words, words_of, object_line, event_line};
+ghost use Rattle.history_text.specs.Events.{op_line};
+ghost use Rattle.type_table.specs.Operation.{place_of, amount_of};
 
 use itoa::Buffer;
 use object_trait::{Event, EventKind};
 use outputs::{Out, OutFault, items_in_turn, put_line, texts_in_turn};
 use store_text::ObjectLine;
+use type_table::Operation;
 
 /// Writes the canonical text of a history: a line for each object and then for each event, with one
 /// space between words, and `end`. Where every number and count is in its range, what is read from
@@ -91,11 +94,23 @@ pub fn write_event<W: Out>(out: &mut W, event: &Event) -> Result<(), OutFault>
     let w = u32::from(event.worker);
     match event.kind {
         EventKind::Begin { t } => out.put_numbers(b"begin", &[w, t]),
-        EventKind::Op { t, x, k } => out.put_numbers(b"op", &[w, t, x, u32::from(k)]),
+        EventKind::Op { t, x, k } => write_op(out, w, t, x, k),
         EventKind::Busy { t, x, c, u } => out.put_numbers(b"busy", &[w, t, x, u32::from(c), u]),
         EventKind::None { t, x, c } => out.put_numbers(b"none", &[w, t, x, u32::from(c)]),
         EventKind::Commit { t } => out.put_numbers(b"commit", &[w, t]),
         EventKind::Abort { t } => out.put_numbers(b"abort", &[w, t]),
         EventKind::Rollback { t, n } => out.put_numbers(b"rollback", &[w, t, n]),
+    }
+}
+
+/// Writes the line of an operation.
+fn write_op<W: Out>(out: &mut W, w: u32, t: u32, x: u32, k: Operation) -> Result<(), OutFault>
+    requires { W.fault out.old ≡ None }
+    ensures { Puts (W.taken out.old) (W.taken out.new) (W.fault out.new) (spaced (event_words (op_line w t x (place_of k) (amount_of k))) ++ 10 ∷ []) result }
+{
+    let place = u32::from(k.place());
+    match k.amount() {
+        Some(n) => out.put_numbers(b"op", &[w, t, x, place, n]),
+        None => out.put_numbers(b"op", &[w, t, x, place]),
     }
 }

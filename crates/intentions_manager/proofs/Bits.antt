@@ -18,11 +18,10 @@ bits-push word more log e added kept bits =
     All-push P log e (All-weaker (λ (x : LogEntry). x.op < 64 → bit_at word x.op ≡ 1) P (λ x set low. kept x.op (set low)) log bits) added
 
 -- one more entry that is passed
-pub bits-more : (word more : ℕ) (log seen : List LogEntry) → seen ≡ log → (i : ℕ) (d : LogEntry) → i < length seen → ((get_or seen i d).op < 64 → bit_at more (get_or seen i d).op ≡ 1) → ((q : ℕ) → bit_at word q ≡ 1 → bit_at more q ≡ 1)
+pub bits-more : (word more : ℕ) (log seen : List LogEntry) → seen ≡ log → (i : ℕ) (e : LogEntry) → i < length seen → e ≡ get_or seen i e → (e.op < 64 → bit_at more e.op ≡ 1) → ((q : ℕ) → bit_at word q ≡ 1 → bit_at more q ≡ 1)
     → HasBits word (take i log) → HasBits more (take (i + 1) log)
-bits-more word more log seen same i d low added kept bits =
-    let e : LogEntry = get_or seen i d in
-    let found : slice_get log i ≡ Some e = subst (λ (xs : List LogEntry). slice_get xs i ≡ Some e) same (slice_get-get_or seen i d low) in
+bits-more word more log seen same i e low read added kept bits =
+    let found : slice_get log i ≡ Some e = subst (λ (xs : List LogEntry). slice_get xs i ≡ Some e) same (slice_get-get_or seen i e low ∙ ap Some (sym read)) in
     subst (HasBits more) (sym (take-found log i e found)) (bits-push word more (take i log) e added kept bits)
 
 -- all

@@ -20,12 +20,12 @@ use Rattle.object_trait.specs.declared.log_entry.LogEntry.{LogEntry}
 use Rattle.object_trait.proofs.Rows.{each-put, ordered-put}
 use Rattle.object_trait.proofs.Runs.{open-push, open-push_other}
 use Rattle.intentions_manager.specs.Views.{owner, bare, seen_by, with_view}
-use Rattle.intentions_manager.specs.Walk.{stepped, FitsTable}
+use Rattle.intentions_manager.specs.Walk.{stepped, walked, FitsTable}
 use Rattle.intentions_manager.specs.Kept.{IsView, IsKeptDeferred}
 use Rattle.intentions_manager.specs.declared.views.View.{View}
 use Rattle.intentions_manager.specs.declared.manager.IntentionsManager.TheInside.{Inside}
 use Rattle.intentions_manager.proofs.Seeing.{seen-put, seen-put_other}
-use Rattle.intentions_manager.proofs.Walking.{some_state}
+use Rattle.intentions_manager.proofs.Walking.{some_state, walk-run}
 
 -- ---- deferred update
 
@@ -73,6 +73,10 @@ view-bare o base log u none fits inside = record {
   equi = subst (λ V. AreEqui o.table (Some base) (run_log o base V)) (sym none) (λ ks legal. legal, λ ks legal. legal);
   counted = ap length (sym none);
 }
+
+-- the view is the state after one's own entries
+pub view-told : {m : Meaning} {views : List View} (t : ℕ) → IsKeptDeferred m views → view_of m t ≡ Some (walked m.checked.file.table t m.base m.log)
+view-told {m} {views} t h = deferred-view m t h.deferred ∙ walk-run m.checked.file.table t m.base m.log ((deferred-sound m h.deferred h.sound).legal t)
 
 -- what is legal in the state that one is shown is legal in the view, and no more
 pub legal-told : {m : Meaning} {views : List View} (t k : ℕ) → IsKeptDeferred m views → (is_some (next m.checked.file.table (seen_by t m.base views).state k) ≡ true) ↔ IsLegalFor m t k

@@ -11,21 +11,21 @@ ghost use Rattle.intentions_manager.specs.Walk.{carried, FitsTable};
 
 use crate::views::{View, step_views};
 use object_trait::{LogEntry, keeps_none, keeps_parts, with_bit};
-use type_table::{ConflictTable, TypeTable};
+use type_table::{ConflictTable, Operation, TypeTable};
 
 /// Whether an open entry is t's.
-pub fn is_of(entry: LogEntry, t: u32) -> bool
-    requires { entry.done ≡ false }
-    ensures { result ≡ is_open_of t entry }
+pub fn is_of(entry: &LogEntry, t: u32) -> bool
+    requires { entry.now.done ≡ false }
+    ensures { result ≡ is_open_of t entry.now }
 {
     entry.by == t
 }
 
 /// How many of t's entries are left to pass, once this one is passed.
-fn left_behind(entry: LogEntry, t: u32, left: u32) -> u32
+fn left_behind(entry: &LogEntry, t: u32, left: u32) -> u32
     requires some { 0 < left }
-    requires open { entry.done ≡ false }
-    ensures { result ≡ (if is_open_of t entry then left - 1 else left) }
+    requires open { entry.now.done ≡ false }
+    ensures { result ≡ (if is_open_of t entry.now then left - 1 else left) }
 {
     left - u32::from(is_of(entry, t))
 }
@@ -41,7 +41,7 @@ pub fn place_of_last(log: &Vec<LogEntry>, t: u32, count: u32) -> usize
     let mut left = count;
     while left > 0 {
         from -= 1;
-        left = left_behind(log[from], t, left);
+        left = left_behind(&log[from], t, left);
     }
     from
 }
@@ -56,7 +56,7 @@ fn cut_from(log: &mut Vec<LogEntry>, from: usize, t: u32)
     for i in from..log.len() {
         let entry = log[i];
         log[kept] = entry;
-        kept += usize::from(!is_of(entry, t));
+        kept += usize::from(!is_of(&entry, t));
     }
     log.truncate(kept);
 }
@@ -81,8 +81,8 @@ pub fn carry_from(
     for i in from..log.len() {
         let entry = log[i];
         log[kept] = entry;
-        kept += usize::from(!is_of(entry, t));
-        step_views(views, table, t, entry);
+        kept += usize::from(!is_of(&entry, t));
+        step_views(views, table, t, &entry);
     }
     log.truncate(kept);
 }
@@ -117,7 +117,7 @@ pub fn first_conflict(
     word: u64,
     table: &ConflictTable,
     t: u32,
-    k: u8,
+    k: Operation,
 ) -> Option<u32>
     requires requested { k < length table.now }
     requires few { length table.now ≤ 64 }
@@ -125,22 +125,31 @@ pub fn first_conflict(
     requires bits { HasBits word log.now.items }
     ensures { result ≡ option_map (λ e. e.by) (find (λ e. not (e.by == t) && conflicts table.now k e.op) log.now.items) }
 {
-    if table.row(k) & word == 0 {
+    if table.row(column(k)) & word == 0 {
         return None;
     }
     conflict_in(log, table, t, k)
 }
 
 /// The same by a look at the log.
-fn conflict_in(log: &Vec<LogEntry>, table: &ConflictTable, t: u32, k: u8) -> Option<u32>
+fn conflict_in(log: &Vec<LogEntry>, table: &ConflictTable, t: u32, k: Operation) -> Option<u32>
     requires requested { k < length table.now }
+    requires few { length table.now ≤ 64 }
     requires held { All (λ e. e.op < length table.now) log.now.items }
     ensures { result ≡ option_map (λ e. e.by) (find (λ e. not (e.by == t) && conflicts table.now k e.op) log.now.items) }
 {
     for entry in log {
-        if entry.by != t && table.conflicts(k, entry.op) {
+        if entry.by != t && table.conflicts(column(k), column(entry.op)) {
             return Some(entry.by);
         }
     }
     None
+}
+
+/// The place of an operation of a table, which is its number.
+fn column(k: Operation) -> u8
+    requires { k < 64 }
+    ensures { result ≡ k }
+{
+    k.place()
 }

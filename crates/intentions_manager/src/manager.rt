@@ -12,18 +12,18 @@ use object_trait::{
 use std::alloc::{AllocError, Global};
 use std::marker::Model;
 use std::sync::Arc;
-use table_checker::CheckedType;
+use table_checker::{CheckedType, DeclaredType};
 use type_table::{
-    Kind, Op, TableKind, ends_inside, ends_within, equi_extends, runs_along, steps_within,
+    Kind, Operation, TableKind, ends_inside, ends_within, equi_extends, runs_along, steps_within,
 };
 
 /// An object with deferred update. Its state is that of the committed transactions, and each open
 /// transaction sees this state after its own operations alone.
 ///
 /// Beside the log it keeps one state for each transaction that is open here, in the order of their
-/// numbers. `legal` and `apply` search among these by halves. `commit`, `abort` and `strike` go through the log from the back, and
-/// only as far as the transaction's entries reach; a commit steps each of the other states by each of
-/// these entries.
+/// numbers. `legal` and `apply` search among these by halves. `view` goes through the log. `commit`,
+/// `abort` and `strike` go through it from the back, and only as far as the transaction's entries reach; a
+/// commit steps each of the other states by each of these entries.
 #[derive(Drop)]
 pub struct IntentionsManager {
     checked: Arc<CheckedType>,
@@ -91,16 +91,22 @@ impl Recovery for IntentionsManager {
         u32::from(self.base)
     }
 
-    fn legal(&self, t: u32, k: u8) -> bool {
+    fn view(&self, t: u32) -> u32 {
+        // (after another's commit the kept view may be another state, which is only equieffective)
+        u32::from(walked(self.checked.table(), t, self.base, &self.log, 0))
+    }
+
+    fn legal(&self, t: u32, k: Operation) -> bool {
         let view = seen_by(&self.views, t, self.base);
-        self.checked.table().next(view.state, k).is_some()
+        let table = self.checked.table();
+        table.next(view.state, table.column(k)).is_some()
     }
 
-    fn ops(&self) -> &[Op] {
-        self.checked.ops()
+    fn declared(&self) -> &DeclaredType {
+        self.checked.declared()
     }
 
-    fn blocker(&self, t: u32, k: u8) -> Option<u32> {
+    fn blocker(&self, t: u32, k: Operation) -> Option<u32> {
         first_conflict(
             &self.log,
             self.word,
@@ -110,8 +116,14 @@ impl Recovery for IntentionsManager {
         )
     }
 
+    fn amount_kept(&self, _t: u32, _place: u8, _u: u32) -> Option<u32> {
+        // (read for what is known of this object, that its type has a table, and so no amounts)
+        let _base = self.base;
+        None
+    }
+
     #[inline(always)]
-    fn apply(&mut self, t: u32, k: u8) -> Result<(), AllocError> {
+    fn apply(&mut self, t: u32, k: Operation) -> Result<(), AllocError> {
         runs_along();
         equi_extends();
         steps_within();

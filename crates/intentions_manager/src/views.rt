@@ -7,7 +7,7 @@ ghost use Rattle.intentions_manager.specs.Walk.{stepped, entered, walked, moved,
 
 use crate::entries::is_of;
 use object_trait::LogEntry;
-use type_table::{TypeTable, steps_within};
+use type_table::{Operation, TypeTable, steps_within};
 
 /// What a transaction that is open at the object sees.
 #[derive(Clone, Copy)]
@@ -92,23 +92,23 @@ pub fn drop_view(views: &mut Vec<View>, at: usize, t: u32)
 }
 
 /// The state after operation k, which is s where k isn't legal in s.
-pub fn stepped(table: &TypeTable, s: u16, k: u8) -> u16
+pub fn stepped(table: &TypeTable, s: u16, k: Operation) -> u16
     requires state { s < table.now.states }
     requires operation { k < length table.now.ops }
     ensures exact { result ≡ stepped table.now s k }
     ensures inside { result < table.now.states }
 {
-    match table.next(s, k) {
+    match table.next(s, table.column(k)) {
         Some(next) => next,
         None => s,
     }
 }
 
 /// The state after an entry, if that is an open one of t.
-fn entered(table: &TypeTable, t: u32, s: u16, entry: LogEntry) -> u16
+fn entered(table: &TypeTable, t: u32, s: u16, entry: &LogEntry) -> u16
     requires state { s < table.now.states }
-    requires operation { entry.op < length table.now.ops }
-    ensures exact { result ≡ entered table.now t s entry }
+    requires operation { entry.now.op < length table.now.ops }
+    ensures exact { result ≡ entered table.now t s entry.now }
     ensures inside { result < table.now.states }
 {
     if entry.is_open_of(t) {
@@ -127,13 +127,13 @@ pub fn walked(table: &TypeTable, t: u32, s: u16, log: &Vec<LogEntry>, from: usiz
 {
     let mut state = s;
     for i in from..log.len() {
-        state = entered(table, t, state, log[i]);
+        state = entered(table, t, state, &log[i]);
     }
     state
 }
 
 /// Steps each view by an operation.
-fn step_all(views: &mut [View], table: &TypeTable, k: u8)
+fn step_all(views: &mut [View], table: &TypeTable, k: Operation)
     requires states { All (FitsTable table.now) views.old }
     requires operation { k < length table.now.ops }
     ensures exact { views.new ≡ map (moved table.now k) views.old }
@@ -142,18 +142,19 @@ fn step_all(views: &mut [View], table: &TypeTable, k: u8)
     steps_within();
     let steps = table.steps();
     let ops = usize::from(table.op_count());
+    let column = table.column(k);
     for i in 0..views.len() {
-        let place = usize::from(views[i].state) * ops + usize::from(k);
+        let place = usize::from(views[i].state) * ops + usize::from(column);
         views[i].state = steps[place].unwrap_or(views[i].state);
     }
 }
 
 /// Steps each view by an entry, if that is an open one of t.
-pub fn step_views(views: &mut Vec<View>, table: &TypeTable, t: u32, entry: LogEntry)
+pub fn step_views(views: &mut Vec<View>, table: &TypeTable, t: u32, entry: &LogEntry)
     requires states { All (FitsTable table.now) views.old.items }
-    requires operation { entry.op < length table.now.ops }
-    requires open { entry.done ≡ false }
-    ensures exact { views.new.items ≡ map (step_view table.now t entry) views.old.items }
+    requires operation { entry.now.op < length table.now.ops }
+    requires open { entry.now.done ≡ false }
+    ensures exact { views.new.items ≡ map (step_view table.now t entry.now) views.old.items }
     ensures states { All (FitsTable table.now) views.new.items }
 {
     if is_of(entry, t) {

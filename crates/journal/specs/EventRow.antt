@@ -5,6 +5,7 @@ use Rattle.sqlite_value.specs.declared.value.Value.{Value}
 use Rattle.sqlite_value.specs.declared.value.Value.TheVariants.{Null, Int, Text}
 use Rattle.sqlite_value.specs.Order.{Row, column, bytes}
 use Rattle.sqlite_trees.specs.Objects.{number_in}
+use Rattle.type_table.specs.Operation.{operation_at, place_of, amount_of}
 use Rattle.object_trait.specs.declared.event.EventKind.{EventKind}
 use Rattle.object_trait.specs.declared.event.EventKind.TheVariants as kind
 use Rattle.journal.specs.declared.event_word.EventWord.{EventWord}
@@ -36,9 +37,18 @@ word_of text =
 abbrev pub columns : EventWord → ℕ → Value → Value → Value → Row
 columns kind t x k n = Text (event_word kind) ∷ Int (pos t) ∷ x ∷ k ∷ n ∷ []
 
+-- the amount of an operation as a column has it, and back
+abbrev pub amount_value : Option ℕ → Value
+amount_value None = Null
+amount_value (Some n) = Int (pos n)
+
+abbrev pub amount_in : Value → Option ℕ
+amount_in (Int (pos n)) = Some n
+amount_in _ = None
+
 abbrev pub event_columns : EventKind → Row
 event_columns (kind.Begin t) = columns word.Begin t Null Null Null
-event_columns (kind.Op t x k) = columns word.Op t (Int (pos x)) (Int (pos k)) Null
+event_columns (kind.Op t x k) = columns word.Op t (Int (pos x)) (Int (pos (place_of k))) (amount_value (amount_of k))
 event_columns (kind.Busy c t x u) = columns word.Busy t (Int (pos x)) (Int (pos c)) (Int (pos u))
 event_columns (kind.None t x c) = columns word.None t (Int (pos x)) (Int (pos c)) Null
 event_columns (kind.Commit t) = columns word.Commit t Null Null Null
@@ -49,15 +59,15 @@ event_columns (kind.Rollback t n) = columns word.Rollback t Null Null (Int (pos 
 abbrev pub event_row : ℕ → EventKind → Row
 event_row n e = Int (pos n) ∷ Null ∷ event_columns e
 
--- the event of this kind with these numbers
-abbrev pub event_of : Option EventWord → ℕ → ℕ → ℕ → ℕ → EventKind
+-- the event of this kind with these numbers, of which the last may be none
+abbrev pub event_of : Option EventWord → ℕ → ℕ → ℕ → Value → EventKind
 event_of (Some word.Begin) t x k n = kind.Begin t
-event_of (Some word.Op) t x k n = kind.Op t x k
-event_of (Some word.Busy) t x k n = kind.Busy k t x n
+event_of (Some word.Op) t x k n = kind.Op t x (operation_at k (amount_in n))
+event_of (Some word.Busy) t x k n = kind.Busy k t x (number_in n)
 event_of (Some word.None) t x k n = kind.None t x k
 event_of (Some word.Commit) t x k n = kind.Commit t
 event_of (Some word.Abort) t x k n = kind.Abort t
-event_of (Some word.Rollback) t x k n = kind.Rollback t n
+event_of (Some word.Rollback) t x k n = kind.Rollback t (number_in n)
 event_of None t x k n = kind.Begin t
 
 -- the columns after that of the position
@@ -78,4 +88,4 @@ number_column = 6
 
 -- the event that a row says
 abbrev pub event_told : Row → EventKind
-event_told row = event_of (word_of (bytes (column row kind_column))) (number_in (column row transaction_column)) (number_in (column row object_column)) (number_in (column row operation_column)) (number_in (column row number_column))
+event_told row = event_of (word_of (bytes (column row kind_column))) (number_in (column row transaction_column)) (number_in (column row object_column)) (number_in (column row operation_column)) (column row number_column)

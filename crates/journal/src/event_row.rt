@@ -3,7 +3,8 @@
 ghost use Rattle.std.specs.Prelude.{◌≡◌, ◌<◌, ◌^◌, ◌++◌, ◌∷◌, [], pos, IfSome, OnOk};
 ghost use Rattle.journal.specs.Cells.{cell_value};
 ghost use Rattle.journal.specs.EventNumbers.{ToldColumns, columns_of};
-ghost use Rattle.journal.specs.EventRow.{event_columns, event_row, event_told};
+ghost use Rattle.type_table.specs.Operation.{amount_of};
+ghost use Rattle.journal.specs.EventRow.{amount_value, event_columns, event_row, event_told};
 ghost use Rattle.journal.specs.EventLaws.{event_keyed, event_read_back};
 
 use crate::cells::{Cell, begin_row, byte, is_at, text_in};
@@ -13,6 +14,7 @@ use object_trait::EventKind;
 use sqlite_value::row::Row;
 use sqlite_value::value::ValueRef;
 use std::alloc::{AllocError, Global};
+use type_table::Operation;
 
 // the columns after that of the position
 const KIND: usize = 2;
@@ -44,7 +46,7 @@ fn columns_of(event: EventKind) -> EventColumns
         EventKind::Commit { t } => of_transaction(EventWord::Commit, t, Cell::Null),
         EventKind::Abort { t } => of_transaction(EventWord::Abort, t, Cell::Null),
         EventKind::Rollback { t, n } => of_transaction(EventWord::Rollback, t, Cell::Number(n)),
-        EventKind::Op { t, x, k } => at_object(EventWord::Op, t, x, k, Cell::Null),
+        EventKind::Op { t, x, k } => at_object(EventWord::Op, t, x, k.place(), amount_cell(k)),
         EventKind::None { t, x, c } => at_object(EventWord::None, t, x, c, Cell::Null),
         EventKind::Busy { c, t, x, u } => at_object(EventWord::Busy, t, x, c, Cell::Number(u)),
     }
@@ -73,6 +75,16 @@ fn at_object(kind: EventWord, t: u32, x: u32, k: u8, n: Cell) -> EventColumns
         x: Cell::Number(x),
         k: Cell::Number(k as u32),
         n,
+    }
+}
+
+/// The amount of an operation.
+fn amount_cell(k: Operation) -> Cell
+    ensures { cell_value result ≡ amount_value (amount_of k) }
+{
+    match k.amount() {
+        Some(n) => Cell::Number(n),
+        None => Cell::Null,
     }
 }
 
@@ -109,7 +121,14 @@ fn call_of(kind: EventWord, t: u32, x: u32, k: u8, n: Cell) -> Option<EventKind>
     ensures { IfSome result (λ event. columns_of (record { kind = kind; t = Cell.Number t; x = Cell.Number x; k = Cell.Number k; n = n }) ≡ event_columns event) }
 {
     match (kind, n) {
-        (EventWord::Op, Cell::Null) => Some(EventKind::Op { t, x, k }),
+        (EventWord::Op, Cell::Null) => {
+            let k = Operation::listed(k);
+            Some(EventKind::Op { t, x, k })
+        }
+        (EventWord::Op, Cell::Number(n)) => {
+            let k = Operation::with(k, n);
+            Some(EventKind::Op { t, x, k })
+        }
         (EventWord::None, Cell::Null) => Some(EventKind::None { t, x, c: k }),
         (EventWord::Busy, Cell::Number(u)) => Some(EventKind::Busy { c: k, t, x, u }),
         _ => None,

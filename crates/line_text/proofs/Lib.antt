@@ -15,3 +15,5 @@ pub mod Decimals
 pub mod WorkedTexts
 pub mod PlainLines
 pub mod Items
+pub mod LongDigits
+pub mod LongDecimals

@@ -9,3 +9,4 @@ pub mod Comments
 pub mod Shapes
 pub mod Plain
 pub mod Example
+pub mod LongNumbers

@@ -8,6 +8,7 @@ mod grammar;
 mod judge;
 mod laws;
 mod line;
+mod long_number;
 mod more;
 mod number;
 mod plain;
@@ -22,10 +23,11 @@ pub use laws::{
     accepted_in_order, canonical_reads_again, comments_are_skipped, names_are_words,
     numbers_read_again, outcome_by_lines,
 };
+pub use long_number::{long_number_at, long_number_of};
 pub use number::number_of;
 pub use plain::{bytes_before, number_before};
 pub use read::read_items;
 pub use section::Section;
-pub use shapes::{exactly, is_key, kind_at, name_at, number_at, table_kind_at};
+pub use shapes::{exactly, is_key, kind_at, name_at, number_at, table_kind_at, word};
 
 pub mod worked;

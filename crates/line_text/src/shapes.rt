@@ -65,7 +65,7 @@ pub fn table_kind_at(words: &[&[u8]], place: usize) -> Result<TableKind, FaultKi
 }
 
 /// The word at a place, which is empty where the line has fewer.
-fn word<'a>(words: &[&'a [u8]], place: usize) -> &'a [u8]
+pub fn word<'a>(words: &[&'a [u8]], place: usize) -> &'a [u8]
     ensures { result.now ≡ word (map (λ w. w.now) words.now) place }
 {
     match words.get(place) {

@@ -1,5 +1,8 @@
 -- A word and a number after it are a name.
-use Rattle.std.proofs.Common.{◌≡◌, ℕ, ◌≤◌, true, ◌&&◌, leb, List, [], ◌∷◌, ◌++◌, length, refl, ◌∙◌, arith}
+use Rattle.std.proofs.Common.{◌≡◌, ℕ, ◌+◌, ◌-◌, ◌≤◌, true, ◌&&◌, leb, List, [], ◌∷◌, ◌++◌, length, take, refl, ap, ◌∙◌, arith}
+use borrow.Rule.Slice.PartMut.{put_mid}
+use Rattle.std.proofs.Math.Seq.{take-append_seam}
+use Rattle.std.proofs.lemmas.Slice.{take-put_mid}
 use Rattle.std.specs.Fmt.{decimal}
 use Rattle.std.specs.List.{list_all}
 use Rattle.std.proofs.lemmas.Bool.{le-leb, or_left, or_right, and_from, and_parts}
@@ -7,7 +10,7 @@ use Rattle.std.proofs.lemmas.List.{length-append}
 use Rattle.std.proofs.lemmas.List.Folds.{list_all-append}
 use Rattle.type_table.specs.Name.{is_name, is_name_byte}
 use Rattle.line_text.specs.Text.{is_digit}
-use Rattle.number_text.proofs.LongDecimals.{read_long}
+use Rattle.line_text.proofs.LongDecimals.{read_long}
 
 -- digits are bytes of a name
 digits_in_name : (w : List ℕ) → list_all is_digit w ≡ true → list_all is_name_byte w ≡ true
@@ -26,3 +29,8 @@ numbered_name word n bytes short below =
     let some : leb 1 (length (word ++ decimal n)) ≡ true = le-leb 1 (length (word ++ decimal n)) (omega (arith, count, number.is_word.0)) in
     let few : leb (length (word ++ decimal n)) 32 ≡ true = le-leb (length (word ++ decimal n)) 32 (omega (arith, count, number.short, short)) in
     and_from (leb 1 (length (word ++ decimal n)) && leb (length (word ++ decimal n)) 32) (list_all is_name_byte (word ++ decimal n)) (and_from (leb 1 (length (word ++ decimal n))) (leb (length (word ++ decimal n)) 32) some few) all
+
+-- two words that are put into a buffer, one after the other
+pub two_pieces : (front back rest : List ℕ) (a k : ℕ) → a ≡ length front → k ≡ length back → take (a + k) (put_mid a (a + k - a) (front ++ rest) back) ≡ front ++ back
+two_pieces front back rest a k ea ek =
+    take-put_mid a (a + k - a) (front ++ rest) back (a + k) (omega (arith, ek)) (omega (arith, ea, length-append front rest)) ∙ ap (λ x. x ++ back) (rw ea (take-append_seam front rest))

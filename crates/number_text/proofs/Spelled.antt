@@ -13,11 +13,11 @@ use Rattle.line_text.proofs.Items.{keyword, length-spaced}
 use Rattle.number_text.specs.declared.number_call.NumberCall.{NumberCall}
 use Rattle.number_text.specs.declared.number_call.NumberCall.TheVariants.{Take, TakeAny, Give, GiveAny, AtLeast, Value}
 use Rattle.number_text.specs.declared.number_line.NumberLine.TheVariants.{Called, Max, Initial, Call, End}
-use Rattle.number_text.specs.Digits.{long_number_at}
+use Rattle.line_text.specs.LongNumbers.{long_number_at}
 use Rattle.number_text.specs.NumberLines.{line_of, called_of, numbered_of, says_any, any_or_numbered, bare_of, is_amount, is_within, number_rules}
 use Rattle.number_text.specs.Canonical.{words_of, call_words}
-use Rattle.number_text.proofs.LongNumbers.{digit_range}
-use Rattle.number_text.proofs.LongDecimals.{read_long}
+use Rattle.line_text.proofs.LongDigits.{digit_range}
+use Rattle.line_text.proofs.LongDecimals.{read_long}
 
 -- digits aren't `any`
 not_any : (w : List ℕ) → list_all is_digit w ≡ true → bytes_eq w (codes "any") ≡ false

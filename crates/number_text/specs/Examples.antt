@@ -3,7 +3,7 @@ use Rattle.std.specs.Prelude.{◌≡◌, ℕ, List, [], ◌∷◌, ◌++◌, sli
 use Rattle.std.specs.List.{flat_map}
 use Rattle.line_text.specs.Outcome.{fault_on, outcome_of}
 use Rattle.line_text.specs.declared.fault.FaultKind.{FaultKind}
-use Rattle.number_text.specs.declared.number_call.NumberCall.TheVariants.{Take, Give, AtLeast}
+use Rattle.number_text.specs.declared.number_call.NumberCall.TheVariants.{Take, TakeAny, Give, GiveAny, AtLeast, Value}
 use Rattle.number_text.specs.declared.number_line.NumberLine.{NumberLine}
 use Rattle.number_text.specs.declared.number_line.NumberLine.TheVariants.{Called, Max, Initial, Call, End}
 use Rattle.number_text.specs.NumberLines.{number_rules}
@@ -51,6 +51,15 @@ five = record {
   max = 5;
   initial = 3;
   calls = Take 2 ∷ Give 1 ∷ AtLeast 5 ∷ [];
+}
+
+-- a purse of 0 to 9, of which any amount may be taken and given, 3 by a line of its own
+abbrev pub purse : Number
+purse = record {
+  name = codes "purse";
+  max = 9;
+  initial = 0;
+  calls = Take 3 ∷ TakeAny ∷ GiveAny ∷ Value ∷ [];
 }
 
 -- the bytes of lines, each ended by a LF

@@ -1,6 +1,7 @@
-pub mod Digits
 pub mod NumberLines
 pub mod NumberFile
 pub mod Canonical
 pub mod Operations
+pub mod Called
+pub mod Named
 pub mod Examples

@@ -8,7 +8,7 @@ use Rattle.line_text.specs.Shapes.{◌>>=◌, word, exactly, name_at, is_key}
 use Rattle.line_text.specs.declared.fault.FaultKind.{FaultKind}
 use Rattle.line_text.specs.declared.fault.FaultKind.TheVariants.{UnknownWord}
 use Rattle.line_text.specs.declared.section.Section.{Section}
-use Rattle.number_text.specs.Digits.{long_number_at}
+use Rattle.line_text.specs.LongNumbers.{long_number_at}
 use Rattle.number_text.specs.declared.number_call.NumberCall.{NumberCall}
 use Rattle.number_text.specs.declared.number_call.NumberCall.TheVariants.{Take, TakeAny, Give, GiveAny, AtLeast, Value}
 use Rattle.number_text.specs.declared.number_line.Counted.{Counted}
@@ -148,14 +148,7 @@ amount_of (Give k) = k
 amount_of (AtLeast k) = k
 amount_of _ = 0
 
--- whether a call lists no amount
-abbrev pub is_free : NumberCall → Bool
-is_free TakeAny = true
-is_free GiveAny = true
-is_free Value = true
-is_free _ = false
-
--- a listed amount is 1 to the greatest value. A call that lists none is out of range: objects know only listed amounts
+-- an amount is 1 to the greatest value
 abbrev pub is_amount : ℕ → ℕ → Bool
 is_amount max k = nat_le 1 k && nat_le k max
 
@@ -163,7 +156,7 @@ abbrev pub is_within : ℕ → NumberCall → Bool
 is_within max (Take k) = is_amount max k
 is_within max (Give k) = is_amount max k
 is_within max (AtLeast k) = is_amount max k
-is_within max _ = false
+is_within max _ = true
 
 -- the order of calls: by section, then by amount
 abbrev pub is_below : NumberCall → NumberCall → Bool
@@ -176,7 +169,7 @@ are_ascending (c ∷ cs) = list_all (is_below c) cs && are_ascending cs
 
 -- ---- the tests of a line after others
 
--- a call lists an amount within the greatest value, and is one of at most 32
+-- the amount that a call lists is within the greatest value, and the call is one of at most 32
 abbrev pub is_in_range : List NumberLine → NumberLine → Bool
 is_in_range before (Max m) = nat_le 1 m && nat_le m most_number
 is_in_range before (Initial s) = nat_le s (max_of before)

@@ -1,107 +1,166 @@
-//! The bounds of a number's operations.
+//! Which operation has which number, and its bounds.
 
-ghost use Rattle.std.specs.Prelude.{◌≡◌, ◌+◌, ◌≤◌, ◌++◌, ◌∷◌, [], true, length};
-ghost use Rattle.std.specs.List.{flat_map, list_all};
-ghost use Rattle.type_table.specs.Limits.{most_ops};
-ghost use Rattle.number_text.specs.NumberLines.{most_calls, is_free, is_within};
-ghost use Rattle.number_text.specs.Operations.{taking, giving, reading, bounds_of_call, number_bounds, is_listed};
+ghost use Rattle.std.specs.Prelude.{◌≡◌, ◌<◌, ◌∷◌, [], Some, length, slice_get, is_some, IfSome};
+ghost use Rattle.std.specs.List.{list_any};
+ghost use Rattle.type_table.specs.Table.{has_op};
+ghost use Rattle.number_text.specs.NumberLines.{is_amount};
+ghost use Rattle.number_text.specs.Operations.{takes, gives, where_so, amount_for, ops_of_call, call_is_elsewhere, op_at, op_done, number_ops, number_bounds, number_table};
 
 use crate::number_call::NumberCall;
 use crate::number_file::NumberFile;
-use escrow_laws::{Bounded, OpBounds};
+use crate::number_op::NumberOp;
+use escrow_laws::Bounded;
+use type_table::{Op, Operation};
 
 impl NumberFile {
-    /// The bounds of the operations whose amounts are listed, in their order. It takes no memory.
-    pub fn bounds(&self) -> OpBounds
-        ensures { result ≡ number_bounds self.now }
+    /// The operation that has this number, where one has it.
+    pub fn op_at(&self, k: Operation) -> Option<NumberOp>
+        ensures { result ≡ op_at self.now k }
     {
-        bounds_of(self.max(), self.calls())
+        let call = *self.calls().get(usize::from(k.place() / 2))?;
+        let amount = self.amount_for(call, k.amount())?;
+        op_of_call(call, k.place() % 2, amount)
     }
 
-    /// Whether each call lists its amount, so that each operation has bounds.
-    pub fn is_listed(&self) -> bool
-        ensures { result ≡ is_listed self.now }
+    /// The operation that is done with this number. One of `any` whose amount another line lists is that line's.
+    pub(crate) fn op_done(&self, k: Operation) -> Option<NumberOp>
+        ensures { result ≡ op_done self.now k }
     {
-        self.calls().iter().all(|call| !is_free(*call))
+        let call = self.calls().get(usize::from(k.place() / 2)).copied();
+        if self.call_is_elsewhere(k.amount(), call) {
+            return None;
+        }
+        self.op_at(k)
+    }
+
+    /// Whether another line lists the amount of a call.
+    fn call_is_elsewhere(&self, told: Option<u32>, call: Option<NumberCall>) -> bool
+        ensures { result ≡ call_is_elsewhere self.now told call }
+    {
+        match (call, told) {
+            (Some(NumberCall::TakeAny), Some(n)) => self.takes(n),
+            (Some(NumberCall::GiveAny), Some(n)) => self.gives(n),
+            _ => false,
+        }
+    }
+
+    /// The amount of a call, which is told one or none.
+    fn amount_for(&self, call: NumberCall, told: Option<u32>) -> Option<u32>
+        ensures { result ≡ amount_for self.now.max call told }
+    {
+        match (call, told) {
+            (NumberCall::Take(k) | NumberCall::Give(k) | NumberCall::AtLeast(k), None) => Some(k),
+            (NumberCall::TakeAny | NumberCall::GiveAny, Some(n)) => where_so(self.is_amount(n), n),
+            (NumberCall::Value, Some(n)) => where_so(n <= self.max(), n),
+            _ => None,
+        }
+    }
+
+    fn is_amount(&self, n: u32) -> bool
+        ensures { result ≡ is_amount self.now.max n }
+    {
+        1 <= n && n <= self.max()
+    }
+
+    /// Whether a line takes this amount.
+    fn takes(&self, n: u32) -> bool
+        ensures { result ≡ list_any (takes n) self.now.calls }
+    {
+        self.calls().iter().any(|call| takes(n, *call))
+    }
+
+    /// Whether a line gives this amount.
+    fn gives(&self, n: u32) -> bool
+        ensures { result ≡ list_any (gives n) self.now.calls }
+    {
+        self.calls().iter().any(|call| gives(n, *call))
+    }
+
+    /// The bounds of the operation that is done with this number; where none is, they are legal nowhere.
+    pub fn bounded(&self, k: Operation) -> Bounded
+        requires { k < length (number_ops self.now) }
+        ensures { slice_get (number_bounds self.now) k ≡ Some result }
+    {
+        // (read for what is known of a number)
+        let _calls = self.calls();
+        match self.op_done(k) {
+            Some(op) => op.bounds(self.max()),
+            None => Bounded::nowhere(),
+        }
+    }
+
+    /// The call and the reply of the operation that has this number, where one has it.
+    pub fn op(&self, k: Operation) -> Option<Op>
+        ensures there { is_some result ≡ has_op (number_table self.now) k }
+        ensures exact { IfSome result (λ op. slice_get (number_ops self.now) k ≡ Some op) }
+    {
+        // (read for what is known of a number)
+        let _calls = self.calls();
+        let op = self.op_at(k)?;
+        Some(op.names())
     }
 }
 
-/// The bounds of the operations of at most 32 calls, in their order.
-fn bounds_of(max: u32, calls: &[NumberCall]) -> OpBounds
-    requires amounts { list_all (is_within max) calls.now ≡ true }
-    requires few { length calls.now ≤ most_calls }
-    ensures { result ≡ flat_map (bounds_of_call max) calls.now }
-{
-    let mut bounds = OpBounds::none();
-    for call in calls {
-        push_bounds(&mut bounds, max, *call);
-    }
-    bounds
-}
-
-fn is_free(call: NumberCall) -> bool
-    ensures { result ≡ is_free call }
+fn takes(n: u32, call: NumberCall) -> bool
+    ensures { result ≡ takes n call }
 {
     match call {
-        NumberCall::TakeAny | NumberCall::GiveAny | NumberCall::Value => true,
+        NumberCall::Take(k) => k == n,
         _ => false,
     }
 }
 
-/// Puts the bounds of a call's operations after the others.
-fn push_bounds(bounds: &mut OpBounds, max: u32, call: NumberCall)
-    requires amount { is_within max call ≡ true }
-    requires room { length bounds.old + 2 ≤ most_ops }
-    ensures { bounds.new ≡ bounds.old ++ bounds_of_call max call }
+fn gives(n: u32, call: NumberCall) -> bool
+    ensures { result ≡ gives n call }
 {
     match call {
-        NumberCall::Take(k) => push_two(bounds, taking(k, max, k), reading(0, k - 1)),
-        NumberCall::Give(k) => push_two(bounds, giving(0, max - k, k), reading(max - k + 1, max)),
-        NumberCall::AtLeast(k) => push_two(bounds, reading(k, max), reading(0, k - 1)),
-        NumberCall::TakeAny | NumberCall::GiveAny | NumberCall::Value => {}
+        NumberCall::Give(k) => k == n,
+        _ => false,
     }
 }
 
-fn push_two(bounds: &mut OpBounds, first: Bounded, second: Bounded)
-    requires { length bounds.old + 2 ≤ most_ops }
-    ensures { bounds.new ≡ bounds.old ++ first ∷ second ∷ [] }
+fn where_so(so: bool, n: u32) -> Option<u32>
+    ensures { result ≡ where_so so n }
 {
-    bounds.push(first);
-    bounds.push(second);
+    if so { Some(n) } else { None }
 }
 
-/// An operation that takes an amount.
-pub fn taking(low: u32, high: u32, amount: u32) -> Bounded
-    ensures { result ≡ taking low high amount }
+/// The first or the second operation of a call with an amount.
+fn op_of_call(call: NumberCall, second: u8, n: u32) -> Option<NumberOp>
+    requires { second < 2 }
+    ensures { result ≡ slice_get (ops_of_call call n) second }
 {
-    Bounded {
-        low,
-        high,
-        gives: 0,
-        takes: amount,
+    match call {
+        NumberCall::Take(_) | NumberCall::TakeAny => one_of(
+            second,
+            NumberOp::Take(n),
+            NumberOp::Short(n),
+        ),
+        NumberCall::Give(_) | NumberCall::GiveAny => one_of(
+            second,
+            NumberOp::Give(n),
+            NumberOp::Full(n),
+        ),
+        NumberCall::AtLeast(_) => one_of(second, NumberOp::AtLeast(n), NumberOp::Below(n)),
+        NumberCall::Value => first_of(second, NumberOp::Value(n)),
     }
 }
 
-/// One that gives an amount.
-pub fn giving(low: u32, high: u32, amount: u32) -> Bounded
-    ensures { result ≡ giving low high amount }
+/// The first or the second of two.
+fn one_of(second: u8, first: NumberOp, other: NumberOp) -> Option<NumberOp>
+    requires { second < 2 }
+    ensures { result ≡ slice_get (first ∷ other ∷ []) second }
 {
-    Bounded {
-        low,
-        high,
-        gives: amount,
-        takes: 0,
+    if second == 0 {
+        Some(first)
+    } else {
+        Some(other)
     }
 }
 
-/// One that moves nothing.
-pub fn reading(low: u32, high: u32) -> Bounded
-    ensures { result ≡ reading low high }
+/// The only one, as the first.
+fn first_of(second: u8, only: NumberOp) -> Option<NumberOp>
+    ensures { result ≡ slice_get (only ∷ []) second }
 {
-    Bounded {
-        low,
-        high,
-        gives: 0,
-        takes: 0,
-    }
+    if second == 0 { Some(only) } else { None }
 }

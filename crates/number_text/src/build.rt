@@ -7,7 +7,7 @@ ghost use Rattle.number_text.specs.NumberFile.{Number, IsNumber, IsNumberOf};
 use crate::number_call::NumberCall;
 use crate::number_file::NumberFile;
 use crate::number_line::NumberLine;
-use crate::ops::ops_of;
+use crate::rows::rows_of;
 use std::alloc::{AllocError, Global};
 use type_table::Name;
 
@@ -34,8 +34,8 @@ pub fn number_with(
     requires { let parts : Number = record { name = name; max = max; initial = initial; calls = calls.items } in IsNumber parts }
     ensures { let parts : Number = record { name = name; max = max; initial = initial; calls = calls.items } in IfOk result (λ number. number ≡ parts) }
 {
-    let ops = ops_of(alloc, &calls)?;
-    Ok(NumberFile::new(name, max, initial, calls, ops))
+    let rows = rows_of(alloc, &calls)?;
+    Ok(NumberFile::new(name, max, initial, calls, rows))
 }
 
 fn name_of(lines: &[NumberLine]) -> Name

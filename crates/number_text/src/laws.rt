@@ -2,7 +2,8 @@
 //! the law. It calls the laws on which it depends.
 
 ghost use Rattle.number_text.specs.Canonical.{CanonicalIsRead, WrittenIsRead};
-ghost use Rattle.number_text.specs.Operations.{NumberHasTable, NumberTellsBounds, NumbersAreListed};
+ghost use Rattle.number_text.specs.Operations.{NumberHasTable, NumberTellsBounds};
+ghost use Rattle.number_text.specs.Called.{NumbersAnswer};
 
 use crate::number_line::NumberLine;
 use escrow_laws::{bounds_are_told, numbers_have_tables};
@@ -23,14 +24,14 @@ pub fn written_is_read()
     canonical_is_read();
 }
 
-/// A number each of whose calls lists its amount has a table, and its operations have these bounds.
+/// A number has a table, and its operations have these bounds.
 pub fn number_has_table()
     ensures { NumberHasTable }
 {
     numbers_have_tables();
 }
 
-/// The bounds of such a number's operations are those that the steps of its table tell.
+/// The bounds of a number's operations are those that the steps of its table tell.
 pub fn number_tells_bounds()
     ensures { NumberTellsBounds }
 {
@@ -38,7 +39,9 @@ pub fn number_tells_bounds()
     bounds_are_told();
 }
 
-/// Each call of a number lists its amount.
-pub fn numbers_are_listed()
-    ensures { NumbersAreListed }
-{}
+/// Of each call of a number exactly one operation is legal at each of its values.
+pub fn numbers_answer()
+    ensures { NumbersAnswer }
+{
+    number_has_table();
+}

@@ -1,6 +1,7 @@
 ghost use Rattle.std.specs.Prelude.{◌≡◌, true};
+ghost use Rattle.number_text.specs.NumberLines.{amount_of};
 
-/// A call of a number, as a line of its file lists it. Each but `Value` is two operations.
+/// A call of a number, as a line of its file lists it or a name asks for it. Each but `Value` is two operations.
 #[derive(Clone, Copy)]
 pub enum NumberCall {
     /// `take K`: takes K, or is short of it.
@@ -18,6 +19,16 @@ pub enum NumberCall {
 }
 
 impl NumberCall {
+    /// The amount that it lists, and 0 where it lists none.
+    pub(crate) fn amount(self) -> u32
+        ensures { result ≡ amount_of self }
+    {
+        match self {
+            NumberCall::Take(k) | NumberCall::Give(k) | NumberCall::AtLeast(k) => k,
+            NumberCall::TakeAny | NumberCall::GiveAny | NumberCall::Value => 0,
+        }
+    }
+
     /// Whether it is the same call as another.
     fn is_same(self, other: NumberCall) -> bool
         ensures { result ≡ true → self ≡ other }

@@ -12,7 +12,7 @@ pub struct NumberFile {
     initial: u32,
     calls: Vec<NumberCall>,
     // those of the calls
-    ops: Vec<Op>,
+    rows: Vec<Op>,
 }
 
 impl Model for NumberFile {
@@ -24,24 +24,24 @@ impl Model for NumberFile {
 
     ghost view = { λ a. record { name = a.name; max = a.max; initial = a.initial; calls = a.calls.items } };
 
-    ghost invariant = { λ a. IsWhole (record { name = a.name; max = a.max; initial = a.initial; calls = a.calls.items }) a.ops.items };
+    ghost invariant = { λ a. IsWhole (record { name = a.name; max = a.max; initial = a.initial; calls = a.calls.items }) a.rows.items };
 }
 
 impl NumberFile {
     ghost use Rattle.std.specs.Prelude.{◌≡◌, ◌≤◌, length, true, IfOk};
     ghost use Rattle.type_table.specs.Limits.{most_ops};
     ghost use Rattle.number_text.specs.NumberFile.{Number, IsNumber, number_at};
-    ghost use Rattle.number_text.specs.Operations.{number_ops, IsWhole};
+    ghost use Rattle.number_text.specs.Operations.{number_rows, IsWhole};
 
-    /// The number of these parts, with the operations of its calls.
+    /// The number of these parts, with the rows of its calls.
     pub(crate) fn new(
         name: Name,
         max: u32,
         initial: u32,
         calls: Vec<NumberCall>,
-        ops: Vec<Op>,
+        rows: Vec<Op>,
     ) -> NumberFile
-        requires { let parts : Number = record { name = name; max = max; initial = initial; calls = calls.items } in IsWhole parts ops.items }
+        requires { let parts : Number = record { name = name; max = max; initial = initial; calls = calls.items } in IsWhole parts rows.items }
         ensures { let parts : Number = record { name = name; max = max; initial = initial; calls = calls.items } in result ≡ parts }
     {
         NumberFile {
@@ -49,7 +49,7 @@ impl NumberFile {
             max,
             initial,
             calls,
-            ops,
+            rows,
         }
     }
 
@@ -58,13 +58,13 @@ impl NumberFile {
         ensures { IfOk result (λ number. number ≡ self.now) }
     {
         let calls = Vec::from_slice(alloc, &self.calls)?;
-        let ops = Vec::from_slice(alloc, &self.ops)?;
+        let rows = Vec::from_slice(alloc, &self.rows)?;
         Ok(NumberFile {
             name: self.name,
             max: self.max,
             initial: self.initial,
             calls,
-            ops,
+            rows,
         })
     }
 
@@ -115,11 +115,11 @@ impl NumberFile {
         &self.calls
     }
 
-    /// The operations, at most 64, numbered in the order of the lines.
-    pub fn ops(&self) -> &[Op]
-        ensures exact { result.now ≡ number_ops self.now }
+    /// The names of the operations, at most 64, in the order of the lines.
+    pub fn rows(&self) -> &[Op]
+        ensures exact { result.now ≡ number_rows self.now }
         ensures few { length result.now ≤ most_ops }
     {
-        &self.ops
+        &self.rows
     }
 }

@@ -3,10 +3,9 @@
 ghost use Rattle.std.specs.Prelude.{◌≡◌, ◌<◌, ◌≤◌, [], ◌∷◌, length, map};
 ghost use Rattle.number_text.specs.NumberLines.{number_rules, line_with, number_line, called_of, numbered_of, says_any, any_or_numbered, bare_of, call_rank, counted_rank, max_of, calls_of, amount_in, is_amount, is_within};
 
-use crate::digits::{long_number_at, word};
 use crate::number_call::NumberCall;
 use crate::number_line::{Counted, NumberLine};
-use line_text::{FaultKind, Grammar, Section, exactly, is_key, name_at};
+use line_text::{FaultKind, Grammar, Section, exactly, is_key, long_number_at, name_at, word};
 use std::alloc::{AllocError, Global};
 
 /// The most lines of calls.
@@ -183,17 +182,18 @@ fn calls_in(line: NumberLine) -> usize
     }
 }
 
-/// Whether a call lists its amount, and that is in range.
+/// Whether the amount that a call lists is in range.
 fn is_within(max: u32, call: NumberCall) -> bool
     ensures { result ≡ is_within max call }
 {
     match call {
         NumberCall::Take(k) | NumberCall::Give(k) | NumberCall::AtLeast(k) => is_amount(max, k),
-        _ => false,
+        NumberCall::TakeAny | NumberCall::GiveAny | NumberCall::Value => true,
     }
 }
 
-fn is_amount(max: u32, k: u32) -> bool
+/// Whether an amount is 1 to the greatest value.
+pub fn is_amount(max: u32, k: u32) -> bool
     ensures { result ≡ is_amount max k }
 {
     1 <= k && k <= max
@@ -204,7 +204,7 @@ fn amount_in(line: NumberLine) -> u32
     ensures { result ≡ amount_in line }
 {
     match line {
-        NumberLine::Call(NumberCall::Take(k) | NumberCall::Give(k) | NumberCall::AtLeast(k)) => k,
+        NumberLine::Call(call) => call.amount(),
         _ => 0,
     }
 }

@@ -65,6 +65,7 @@ module _ (names : List (List ℕ)) (name : List ℕ) where
   other_stays : (n : NamedCall) → IsCallOf names n → bytes_eq name n.name ≡ false → IsCallOf (names ++ name ∷ []) n
   other_stays n call apart =
       record {
+        named = call.named;
         first = place_stays (λ other. bytes_eq other n.name) names name n.call.first call.first;
         operations = λ q low.
             call.operations q low
@@ -89,6 +90,7 @@ module _ (names : List (List ℕ)) (name : List ℕ) where
     known_grows : (n : NamedCall) → IsCallOf names n → bytes_eq name n.name ≡ true → IsCallOf (names ++ name ∷ []) (with_operation n k)
     known_grows n call same =
         record {
+          named = call.named;
           first = place_stays (λ other. bytes_eq other n.name) names name n.call.first call.first;
           operations = λ q low.
               elim (cases_eq q k) [
@@ -103,11 +105,12 @@ module _ (names : List (List ℕ)) (name : List ℕ) where
         }
 
     -- or the first of its call
-    first_begins : position (λ other. bytes_eq other name) names ≡ None → IsCallOf (names ++ name ∷ []) (begun name k)
-    first_begins none =
+    first_begins : ltb 0 (length name) ≡ true → position (λ other. bytes_eq other name) names ≡ None → IsCallOf (names ++ name ∷ []) (begun name k)
+    first_begins named none =
         let itself : bytes_eq name name ≡ true = (bytes_eq-Decides name name).1 refl in
         let word : 1 * 2 ^ k % 2 ^ 64 ≡ 2 ^ k = one_shl k 64 low_k in
         record {
+          named = named;
           first = place_pushed (λ other. bytes_eq other name) names name none itself ∙ ap Some is_k;
           operations = λ q low.
               ap (λ w. eqb (bit_at w q) 1) word
@@ -170,7 +173,7 @@ module _ (names : List (List ℕ)) (calls : List NamedCall) (h : AreCallsOf name
         }
 
   -- where it isn't known, the operation begins it
-  module _ (none : place_of calls name ≡ None) (k : ℕ) where
+  module _ (none : place_of calls name ≡ None) (named : ltb 0 (length name) ≡ true) (k : ℕ) where
     pub first_is_added : length names ≡ k → k < 64 → AreCallsOf (names ++ name ∷ []) (calls ++ begun name k ∷ [])
     first_is_added is_k low_k =
         record {
@@ -180,7 +183,7 @@ module _ (names : List (List ℕ)) (calls : List NamedCall) (h : AreCallsOf name
                     other_stays names name e (h.each j e before)
                     (false_from_ne_true (bytes_eq name e.name)
                     (λ same. none-some j (sym none ∙ ap (place_of calls) ((bytes_eq-Decides name e.name).0 same) ∙ h.once j e before)))
-                | inr last ↦ subst (λ m. IsCallOf (names ++ name ∷ []) m) last.1 (first_begins names name k is_k low_k (h.all name none))
+                | inr last ↦ subst (λ m. IsCallOf (names ++ name ∷ []) m) last.1 (first_begins names name k is_k low_k named (h.all name none))
               ];
           once = λ j e is_e.
               elim (cases-more calls (begun name k) j e is_e) [

@@ -1,18 +1,31 @@
--- The calls of the worked type.
-use Rattle.std.proofs.Common.{[], ◌∷◌, codes, lit<, refl, sym}
+-- The calls of the worked types.
+use Rattle.std.proofs.Common.{◌≡◌, ℕ, ◌≤◌, [], ◌∷◌, length, codes, lit<, Some, refl, sym, arith}
 use Rattle.std.proofs.lemmas.Bool.{false≢true}
+use Rattle.type_table.specs.Limits.{most_ops}
+use Rattle.type_table.specs.Table.{call_of, first_op}
+use Rattle.number_text.specs.declared.number_call.NumberCall.TheVariants as calls
+use Rattle.std.specs.List.{position}
+use Rattle.type_table.specs.Operation.{operation_at}
+use Rattle.number_text.specs.NumberLines.{most_number}
+use Rattle.number_text.specs.Named.{answers}
+use Rattle.number_text.specs.Examples.{purse}
+use Rattle.number_text.specs.Operations.{row_name, number_table}
+use Rattle.number_text.proofs.FirstNamed.{first_again}
+use Rattle.number_text.proofs.NamedCalls.{first_by_name}
+use Rattle.number_text.proofs.PurseExamples.{purse_is}
 use Rattle.object_calls.specs.Calls.{HasOperations, IsCall, IsCallTable}
 use Rattle.object_calls.specs.Collected.{AreCallsOf}
-use Rattle.object_calls.specs.Examples.{bit, read, flip, bit_calls}
+use Rattle.object_calls.specs.Examples.{bit, read, flip, bit_calls, value}
 use Rattle.object_calls.proofs.Collecting.{known_is_added, first_is_added, begun}
+use Rattle.object_calls.proofs.NumberCalls.{line_word, line_is_call, many_ops}
 use Rattle.object_calls.proofs.Tabled.{names_of, none_collected, is_call_table}
 
 -- collected operation by operation
 begun_read : AreCallsOf (codes "read" ∷ []) (begun (codes "read") 0 ∷ [])
-begun_read = first_is_added [] [] none_collected (codes "read") refl 0 refl (lit< tt)
+begun_read = first_is_added [] [] none_collected (codes "read") refl refl 0 refl (lit< tt)
 
 begun_flip : AreCallsOf (codes "read" ∷ codes "flip" ∷ []) (begun (codes "read") 0 ∷ begun (codes "flip") 1 ∷ [])
-begun_flip = first_is_added _ _ begun_read (codes "flip") refl 1 refl (lit< tt)
+begun_flip = first_is_added _ _ begun_read (codes "flip") refl refl 1 refl (lit< tt)
 
 with_read : AreCallsOf (codes "read" ∷ codes "flip" ∷ codes "read" ∷ []) (record { name = codes "read"; call = read } ∷ begun (codes "flip") 1 ∷ [])
 with_read = known_is_added _ _ begun_flip (codes "read") 0 refl (begun (codes "read") 0) refl 2 refl (lit< tt)
@@ -20,8 +33,12 @@ with_read = known_is_added _ _ begun_flip (codes "read") 0 refl (begun (codes "r
 with_flip : AreCallsOf (names_of bit.ops) bit_calls
 with_flip = known_is_added _ _ with_read (codes "flip") 1 refl (begun (codes "flip") 1) refl 3 refl (lit< tt)
 
+-- no more operations than a table may have
+pub bit_few : length bit.ops ≤ most_ops
+bit_few = omega arith
+
 pub bit_call_table : IsCallTable bit bit_calls
-bit_call_table = is_call_table bit bit_calls with_flip
+bit_call_table = is_call_table bit bit_few bit_calls with_flip
 
 pub read_call : IsCall bit read
 read_call = bit_call_table.of_name (codes "read") read refl
@@ -41,3 +58,21 @@ past_all h = false≢true (sym (h 4 (lit< tt)))
 
 pub calls_missing : IsCallTable bit [] → ⊥
 calls_missing h = false≢true (h.numbered (codes "flip") 1 refl)
+
+-- ---- a number
+
+-- `value` is first found with the amount 0
+value_first : first_op (number_table purse) (call_of (number_table purse) value.first) ≡ Some value.first
+value_first = first_again (number_table purse) (row_name calls.Value) value.first (first_by_name purse purse_is calls.Value tt 3 calls.Value refl refl)
+
+pub value_call : IsCall (number_table purse) value
+value_call = line_is_call purse value value.first refl value_first (line_word 6 (lit< tt))
+
+-- its word has both places of its line
+pub value_half : IsCall (number_table purse) (record { first = value.first; operations = 64 }) → ⊥
+value_half h = false≢true (h.line (many_ops purse) 7 (lit< tt))
+
+-- each amount of `take any` that isn't listed has a call of its own
+pub take_first : (n : ℕ) → n ≤ most_number → position (answers purse.max (calls.Take n)) purse.calls ≡ Some 1
+    → first_op (number_table purse) (call_of (number_table purse) (operation_at 2 (Some n))) ≡ Some (operation_at 2 (Some n))
+take_first n fits at = first_again (number_table purse) (row_name (calls.Take n)) (operation_at 2 (Some n)) (first_by_name purse purse_is (calls.Take n) fits 1 calls.TakeAny at refl)

@@ -2,11 +2,15 @@ pub mod FirstPlaces
 pub mod Collecting
 pub mod Tabled
 pub mod Examples
-pub mod Answering
 pub mod Places
 pub mod Changes
 pub mod Ended
 pub mod Counts
 pub mod Struck
 pub mod Bits
+pub mod NumberCalls
+pub mod Asking
+pub mod FirstThrough
 pub mod Searching
+pub mod OneAnswer
+pub mod WithoutReply

@@ -1,14 +1,15 @@
 -- Calls that were collected from all operations of a table.
-use Rattle.std.proofs.Common.{◌≡◌, ℕ, ◌+◌, ◌<◌, Bool, true, ◌&&◌, ◌==◌, ltb, List, [], ◌∷◌, ◌++◌, length, get_or, take, map, Option, Some, None, is_some, refl, sym, ap, subst, ◌∙◌, arith}
+use Rattle.std.proofs.Common.{◌≡◌, ℕ, ◌+◌, ◌<◌, ◌≤◌, Bool, true, false, ◌&&◌, ◌==◌, cond, ltb, List, [], ◌∷◌, ◌++◌, length, get_or, take, map, Option, Some, None, is_some, refl, sym, ap, subst, ◌∙◌, arith}
 use Rattle.std.specs.Prelude.{slice_get}
 use Rattle.std.specs.List.{position, position_or_len, find}
 use Rattle.std.specs.Option.{option_map}
 use Rattle.std.specs.Str.{bytes_eq}
-use Rattle.std.proofs.lemmas.Bool.{eq-eqb}
+use Rattle.std.proofs.lemmas.Bool.{false≢true, eq-eqb, cond-true}
 use Rattle.std.proofs.lemmas.List.{length-map, length-take-le, take_more, get_or-map}
 use Rattle.std.proofs.lemmas.List.Folds.{find_at}
-use Rattle.std.proofs.lemmas.Option.{same_Some, slice_get-get_or}
+use Rattle.std.proofs.lemmas.Option.{none-some, same_Some, slice_get-get_or}
 use Rattle.std.proofs.lemmas.Slice.Eq.{bytes_eq-Decides}
+use Rattle.type_table.specs.Limits.{most_ops}
 use Rattle.type_table.specs.Table.{Table, call_of, first_op}
 use Rattle.type_table.specs.declared.op.Op.{Op}
 use Rattle.type_table.proofs.Elements.{position-map}
@@ -51,9 +52,14 @@ is_some-call : (o : Option NamedCall) → is_some (option_map (λ n. n.call) o) 
 is_some-call (Some n) = refl
 is_some-call None = refl
 
-module _ (T : Table) (calls : List NamedCall) (h : AreCallsOf (names_of T.ops) calls) where
-  -- the first operation of a name, by the names alone
-  first_op-names : (name : List ℕ) → first_op T name ≡ position (λ other. bytes_eq other name) (names_of T.ops)
+-- what is found by a name that has a byte is at a place
+found_with : (some : Bool) (place : Option ℕ) (k : ℕ) → cond some place None ≡ Some k → place ≡ Some k
+found_with true place k is = is
+found_with false place k is = absurd (none-some k is)
+
+module _ (T : Table) (few : length T.ops ≤ most_ops) (calls : List NamedCall) (h : AreCallsOf (names_of T.ops) calls) where
+  -- the place of the first operation with a name, by the names alone
+  first_op-names : (name : List ℕ) → position (λ (o : Op). bytes_eq o.call name) T.ops ≡ position (λ other. bytes_eq other name) (names_of T.ops)
   first_op-names name = sym (position-map (λ other. bytes_eq other name) (λ (o : Op). o.call) T.ops)
 
   -- what was collected of a call is the table's
@@ -64,10 +70,11 @@ module _ (T : Table) (calls : List NamedCall) (h : AreCallsOf (names_of T.ops) c
       let at : slice_get names c ≡ Some (call_of T c) = slice_get-get_or names c [] (place_within (λ other. bytes_eq other n.name) names c call.first) in
       let name_is : call_of T c ≡ n.name = (bytes_eq-Decides (call_of T c) n.name).0 (place_passes (λ other. bytes_eq other n.name) names c (call_of T c) call.first at) in
       record {
-        least = first_op-names (call_of T c) ∙ ap (λ name. position (λ other. bytes_eq other name) names) name_is ∙ call.first;
-        operations = λ k low.
+        least = ap (first_op T) name_is ∙ cond-true _ _ _ call.named ∙ first_op-names n.name ∙ call.first;
+        operations = λ _ k low.
             call.operations k low ∙ ap (λ m. ltb k m && bytes_eq (call_of T k) n.name) (length-map T.ops (λ (o : Op). o.call))
             ∙ ap (λ name. ltb k (length T.ops) && bytes_eq (call_of T k) name) (sym name_is);
+        line = λ many. absurd (omega (arith, few, many));
       }
 
   -- what a look-up finds
@@ -83,17 +90,31 @@ module _ (T : Table) (calls : List NamedCall) (h : AreCallsOf (names_of T.ops) c
 
   -- and by a name
   module _ (name : List ℕ) where
+    -- it has the name
+    name_is : (n : NamedCall) → find (λ m. bytes_eq m.name name) calls ≡ Some n → n.name ≡ name
+    name_is n found =
+        let p : NamedCall → Bool = λ m. bytes_eq m.name name in
+        (bytes_eq-Decides n.name name).0 (place_passes p calls (position_or_len p calls) n (find-place p calls n found) (place_found p n found))
+
     -- it is numbered by the first operation of the name
-    first_found : (n : NamedCall) → find (λ m. bytes_eq m.name name) calls ≡ Some n → Some n.call.first ≡ first_op T name
+    first_found : (n : NamedCall) → find (λ m. bytes_eq m.name name) calls ≡ Some n → Some n.call.first ≡ position (λ (o : Op). bytes_eq o.call name) T.ops
     first_found n found =
         let p : NamedCall → Bool = λ m. bytes_eq m.name name in
-        let name_is : n.name ≡ name = (bytes_eq-Decides n.name name).0 (place_passes p calls (position_or_len p calls) n (find-place p calls n found) (place_found p n found)) in
-        sym ((h.each (position_or_len p calls) n (place_found p n found)).first) ∙ ap (λ x. position (λ other. bytes_eq other x) (names_of T.ops)) name_is ∙ sym (first_op-names name)
+        sym ((h.each (position_or_len p calls) n (place_found p n found)).first) ∙ ap (λ x. position (λ other. bytes_eq other x) (names_of T.ops)) (name_is n found) ∙ sym (first_op-names name)
 
     -- so numbers and first operations are the same, also where there are none
-    named_by : (o : Option NamedCall) → find (λ m. bytes_eq m.name name) calls ≡ o → option_map (λ (c : Call). c.first) (option_map (λ n. n.call) o) ≡ first_op T name
+    named_by : (o : Option NamedCall) → find (λ m. bytes_eq m.name name) calls ≡ o → option_map (λ (c : Call). c.first) (option_map (λ n. n.call) o) ≡ position (λ (o : Op). bytes_eq o.call name) T.ops
     named_by (Some n) found = first_found n found
     named_by None none = sym (first_op-names name ∙ h.all name (find-missing (λ m. bytes_eq m.name name) calls none))
+
+    -- no call has a name without a byte
+    by_first_op : (some : Bool) (o : Option NamedCall) → ltb 0 (length name) ≡ some → find (λ m. bytes_eq m.name name) calls ≡ o →
+        option_map (λ (c : Call). c.first) (option_map (λ n. n.call) o) ≡ cond some (position (λ (o : Op). bytes_eq o.call name) T.ops) None
+    by_first_op true o some found = named_by o found
+    by_first_op false None some found = refl
+    by_first_op false (Some n) some found =
+        let p : NamedCall → Bool = λ m. bytes_eq m.name name in
+        absurd (false≢true (sym some ∙ ap (λ (w : List ℕ). ltb 0 (length w)) (sym (name_is n found)) ∙ (h.each (position_or_len p calls) n (place_found p n found)).named))
 
     -- what is found by its name is found by its number
     some_numbered : (c : ℕ) (o : Option NamedCall) → find (λ m. bytes_eq m.name name) calls ≡ o → option_map (λ (x : Call). x.first) (option_map (λ n. n.call) o) ≡ Some c → is_some (find (λ m. m.call.first == c) calls) ≡ true
@@ -104,10 +125,11 @@ module _ (T : Table) (calls : List NamedCall) (h : AreCallsOf (names_of T.ops) c
 
   pub is_call_table : IsCallTable T calls
   is_call_table = record {
-    named = λ name. named_by name (find (λ m. bytes_eq m.name name) calls) refl;
+    named = λ name. by_first_op name (ltb 0 (length name)) (find (λ m. bytes_eq m.name name) calls) refl refl;
     of_name = λ name call is. found_is (λ m. bytes_eq m.name name) call (find (λ m. bytes_eq m.name name) calls) refl is;
     numbered = λ name c is.
         is_some-call (find (λ m. m.call.first == c) calls)
-        ∙ some_numbered name c (find (λ m. bytes_eq m.name name) calls) refl (named_by name (find (λ m. bytes_eq m.name name) calls) refl ∙ is);
+        ∙ some_numbered name c (find (λ m. bytes_eq m.name name) calls) refl
+        (named_by name (find (λ m. bytes_eq m.name name) calls) refl ∙ found_with (ltb 0 (length name)) (position (λ (o : Op). bytes_eq o.call name) T.ops) c is);
     of_number = λ c call is. found_is (λ m. m.call.first == c) call (find (λ m. m.call.first == c) calls) refl is;
   }

@@ -1,5 +1,5 @@
 -- The calls of operations that come one after another, by the names of their calls in order.
-use Rattle.std.specs.Prelude.{◌≡◌, ℕ, ◌<◌, Bool, ◌&&◌, ◌==◌, nat_lt, List, [], length, Option, Some, None, slice_get, slice_index_or}
+use Rattle.std.specs.Prelude.{◌≡◌, ℕ, ◌<◌, Bool, true, ◌&&◌, ◌==◌, nat_lt, List, [], length, Option, Some, None, slice_get, slice_index_or}
 use Rattle.std.specs.Int.{bit_at}
 use Rattle.std.specs.List.{position}
 use Rattle.std.specs.Str.{bytes_eq}
@@ -13,8 +13,9 @@ has_name names name k = nat_lt k (length names) && bytes_eq (slice_index_or name
 abbrev pub place_of : List NamedCall → List ℕ → Option ℕ
 place_of calls name = position (λ n. bytes_eq n.name name) calls
 
--- a call's number is its first operation, and its word has the bit of each of its operations, and no other
+-- a call has a name, its number is its first operation, and its word has the bit of each of its operations, and no other
 pub record IsCallOf (names : List (List ℕ)) (n : NamedCall) : Type 0 where
+  pub named : nat_lt 0 (length n.name) ≡ true
   pub first : position (λ name. bytes_eq name n.name) names ≡ Some n.call.first
   pub operations : (k : ℕ) → k < 64 → (bit_at n.call.operations k == 1) ≡ has_name names n.name k
 

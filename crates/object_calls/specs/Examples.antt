@@ -1,5 +1,6 @@
--- A small type and its calls, worked by hand.
+-- Small types and their calls, worked by hand.
 use Rattle.std.specs.Prelude.{ℕ, List, [], ◌∷◌, Some, None, codes}
+use Rattle.type_table.specs.Operation.{operation_at}
 use Rattle.type_table.specs.Table.{Table}
 use Rattle.type_table.specs.declared.op.Op.{Op}
 use Rattle.object_calls.specs.declared.call.Call.{Call}
@@ -29,3 +30,7 @@ flip = record { first = 1; operations = 10 }
 
 abbrev pub bit_calls : List NamedCall
 bit_calls = record { name = codes "read"; call = read } ∷ record { name = codes "flip"; call = flip } ∷ []
+
+-- of the purse of `number_text` the call `value`: it is the fourth, so its line has the places 6 and 7
+abbrev pub value : Call
+value = record { first = operation_at 6 (Some 0); operations = 192 }

@@ -1,4 +1,5 @@
 pub mod Calls
+pub mod Asked
 pub mod Collected
 pub mod Examples
 pub mod Answers

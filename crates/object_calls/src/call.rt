@@ -1,11 +1,11 @@
-use type_table::Name;
+use type_table::{Name, Operation};
 
 /// A call of a type.
 #[derive(Clone, Copy, Debug, PartialEq, Eq)]
 pub struct Call {
     /// Its least operation, which is its number.
-    pub first: u8,
-    /// Has the bit of each of its operations.
+    pub first: Operation,
+    /// Has the bit of the place of each of its operations.
     pub operations: u64,
 }
 

@@ -1,14 +1,18 @@
 //! The calls of a type, and how one of them is found.
 
-ghost use Rattle.std.specs.Prelude.{◌≡◌, ◌≤◌, ◌<◌, ◌++◌, [], ◌∷◌, ℕ, List, length, IfOk, IfSome, OnOk};
-ghost use Rattle.type_table.specs.Table.{Table};
-ghost use Rattle.object_calls.specs.Calls.{by_name, by_number, IsCallTable};
+ghost use Rattle.std.specs.Prelude.{◌≡◌, ◌≤◌, ◌<◌, ◌++◌, [], ◌∷◌, ℕ, List, length, Some, IsSome, IfOk, IfSome, OnOk};
+ghost use Rattle.type_table.specs.Table.{first_op};
+ghost use Rattle.std.specs.Option.{option_map};
+ghost use Rattle.table_checker.specs.Declarations.{table_of};
+ghost use Rattle.object_calls.specs.Calls.{by_name, by_number, IsCall, IsCallTable, HoldsCalls};
 ghost use Rattle.object_calls.specs.Collected.{place_of, AreCallsOf};
 
 use crate::call::{Call, NamedCall};
+use crate::number_calls::{call_by_name, call_by_number};
 use std::alloc::{AllocError, Global};
 use std::marker::Model;
-use type_table::{Name, Op};
+use table_checker::{Declaration, DeclaredType};
+use type_table::{Name, Operation, TypeTable};
 
 /// The calls of a type, each once.
 #[derive(Drop)]
@@ -26,16 +30,29 @@ impl Model for CallTable {
 }
 
 impl CallTable {
-    /// The calls of a type with these operations.
+    /// The calls of a type that is declared so: of a table all of them. Those of a number take no memory.
     ///
     /// # Errors
     ///
     /// Memory was refused.
-    pub fn new(alloc: Global, ops: &[Op]) -> Result<CallTable, AllocError>
-        requires { length ops.now ≤ 64 }
-        ensures { IfOk result (λ calls. (T : Table) → T.ops ≡ ops.now → IsCallTable T calls) }
+    pub fn new(alloc: Global, declared: &DeclaredType) -> Result<CallTable, AllocError>
+        ensures { IfOk result (HoldsCalls (table_of declared.now)) }
     {
-        let count = ops.len() as u8;
+        match declared.declaration() {
+            Declaration::Table(file) => CallTable::of_table(alloc, &file.table),
+            Declaration::Number(_) => Ok(CallTable {
+                calls: Vec::new(alloc),
+            }),
+        }
+    }
+
+    /// Those of a table.
+    fn of_table(alloc: Global, table: &TypeTable) -> Result<CallTable, AllocError>
+        ensures { IfOk result (IsCallTable table.now) }
+    {
+        // (read for its clause on what is known of a table)
+        let count = table.op_count();
+        let ops = table.ops();
         let mut calls = Vec::new(alloc);
         for k in 0..count {
             add_operation(&mut calls, ops[usize::from(k)].call, k)?;
@@ -43,15 +60,40 @@ impl CallTable {
         Ok(CallTable { calls })
     }
 
-    /// The call with this name.
-    pub fn by_name(&self, name: &str) -> Option<Call>
-        ensures { result ≡ by_name self.now name.now }
+    /// The call with this name of the type that is declared so.
+    pub fn by_name(&self, declared: &DeclaredType, name: &[u8]) -> Option<Call>
+        requires { HoldsCalls (table_of declared.now) self.now }
+        ensures named { option_map (λ (c : Call). c.first) result ≡ first_op (table_of declared.now) name.now }
+        ensures call { IfSome result (IsCall (table_of declared.now)) }
     {
-        self.by_bytes(name.as_bytes())
+        match declared.declaration() {
+            Declaration::Table(file) => {
+                // (read for its clause on what is known of a table)
+                let _states = file.table.states();
+                self.held_by_name(name)
+            }
+            Declaration::Number(number) => call_by_name(number, name),
+        }
     }
 
-    /// The call whose name has these bytes.
-    pub fn by_bytes(&self, name: &[u8]) -> Option<Call>
+    /// The call with this number of the type that is declared so.
+    pub fn by_number(&self, declared: &DeclaredType, c: Operation) -> Option<Call>
+        requires { HoldsCalls (table_of declared.now) self.now }
+        ensures named { (name : List ℕ) → first_op (table_of declared.now) name ≡ Some c → IsSome result }
+        ensures call { IfSome result (λ call. (call.first ≡ c) × IsCall (table_of declared.now) call) }
+    {
+        match declared.declaration() {
+            Declaration::Table(file) => {
+                // (read for its clause on what is known of a table)
+                let _states = file.table.states();
+                self.held_by_number(c)
+            }
+            Declaration::Number(number) => call_by_number(number, c),
+        }
+    }
+
+    /// The call of a table with this name.
+    fn held_by_name(&self, name: &[u8]) -> Option<Call>
         ensures { result ≡ by_name self.now name.now }
     {
         let named = self
@@ -61,8 +103,8 @@ impl CallTable {
         Some(named.call)
     }
 
-    /// The call with this number.
-    pub fn by_number(&self, c: u8) -> Option<Call>
+    /// The call of a table with this number.
+    fn held_by_number(&self, c: Operation) -> Option<Call>
         ensures exact { result ≡ by_number self.now c }
         ensures number { IfSome result (λ call. call.first ≡ c) }
     {
@@ -79,8 +121,10 @@ fn add_operation(calls: &mut Vec<NamedCall>, name: Name, k: u8) -> Result<(), Al
     match place_of(calls, name) {
         Some(place) => calls[place].call.operations |= 1 << k,
         None => {
+            // (read for its clause on what is known of a name)
+            let _bytes = name.as_bytes();
             let call = Call {
-                first: k,
+                first: Operation::listed(k),
                 operations: 1 << k,
             };
             calls.push(NamedCall { name, call })?;

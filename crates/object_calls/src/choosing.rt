@@ -1,26 +1,37 @@
 //! The answer of a call at one object.
 
-ghost use Rattle.std.specs.Prelude.{◌≡◌};
-ghost use Rattle.object_calls.specs.Calls.{HasOperations};
+ghost use Rattle.std.specs.Prelude.{◌≡◌, ℕ};
+ghost use Rattle.object_calls.specs.Calls.{IsCall};
+ghost use Rattle.object_calls.specs.Asked.{beside, AreInside, IsAsked};
 ghost use Rattle.object_calls.specs.Answers.{busy_with, answer_of};
 
 use crate::answer::Answer;
 use crate::call::Call;
 use crate::lowest::take_lowest;
 use object_trait::Recovery;
+use table_checker::Declaration;
+use type_table::Operation;
 
 /// The answer of t's call at this object.
 #[inline(always)]
 pub fn choose<R: Recovery>(object: &R, t: u32, call: Call) -> Answer
-    requires { HasOperations (R.meaning object.now).checked.file.table call.first call.operations }
+    requires { IsCall (R.meaning object.now).checked.file.table call }
     ensures { result ≡ answer_of (R.meaning object.now) t call.first }
 {
-    // So a word has a bit for each operation.
-    prove!(object.ops().len() <= 64);
+    choose_of(object, t, asked_at(object, t, call))
+}
+
+/// The answer of each call of which these are the operations that are looked at.
+#[inline(always)]
+fn choose_of<R: Recovery>(object: &R, t: u32, asked: Call) -> Answer
+    requires { AreInside (R.meaning object.now).checked.file.table asked }
+    ensures { (c : ℕ) → IsAsked (R.meaning object.now) t c asked → result ≡ answer_of (R.meaning object.now) t c }
+{
+    let operation = asked.first;
+    let mut left = asked.operations;
     let mut first = None;
-    let mut left = call.operations;
     while left != 0 {
-        let k = take_lowest(&mut left);
+        let k = beside(operation, take_lowest(&mut left));
         if object.legal(t, k) {
             if object.blocker(t, k).is_none() {
                 return Answer::Reply(k);
@@ -34,8 +45,42 @@ pub fn choose<R: Recovery>(object: &R, t: u32, call: Call) -> Answer
     }
 }
 
-/// `Busy` with who blocks.
-fn busy_with(blocker: Option<u32>) -> Answer
+/// The operations of a call that are looked at: of a number's call `value` the one with the number that t sees.
+#[inline(always)]
+fn asked_at<R: Recovery>(object: &R, t: u32, call: Call) -> Call
+    requires { IsCall (R.meaning object.now).checked.file.table call }
+    ensures inside { AreInside (R.meaning object.now).checked.file.table result }
+    ensures asked { IsAsked (R.meaning object.now) t call.first result }
+{
+    match object.declared().declaration() {
+        Declaration::Table(file) => {
+            // (read for its clause on what is known of a table)
+            let _states = file.table.states();
+            call
+        }
+        Declaration::Number(number) => {
+            // (read for what is known of a number)
+            let _calls = number.calls();
+            Call {
+                first: number.called(call.first, object.view(t)),
+                operations: call.operations,
+            }
+        }
+    }
+}
+
+/// The operation at another place with the same amount.
+fn beside(operation: Operation, place: u8) -> Operation
+    ensures { result ≡ beside operation place }
+{
+    match operation.amount() {
+        Some(n) => Operation::with(place, n),
+        None => Operation::listed(place),
+    }
+}
+
+/// `Busy` with who blocks, and `None` where nobody does.
+pub fn busy_with(blocker: Option<u32>) -> Answer
     ensures { result ≡ busy_with blocker }
 {
     match blocker {

@@ -1,12 +1,16 @@
 //! Worked examples of the definitions: each function does nothing, and its contract is the example.
 #![tactic(auto, unfolding(type_table::specs::Table::next))]
 
-ghost use Rattle.std.specs.Prelude.{◌≡◌, [], ◌∷◌, Some, None, codes};
+ghost use Rattle.std.specs.Prelude.{◌≡◌, ℕ, [], ◌∷◌, Some, None, codes};
+ghost use Rattle.type_table.specs.Operation.{operation_at, place_of};
+ghost use Rattle.type_table.specs.Table.{call_of, first_op};
 ghost use Rattle.object_trait.specs.Examples.{held, counter_at};
 ghost use Rattle.object_calls.specs.Answers.{answer_of};
 ghost use Rattle.object_calls.specs.Ends.{count_at};
 ghost use Rattle.object_calls.specs.Calls.{HasOperations, IsCall, by_name, by_number, IsCallTable};
-ghost use Rattle.object_calls.specs.Examples.{bit, read, flip, bit_calls};
+ghost use Rattle.object_calls.specs.Examples.{bit, read, flip, bit_calls, value};
+ghost use Rattle.number_text.specs.Examples.{purse};
+ghost use Rattle.number_text.specs.Operations.{number_table};
 
 use crate::answer::Answer;
 use type_table::Kind;
@@ -56,4 +60,16 @@ pub fn calls_are_numbered_by_their_least()
 pub fn calls_of_a_bit()
     ensures all { IsCallTable bit bit_calls }
     ensures none { IsCallTable bit [] → ⊥ }
+{}
+
+pub fn a_call_of_the_purse()
+    ensures call { IsCall (number_table purse) value }
+    ensures half_a_line { IsCall (number_table purse) (record { first = value.first; operations = 64 }) → ⊥ }
+{}
+
+/// A place tells a call of a table. Of a number it tells the line alone: `take:4` and `take:5` are both at the place 2.
+pub fn calls_at_a_place()
+    ensures of_a_table { (d : ℕ) → first_op bit (call_of bit d) ≡ Some d → place_of d ≡ 1 → 1 ≡ d }
+    ensures four { first_op (number_table purse) (call_of (number_table purse) (operation_at 2 (Some 4))) ≡ Some (operation_at 2 (Some 4)) }
+    ensures five { first_op (number_table purse) (call_of (number_table purse) (operation_at 2 (Some 5))) ≡ Some (operation_at 2 (Some 5)) }
 {}

@@ -1,7 +1,8 @@
 -- What the calls of an object do to its meaning.
-use Rattle.std.specs.Prelude.{◌≡◌, ℕ, suc, ◌+◌, ◌-◌, ◌<◌, ◌||◌, Bool, List, [], ◌∷◌, ◌++◌, map, filter, length, true, false, not, ◌&&◌, ◌==◌, Option, Some, if◌then◌else◌}
+use Rattle.std.specs.Prelude.{◌≡◌, ℕ, suc, ◌+◌, ◌-◌, ◌<◌, ◌||◌, ◌⊎◌, Bool, List, [], ◌∷◌, ◌++◌, map, filter, length, true, false, not, ◌&&◌, ◌==◌, Option, Some, is_some, if◌then◌else◌}
 use Rattle.std.specs.List.{list_any, find, AllByRecursion}
 use Rattle.std.specs.Option.{option_map}
+use Rattle.type_table.specs.Operation.{operation_at}
 use Rattle.type_table.specs.Run.{IsLegal, AreEqui}
 use Rattle.escrow_laws.specs.Firm.{with_op, keeps}
 use Rattle.type_table.specs.declared.kind.Kind.{Kind}
@@ -52,6 +53,15 @@ stops m = stops_by m.checked.kind (object m) m.base m.log
 -- who keeps t from k: the transaction of the earliest open entry that stops it, and is another's
 abbrev pub stopper : Meaning → ℕ → ℕ → Option ℕ
 stopper m t k = option_map (λ e. e.by) (find (λ e. not (e.by == t) && stops m t k e) (filter (λ e. not e.done) m.log))
+
+-- u keeps t from an operation with this amount at the place or at the next, which is legal for t
+abbrev pub IsKeptAt : Meaning → ℕ → ℕ → ℕ → ℕ → Type 0
+IsKeptAt m t place u n = (k : ℕ) × ((k ≡ operation_at place (Some n)) ⊎ (k ≡ operation_at (place + 1) (Some n))) × IsLegalFor m t k × (stopper m t k ≡ Some u)
+
+-- what is found is such an amount, and where there is one some is found
+pub record TellsKept (m : Meaning) (t place u : ℕ) (found : Option ℕ) : Type 0 where
+  pub kept : (n : ℕ) → found ≡ Some n → IsKeptAt m t place u n
+  pub all : (n : ℕ) → IsKeptAt m t place u n → is_some found ≡ true
 
 -- the caller's condition: k is legal for t and conflicts with no entry of another open transaction, and the log has room
 pub record MayApply (m : Meaning) (t k : ℕ) : Type 0 where

@@ -4,7 +4,8 @@ ghost use Rattle.std.specs.Prelude.{◌≡◌};
 
 use crate::recovery::Recovery;
 use std::alloc::AllocError;
-use type_table::Op;
+use table_checker::DeclaredType;
+use type_table::Operation;
 
 /// An object of any kind of recovery, boxed by the caller. Its meaning is that of the object in the
 /// box.
@@ -33,23 +34,31 @@ impl AnyObject {
 impl Recovery for AnyObject {
     ghost meaning = { λ b. (Recovery-box b.object).meaning b.object.value };
 
-    fn ops(&self) -> &[Op] {
-        self.object.ops()
+    fn declared(&self) -> &DeclaredType {
+        self.object.declared()
     }
 
     fn state(&self) -> u32 {
         self.object.state()
     }
 
-    fn legal(&self, t: u32, k: u8) -> bool {
+    fn view(&self, t: u32) -> u32 {
+        self.object.view(t)
+    }
+
+    fn legal(&self, t: u32, k: Operation) -> bool {
         self.object.legal(t, k)
     }
 
-    fn blocker(&self, t: u32, k: u8) -> Option<u32> {
+    fn blocker(&self, t: u32, k: Operation) -> Option<u32> {
         self.object.blocker(t, k)
     }
 
-    fn apply(&mut self, t: u32, k: u8) -> Result<(), AllocError> {
+    fn amount_kept(&self, t: u32, place: u8, u: u32) -> Option<u32> {
+        self.object.amount_kept(t, place, u)
+    }
+
+    fn apply(&mut self, t: u32, k: Operation) -> Result<(), AllocError> {
         self.object.apply(t, k)
     }
 

@@ -1,3 +1,5 @@
+use type_table::Operation;
+
 /// What happened at one call of a store: the worker that made the call, and which kind of event it
 /// is.
 #[derive(Clone, Copy, Debug, PartialEq, Eq)]
@@ -10,13 +12,13 @@ pub struct Event {
 /// abort; here an operation is both of the first two).
 ///
 /// t and u are transactions by number, x is an object's place in the store, k an operation of its
-/// table, and c a call, by the first operation that has its name.
+/// type, and c a call, by the place of the first operation that has its name.
 #[derive(Clone, Copy, Debug, PartialEq, Eq)]
 pub enum EventKind {
     /// Transaction t began.
     Begin { t: u32 },
     /// Transaction t executed operation k at object x.
-    Op { t: u32, x: u32, k: u8 },
+    Op { t: u32, x: u32, k: Operation },
     /// Each operation of call c that was legal for t at x conflicted with an operation of another
     /// open transaction, the first of them with one of u.
     Busy { c: u8, t: u32, x: u32, u: u32 },

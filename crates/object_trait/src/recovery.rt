@@ -1,12 +1,14 @@
 //! What an object owes, whatever its kind of recovery and whatever it keeps.
 
-ghost use Rattle.std.specs.Prelude.{◌≡◌, ◌↔◌, ◌<◌, ◌≤◌, true, Some, length, OnOk, OnErr};
+ghost use Rattle.std.specs.Prelude.{◌≡◌, ◌↔◌, ◌<◌, ◌≤◌, ◌%◌, true, Some, length, OnOk, OnErr};
 ghost use Rattle.table_checker.specs.Checked.{IsChecked};
-ghost use Rattle.object_trait.specs.Meaning.{Meaning, state_of, open_of};
-ghost use Rattle.object_trait.specs.Steps.{IsLegalFor, open_transactions, IsFresh, stopper, MayApply, applied, IsCommit, IsStrike, IsAbort};
+ghost use Rattle.table_checker.specs.Declarations.{file_of, IsDeclaredFor};
+ghost use Rattle.object_trait.specs.Meaning.{Meaning, state_of, view_of, open_of};
+ghost use Rattle.object_trait.specs.Steps.{IsLegalFor, TellsKept, open_transactions, IsFresh, stopper, MayApply, applied, IsCommit, IsStrike, IsAbort};
 
 use std::alloc::AllocError;
-use type_table::Op;
+use table_checker::DeclaredType;
+use type_table::Operation;
 
 /// An object that many transactions share, with its way of recovering from aborts.
 ///
@@ -16,10 +18,10 @@ pub trait Recovery: Send + Drop {
     /// What the object means now.
     ghost meaning: { Self → Meaning };
 
-    /// The operations of its type, which was checked for its kind of recovery.
-    fn ops(&self) -> &[Op]
-        ensures exact { result.now ≡ (meaning self.now).checked.file.table.ops }
-        ensures few { length result.now ≤ 64 }
+    /// What declares its type, which was checked for its kind of recovery.
+    fn declared(&self) -> &DeclaredType
+        ensures exact { file_of result.now ≡ (meaning self.now).checked.file }
+        ensures kind { IsDeclaredFor (meaning self.now).checked.kind result.now }
         ensures checked { IsChecked (meaning self.now).checked };
 
     /// The object's state: with update in place that after the whole log, with deferred update and in
@@ -30,17 +32,30 @@ pub trait Recovery: Send + Drop {
     fn state(&self) -> u32
         ensures exact { state_of (meaning self.now) ≡ Some result };
 
+    /// The state that transaction t sees: with update in place that after the whole log, with deferred
+    /// update and in escrow that after its own open operations, on the state of the committed ones.
+    fn view(&self, t: u32) -> u32
+        ensures exact { view_of (meaning self.now) t ≡ Some result }
+        ensures inside { result < (meaning self.now).checked.file.table.states };
+
     /// Whether operation k of the object's table is legal in the state that transaction t sees.
-    fn legal(&self, t: u32, k: u8) -> bool
+    fn legal(&self, t: u32, k: Operation) -> bool
         requires { k < length (meaning self.now).checked.file.table.ops }
         ensures { (result ≡ true) ↔ IsLegalFor (meaning self.now) t k };
 
     /// Who keeps transaction t from operation k, which is legal for it: the transaction of the earliest
     /// open entry that stops it.
-    fn blocker(&self, t: u32, k: u8) -> Option<u32>
+    fn blocker(&self, t: u32, k: Operation) -> Option<u32>
         requires operation { k < length (meaning self.now).checked.file.table.ops }
         requires legal { IsLegalFor (meaning self.now) t k }
         ensures { result ≡ stopper (meaning self.now) t k };
+
+    /// An amount from whose operation at this place, or at the next one, u keeps t, where that operation is
+    /// legal for t; None where there is none. The place is the first one of a number's line: the next one is
+    /// that of the other reply.
+    fn amount_kept(&self, t: u32, place: u8, u: u32) -> Option<u32>
+        requires { place % 2 ≡ 0 }
+        ensures { TellsKept (meaning self.now) t place u result };
 
     /// Executes operation k for transaction t: one more entry, which is open. The caller has seen
     /// that k is legal for t and that no other transaction keeps t from it.
@@ -48,7 +63,7 @@ pub trait Recovery: Send + Drop {
     /// # Errors
     ///
     /// Memory was refused, and the meaning is as it was.
-    fn apply(&mut self, t: u32, k: u8) -> Result<(), AllocError>
+    fn apply(&mut self, t: u32, k: Operation) -> Result<(), AllocError>
         requires { MayApply (meaning self.old) t k }
         ensures applied { OnOk result (meaning self.new ≡ applied (meaning self.old) t k) }
         ensures unchanged { OnErr result (meaning self.new ≡ meaning self.old) };

@@ -1,7 +1,6 @@
 //! The checked types of objects, one after another.
 
 ghost use Rattle.std.specs.Prelude.{◌≡◌, true, Some, map, IfOk, IfErr, IfSome, slice_get};
-ghost use Rattle.number_text.specs.Operations.{is_listed};
 ghost use Rattle.table_checker.specs.declared.declared_type.Declaration.{Declaration as AnyDeclaration};
 ghost use Rattle.object_types.specs.Types.{AreTypesOf, IsTypeOf, IsFirstFault, IsAccepted, IsFaultAt, IsCheckedFor, IsRefusedFor, value_of};
 
@@ -114,7 +113,6 @@ fn accept_number(
     kind: Kind,
     number: &NumberFile,
 ) -> Result<Arc<CheckedType>, ObjectFault>
-    requires { is_listed number.now ≡ true }
     ensures accepted { IfOk result (λ a. IsCheckedFor kind (AnyDeclaration.Number number.now) (value_of a)) }
     ensures refused { IfErr result (IsRefusedFor kind (AnyDeclaration.Number number.now) x) }
 {
@@ -122,7 +120,7 @@ fn accept_number(
         Kind::Escrow => {
             let checked = check_number(number.copy(alloc)?);
             // (read for its clause on what was checked)
-            let _ops = checked.ops();
+            let _initial = checked.initial();
             Ok(Arc::new(alloc, checked)?)
         }
         Kind::Undo | Kind::Intentions => Err(ObjectFault::NeedsEscrow { x }),

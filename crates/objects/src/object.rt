@@ -5,8 +5,8 @@ use intentions_manager::IntentionsManager;
 use object_trait::{Recovery, Renew};
 use std::alloc::{AllocError, Global};
 use std::sync::Arc;
-use table_checker::CheckedType;
-use type_table::{Kind, Op};
+use table_checker::{CheckedType, DeclaredType};
+use type_table::{Kind, Operation};
 use undo_manager::UndoManager;
 
 /// An object of any kind of recovery. Its meaning is that of the manager inside.
@@ -44,20 +44,36 @@ impl Recovery for Object {
 
     ghost meaning = { meaning_of };
 
-    fn ops(&self) -> &[Op] {
+    fn declared(&self) -> &DeclaredType {
         match self {
-            Object::Undo(manager) => manager.ops(),
-            Object::Intentions(manager) => manager.ops(),
-            Object::Escrow(manager) => manager.ops(),
+            Object::Undo(manager) => manager.declared(),
+            Object::Intentions(manager) => manager.declared(),
+            Object::Escrow(manager) => manager.declared(),
+        }
+    }
+
+    fn view(&self, t: u32) -> u32 {
+        match self {
+            Object::Undo(manager) => manager.view(t),
+            Object::Intentions(manager) => manager.view(t),
+            Object::Escrow(manager) => manager.view(t),
         }
     }
 
     #[inline(always)]
-    fn blocker(&self, t: u32, k: u8) -> Option<u32> {
+    fn blocker(&self, t: u32, k: Operation) -> Option<u32> {
         match self {
             Object::Undo(manager) => manager.blocker(t, k),
             Object::Intentions(manager) => manager.blocker(t, k),
             Object::Escrow(manager) => manager.blocker(t, k),
+        }
+    }
+
+    fn amount_kept(&self, t: u32, place: u8, u: u32) -> Option<u32> {
+        match self {
+            Object::Undo(manager) => manager.amount_kept(t, place, u),
+            Object::Intentions(manager) => manager.amount_kept(t, place, u),
+            Object::Escrow(manager) => manager.amount_kept(t, place, u),
         }
     }
 
@@ -70,7 +86,7 @@ impl Recovery for Object {
     }
 
     #[inline(always)]
-    fn legal(&self, t: u32, k: u8) -> bool {
+    fn legal(&self, t: u32, k: Operation) -> bool {
         match self {
             Object::Undo(manager) => manager.legal(t, k),
             Object::Intentions(manager) => manager.legal(t, k),
@@ -79,7 +95,7 @@ impl Recovery for Object {
     }
 
     #[inline(always)]
-    fn apply(&mut self, t: u32, k: u8) -> Result<(), AllocError> {
+    fn apply(&mut self, t: u32, k: Operation) -> Result<(), AllocError> {
         match self {
             Object::Undo(manager) => manager.apply(t, k),
             Object::Intentions(manager) => manager.apply(t, k),

@@ -1,10 +1,9 @@
 -- What a list of held operations means, and who of its transactions keeps another from an operation.
-use Rattle.std.specs.Prelude.{◌≡◌, ℕ, ◌-◌, ◌<◌, List, filter, length, Bool, not, ◌&&◌, ◌||◌, ◌==◌, nat_lt, Option, All}
+use Rattle.std.specs.Prelude.{◌≡◌, ℕ, ◌<◌, List, filter, length, Bool, not, ◌&&◌, ◌||◌, ◌==◌, nat_lt, Option, All}
 use Rattle.std.specs.Int.{bit_at}
 use Rattle.std.specs.List.{find}
 use Rattle.std.specs.Option.{option_map}
 use Rattle.type_table.specs.ConflictTable.{conflicts}
-use Rattle.object_trait.specs.Strike.{keep_first}
 use Rattle.op_locks.specs.declared.held.Held.{Held}
 
 -- what is held, in order of holding, and for how many more there is room

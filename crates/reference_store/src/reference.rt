@@ -8,8 +8,8 @@ use serial_order::Refusal;
 use std::alloc::{AllocError, Global};
 use std::sync::Arc;
 use store::Answer;
-use table_checker::CheckedType;
-use type_table::{ConflictTable, Kind, Op, TypeTable};
+use table_checker::{CheckedType, DeclaredType};
+use type_table::{ConflictTable, Kind, Operation};
 
 /// A transaction that began.
 #[derive(Clone, Copy)]
@@ -34,36 +34,46 @@ pub struct Reference {
     events: Vec<Event>,
 }
 
-/// The least operation whose call has this name.
-fn first_of(ops: &[Op], name: &[u8]) -> Option<u8> {
-    for k in 0..64u8 {
-        if let Some(op) = ops.get(usize::from(k)) {
-            if op.call.as_bytes() == name {
-                return Some(k);
-            }
-        }
-    }
-    None
-}
-
-/// Whether c is the number of a call.
-fn is_number(ops: &[Op], c: u8) -> bool {
-    match ops.get(usize::from(c)) {
-        Some(op) => first_of(ops, op.call.as_bytes()) == Some(c),
-        None => false,
+/// The operation at a place with an amount, where there is one.
+fn operation_at(place: u8, amount: Option<u32>) -> Operation {
+    match amount {
+        Some(n) => Operation::with(place, n),
+        None => Operation::listed(place),
     }
 }
 
 /// Whether k is an operation of call c.
-fn is_of_call(ops: &[Op], c: u8, k: u8) -> bool {
-    match (ops.get(usize::from(c)), ops.get(usize::from(k))) {
+fn is_of_call(declared: &DeclaredType, c: Operation, k: Operation) -> bool {
+    match (declared.op(c), declared.op(k)) {
         (Some(first), Some(op)) => first.call.as_bytes() == op.call.as_bytes(),
         _ => false,
     }
 }
 
+/// Whether k is an operation of call c and legal in a state.
+fn is_reply(declared: &DeclaredType, state: Option<u32>, c: Operation, k: Operation) -> bool {
+    is_of_call(declared, c, k) && stepped(declared, state, k).is_some()
+}
+
+/// The operation at a place that is of call c and legal in a state: with the amount of the call, or else with
+/// the state for one, as the call `value` answers.
+fn reply_at(
+    declared: &DeclaredType,
+    state: Option<u32>,
+    c: Operation,
+    place: u8,
+) -> Option<Operation> {
+    let asked = operation_at(place, c.amount());
+    if is_reply(declared, state, c, asked) {
+        return Some(asked);
+    }
+    let seen = operation_at(place, state);
+    is_reply(declared, state, c, seen).then_some(seen)
+}
+
 /// Whether the requested k conflicts with the held q.
-fn clash(conflicts: &ConflictTable, k: u8, q: u8) -> bool {
+fn clash(conflicts: &ConflictTable, k: Operation, q: Operation) -> bool {
+    let (k, q) = (k.place(), q.place());
     k < conflicts.ops() && q < conflicts.ops() && conflicts.conflicts(k, q)
 }
 
@@ -74,12 +84,6 @@ fn without_last(list: &mut Vec<Living>, t: u32, n: u32) {
             list.remove(place);
         }
     }
-}
-
-/// The table of a type that is declared by one.
-fn table_of(checked: &CheckedType) -> Option<&TypeTable> {
-    let file = checked.declared().file()?;
-    Some(&file.table)
 }
 
 impl Reference {
@@ -143,14 +147,14 @@ impl Reference {
     }
 
     /// The state that t sees at x.
-    fn view(&self, checked: &CheckedType, x: u32, t: u32) -> Option<u16> {
-        let table = table_of(checked)?;
-        let start = Some(table.initial());
+    fn view(&self, checked: &CheckedType, x: u32, t: u32) -> Option<u32> {
+        let declared = checked.declared();
+        let start = Some(declared.initial());
         match checked.kind() {
-            Kind::Undo => run_at(table, start, &self.living, x, None),
+            Kind::Undo => run_at(declared, start, &self.living, x, None),
             Kind::Intentions | Kind::Escrow => {
-                let committed = run_at(table, start, &self.serial, x, None);
-                run_at(table, committed, &self.living, x, Some(t))
+                let committed = run_at(declared, start, &self.serial, x, None);
+                run_at(declared, committed, &self.living, x, Some(t))
             }
         }
     }
@@ -159,14 +163,14 @@ impl Reference {
     pub fn kept(&self, x: u32) -> Option<u32> {
         let checked = self.types.get(x as usize)?;
         match checked.kind() {
-            Kind::Undo => Some(u32::from(self.view(checked, x, 0)?)),
+            Kind::Undo => self.view(checked, x, 0),
             Kind::Intentions => None,
-            Kind::Escrow => Some(u32::from(self.serial_state(x)?)),
+            Kind::Escrow => self.serial_state(x),
         }
     }
 
     /// The serial state of x; of update in place, the state after what survives in the order of execution.
-    pub fn committed(&self, x: u32) -> Option<u16> {
+    pub fn committed(&self, x: u32) -> Option<u32> {
         let checked = self.types.get(x as usize)?;
         match checked.kind() {
             Kind::Undo => self.view(checked, x, 0),
@@ -175,23 +179,23 @@ impl Reference {
     }
 
     /// The state of x after what committed, one transaction after another in commit order.
-    pub fn serial_state(&self, x: u32) -> Option<u16> {
-        let table = table_of(self.types.get(x as usize)?)?;
-        run_at(table, Some(table.initial()), &self.serial, x, None)
+    pub fn serial_state(&self, x: u32) -> Option<u32> {
+        let declared = self.types.get(x as usize)?.declared();
+        run_at(declared, Some(declared.initial()), &self.serial, x, None)
     }
 
     /// Who did the earliest operation that keeps t from k at x.
-    fn blocker(&self, checked: &CheckedType, x: u32, t: u32, k: u8) -> Option<u32> {
-        let file = checked.declared().file()?;
+    fn blocker(&self, checked: &CheckedType, x: u32, t: u32, k: Operation) -> Option<u32> {
+        let declared = checked.declared();
         match checked.kind() {
-            Kind::Undo => self.holder(&file.undo, x, t, k),
-            Kind::Intentions => self.holder(&file.intentions, x, t, k),
-            Kind::Escrow => self.keeper(&file.table, Living { t, x, k }),
+            Kind::Undo => self.holder(&declared.file()?.undo, x, t, k),
+            Kind::Intentions => self.holder(&declared.file()?.intentions, x, t, k),
+            Kind::Escrow => self.keeper(declared, x, t, k),
         }
     }
 
     /// Who holds the earliest operation with which k conflicts.
-    fn holder(&self, conflicts: &ConflictTable, x: u32, t: u32, k: u8) -> Option<u32> {
+    fn holder(&self, conflicts: &ConflictTable, x: u32, t: u32, k: Operation) -> Option<u32> {
         for one in &self.open {
             if one.x == x && one.t != t && clash(conflicts, k, one.k) {
                 return Some(one.t);
@@ -200,27 +204,25 @@ impl Reference {
         None
     }
 
-    /// Who keeps the transaction of one operation more, at a number in escrow, from it.
-    fn keeper(&self, table: &TypeTable, further: Living) -> Option<u32> {
+    /// Who keeps t from k at a number in escrow.
+    fn keeper(&self, declared: &DeclaredType, x: u32, t: u32, k: Operation) -> Option<u32> {
         let number = Number {
-            table,
-            base: self.serial_state(further.x)?,
+            declared,
+            base: self.serial_state(x)?,
             open: &self.open,
-            further,
+            t,
+            x,
+            k,
         };
         number.keeper()
     }
 
     /// The answer of t's call c at x.
-    fn answer_of(&self, checked: &CheckedType, x: u32, t: u32, c: u8) -> Answer {
+    fn answer_of(&self, checked: &CheckedType, x: u32, t: u32, c: Operation) -> Answer {
         let view = self.view(checked, x, t);
         let mut answer = Answer::None;
-        for k in 0..64u8 {
-            let legal = match table_of(checked) {
-                Some(table) => is_of_call(table.ops(), c, k) && stepped(table, view, k).is_some(),
-                None => false,
-            };
-            if legal {
+        for place in 0..64u8 {
+            if let Some(k) = reply_at(checked.declared(), view, c, place) {
                 match self.blocker(checked, x, t, k) {
                     None => return Answer::Reply(k),
                     Some(u) if answer == Answer::None => answer = Answer::Busy(u),
@@ -232,19 +234,26 @@ impl Reference {
     }
 
     /// The number of the call of this name at x.
-    fn number_of(&self, x: u32, name: &str) -> Option<u8> {
+    fn number_of(&self, x: u32, name: &str) -> Option<Operation> {
         let checked = self.types.get(x as usize)?;
-        first_of(checked.ops(), name.as_bytes())
+        checked.first_op(name.as_bytes())
     }
 
     /// The number, where it is that of a call at x.
-    fn number_at(&self, x: u32, c: u8) -> Option<u8> {
+    fn number_at(&self, x: u32, c: Operation) -> Option<Operation> {
         let checked = self.types.get(x as usize)?;
-        is_number(checked.ops(), c).then_some(c)
+        let op = checked.op(c)?;
+        let first = checked.first_op(op.call.as_bytes())?;
+        (first == c).then_some(c)
     }
 
     /// The answer of t's call at x, or why there is none. A call with no number isn't one of the type's.
-    fn asked(&self, t: u32, x: u32, number: Option<u8>) -> Result<(u8, Answer), Refusal> {
+    fn asked(
+        &self,
+        t: u32,
+        x: u32,
+        number: Option<Operation>,
+    ) -> Result<(Operation, Answer), Refusal> {
         if !self.is_open(t) {
             return Err(Refusal::NotOpen);
         }
@@ -260,16 +269,30 @@ impl Reference {
         Ok((c, self.answer_of(checked, x, t, c)))
     }
 
-    fn call(&mut self, w: u8, t: u32, x: u32, number: Option<u8>) -> Result<Told, AllocError> {
+    fn call(
+        &mut self,
+        w: u8,
+        t: u32,
+        x: u32,
+        number: Option<Operation>,
+    ) -> Result<Told, AllocError> {
         match self.asked(t, x, number) {
-            Ok((c, answer)) => self.answer(w, t, x, c, answer),
+            Ok((c, answer)) => self.answer(w, t, x, c, &answer),
             Err(refusal) => Ok(Told::Refused(refusal)),
         }
     }
 
-    /// Answers t's call c at x.
-    fn answer(&mut self, w: u8, t: u32, x: u32, c: u8, answer: Answer) -> Result<Told, AllocError> {
-        let kind = match answer {
+    /// Answers t's call c at x: without a reply by the place of c.
+    fn answer(
+        &mut self,
+        w: u8,
+        t: u32,
+        x: u32,
+        c: Operation,
+        answer: &Answer,
+    ) -> Result<Told, AllocError> {
+        let c = c.place();
+        let kind = match *answer {
             Answer::Reply(k) => {
                 self.living.push(Living { t, x, k })?;
                 self.open.push(Living { t, x, k })?;
@@ -279,7 +302,7 @@ impl Reference {
             Answer::None => EventKind::None { t, x, c },
         };
         self.note(w, kind)?;
-        Ok(as_told(answer))
+        Ok(as_told(*answer))
     }
 
     fn begin(&mut self, w: u8) -> Result<Told, AllocError> {
@@ -352,7 +375,10 @@ impl Reference {
         match ask {
             Ask::Begin => self.begin(w),
             Ask::Call(t, x, name) => self.call(w, t, x, self.number_of(x, name)),
-            Ask::Number(t, x, c) => self.call(w, t, x, self.number_at(x, c)),
+            Ask::Number(t, x, c) => self.call(w, t, x, self.number_at(x, Operation::listed(c))),
+            Ask::NumberWith(t, x, c, n) => {
+                self.call(w, t, x, self.number_at(x, Operation::with(c, n)))
+            }
             Ask::Commit(t) => self.commit(w, t),
             Ask::Abort(t) => self.abort(w, t),
             Ask::Rollback(t, n) => self.rollback(w, t, n),

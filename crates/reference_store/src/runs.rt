@@ -11,7 +11,7 @@ use std::fmt::Write;
 use std::sync::Arc;
 use std::test::Fail;
 use table_checker::CheckedType;
-use type_table::Kind;
+use type_table::{Kind, Operation};
 
 /// What a run writes of its commands and its objects, and the lines of the audit after that.
 #[derive(Drop)]
@@ -85,11 +85,26 @@ pub fn push_numbers(
     push_line(text, line.as_str())
 }
 
+/// Puts the line of an operation of worker 0 after the others.
+fn push_op(
+    alloc: Global,
+    text: &mut Vec<u8>,
+    t: u32,
+    x: u32,
+    k: Operation,
+) -> Result<(), AllocError> {
+    let place = u32::from(k.place());
+    match k.amount() {
+        Some(n) => push_numbers(alloc, text, "op 0", &[t, x, place, n]),
+        None => push_numbers(alloc, text, "op 0", &[t, x, place]),
+    }
+}
+
 /// Puts the line of an event of worker 0 after the others.
-pub fn push_event(alloc: Global, text: &mut Vec<u8>, event: Event) -> Result<(), AllocError> {
+pub fn push_event(alloc: Global, text: &mut Vec<u8>, event: &Event) -> Result<(), AllocError> {
     match event.kind {
         EventKind::Begin { t } => push_numbers(alloc, text, "begin 0", &[t]),
-        EventKind::Op { t, x, k } => push_numbers(alloc, text, "op 0", &[t, x, u32::from(k)]),
+        EventKind::Op { t, x, k } => push_op(alloc, text, t, x, k),
         EventKind::Busy { c, t, x, u } => {
             push_numbers(alloc, text, "busy 0", &[t, x, u32::from(c), u])
         }
@@ -111,7 +126,7 @@ fn push_told(
         return push_line(text, refusal_line(refusal));
     }
     match fold.events().last() {
-        Some(event) => push_event(alloc, text, *event),
+        Some(event) => push_event(alloc, text, event),
         None => Ok(()),
     }
 }
@@ -158,10 +173,10 @@ fn push_state(
     text: &mut Vec<u8>,
     word: &str,
     x: u32,
-    state: Option<u16>,
+    state: Option<u32>,
 ) -> Result<(), AllocError> {
     match state {
-        Some(state) => push_numbers(alloc, text, word, &[x, u32::from(state)]),
+        Some(state) => push_numbers(alloc, text, word, &[x, state]),
         None => Ok(()),
     }
 }

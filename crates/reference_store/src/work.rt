@@ -207,7 +207,7 @@ fn push_objects(text: &mut Vec<u8>, jobs: &str) -> Result<(), AllocError> {
 /// Puts the lines of what happened.
 fn push_events(alloc: Global, text: &mut Vec<u8>, events: &[Event]) -> Result<(), AllocError> {
     for event in events {
-        push_event(alloc, text, *event)?;
+        push_event(alloc, text, event)?;
     }
     Ok(())
 }

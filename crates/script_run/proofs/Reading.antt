@@ -4,10 +4,12 @@ use Rattle.std.specs.Prelude.{codes}
 use Rattle.std.specs.Fmt.{decimal}
 use Rattle.std.specs.List.{AllByRecursion}
 use Rattle.std.proofs.lemmas.Grind.{flat_map-append}
+use Rattle.std.proofs.lemmas.Bool.{not-true}
 use Rattle.std.proofs.lemmas.List.Elements.{filter-append}
 use Rattle.line_text.specs.Comments.{MaySkip, ended, lines_text, tells as tells_line}
 use Rattle.line_text.specs.Outcome.{outcome_of}
 use Rattle.line_text.specs.Spelling.{spaced}
+use Rattle.line_text.specs.Text.{is_comment}
 use Rattle.line_text.proofs.CommentLines.{IsText, comment_skips, comments_skip, nothing_told, number_text, skips_append, told_skips, words_comment}
 use Rattle.object_trait.specs.Object.{Object}
 use Rattle.object_trait.specs.declared.event.Event.{Event}
@@ -26,7 +28,7 @@ use Rattle.script_run.specs.Lines.{refusal_number, refusal_name}
 use Rattle.script_run.specs.Turns.{Turn, line_of, text_of, history_after, by_script, event_turn, refused_turn, accepted_turn, answered_turn, command_turn, object_turn, object_turns, command_turns, abort_turns, closing_turns, open_in, end_turn, kept_turn, kept_turns, script_turns}
 use Rattle.script_run.specs.Laws.{ScriptIsByOne, ScriptIsRead, TextTellsHistory, tells}
 use Rattle.script_run.proofs.LongNumbers.{long_number_text}
-use Rattle.script_run.proofs.Told.{kept-stays, objects-stay}
+use Rattle.script_run.proofs.Told.{event-tells, kept-stays, objects-stay}
 use Rattle.script_run.proofs.Turns.{history_after-append}
 
 -- ---- lines of turns
@@ -72,13 +74,7 @@ refused-skip H r =
     (record { bytes = refl; short = omega arith }, (number_text (refusal_number r) (one_digit r), (refusal_text r, tt))) (omega arith))
 
 event-skip : (H : List Event) (happened : EventKind) → MaySkip (line (event_turn H happened))
-event-skip H (kind.Begin t) = told_skips _ refl
-event-skip H (kind.Op t x k) = told_skips _ refl
-event-skip H (kind.Busy c t x u) = told_skips _ refl
-event-skip H (kind.None t x c) = told_skips _ refl
-event-skip H (kind.Commit t) = told_skips _ refl
-event-skip H (kind.Abort t) = told_skips _ refl
-event-skip H (kind.Rollback t n) = told_skips _ refl
+event-skip H happened = told_skips (line (event_turn H happened)) (not-true (is_comment (line (event_turn H happened))) (event-tells H happened))
 
 accepted-skip : (H : List Event) (happened : Option EventKind) → MaySkip (line (accepted_turn H happened))
 accepted-skip H (Some happened) = event-skip H happened

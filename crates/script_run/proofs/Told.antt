@@ -3,7 +3,9 @@ use Rattle.std.proofs.Common.{◌≡◌, ℕ, suc, Bool, true, false, List, [], 
 use Rattle.std.proofs.lemmas.Grind.{flat_map-append}
 use Rattle.std.proofs.lemmas.List.{map-append}
 use Rattle.std.proofs.lemmas.List.Elements.{filter-append}
-use Rattle.line_text.specs.Spelling.{text_of as text_of_lines}
+use Rattle.line_text.specs.Comments.{tells as tells_line}
+use Rattle.line_text.specs.Spelling.{spaced, text_of as text_of_lines}
+use Rattle.type_table.specs.Operation.{amount_of, place_of}
 use Rattle.object_trait.specs.Object.{Object}
 use Rattle.object_trait.specs.declared.event.Event.{Event}
 use Rattle.object_trait.specs.declared.event.EventKind.{EventKind}
@@ -14,9 +16,10 @@ use Rattle.serial_order.specs.Replay.{refusal, event_of}
 use Rattle.serial_order.specs.declared.command.Command.{Command}
 use Rattle.serial_order.specs.declared.refusal.Refusal.{Refusal}
 use Rattle.serial_order.specs.declared.refusal.Refusal.TheVariants.{NoMemory}
-use Rattle.store_text.specs.declared.line.Line.TheVariants.{End}
+use Rattle.store_text.specs.declared.line.Line.TheVariants.{End, Entry}
 use Rattle.store_text.specs.declared.line.ObjectLine.{ObjectLine}
 use Rattle.history_text.specs.Canonical.{words_of, object_line, event_line, canonical_text}
+use Rattle.history_text.specs.Events.{op_line}
 use Rattle.script_run.specs.Turns.{Turn, line_of, text_of, history_after, by_script, event_turn, refused_turn, answered_turn, command_turn, object_turn, object_turns, command_turns, abort_turns, closing_turns, open_in, end_turn, kept_turns}
 use Rattle.script_run.specs.Laws.{tells, TextTellsHistory}
 use Rattle.script_run.proofs.Turns.{history_after-append, text_of-append}
@@ -53,10 +56,15 @@ told-join H xs ys p q =
           ∙ sym (event_text-append p.happened q.happened);
     }
 
--- an event's line is no comment
-event-tells : (H : List Event) (happened : EventKind) → tells (event_turn H happened) ≡ true
+-- the line of an operation is no comment, with an amount and without one
+op-tells : (w t x k : ℕ) (amount : Option ℕ) → tells_line (spaced (words_of (Entry (op_line w t x k amount)))) ≡ true
+op-tells w t x k None = refl
+op-tells w t x k (Some n) = refl
+
+-- nor is that of any event
+pub event-tells : (H : List Event) (happened : EventKind) → tells (event_turn H happened) ≡ true
 event-tells H (kind.Begin t) = refl
-event-tells H (kind.Op t x k) = refl
+event-tells H (kind.Op t x k) = op-tells 0 t x (place_of k) (amount_of k)
 event-tells H (kind.Busy c t x u) = refl
 event-tells H (kind.None t x c) = refl
 event-tells H (kind.Commit t) = refl

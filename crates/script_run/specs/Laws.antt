@@ -1,7 +1,9 @@
 -- Statements of laws of a script's turns.
-use Rattle.std.specs.Prelude.{◌≡◌, ℕ, suc, ◌<◌, ◌≤◌, ◌^◌, List, [], ◌++◌, length, map, filter, take, Bool, false, Some, Ok, slice_get}
+use Rattle.std.specs.Prelude.{◌≡◌, ℕ, suc, ◌<◌, ◌≤◌, ◌^◌, List, [], ◌++◌, length, map, filter, take, Bool, false, true, Some, IfSome, Ok, slice_get}
 use Rattle.std.specs.List.{AllByRecursion}
-use Rattle.type_table.specs.Limits.{most_events, most_objects, most_ops}
+use Rattle.type_table.specs.Limits.{most_events, most_objects}
+use Rattle.type_table.specs.Operation.{amount_of, place_of}
+use Rattle.type_table.specs.Table.{Table, has_op}
 use Rattle.line_text.specs.Comments.{IsComment, lines_text, tells as tells_line}
 use Rattle.line_text.specs.Outcome.{outcome_of}
 use Rattle.line_text.specs.Spelling.{spaced}
@@ -15,7 +17,7 @@ use Rattle.serial_order.specs.declared.command.Command.{Command}
 use Rattle.store_text.specs.declared.line.ObjectLine.{ObjectLine}
 use Rattle.store_text.specs.Body.{store_rules}
 use Rattle.history_text.specs.Canonical.{AreInRange, canonical_lines, canonical_text}
-use Rattle.history_text.specs.Events.{events}
+use Rattle.history_text.specs.Events.{events, is_amount, is_operation}
 use Rattle.script_run.specs.Turns.{Turn, text_of, history_after, command_turns, closing_turns, open_in, by_script, script_turns}
 
 -- the history after the commands' turns is that of their replay
@@ -72,11 +74,20 @@ ScriptIsByOne =
     (objects : List Object) (most : ℕ) (memory_refused : ℕ → Bool) (kept : List ℕ) (lines : List ObjectLine) (commands : List Command)
     → AllByRecursion (λ (e : Event). e.worker ≡ 0) (history_after [] (script_turns objects most memory_refused kept [] lines commands))
 
--- what is known of the history of a run that a text may have: over objects of tables, each named by a line, by workers whose numbers
--- a byte holds
+-- an operation's place, and its amount where it has one, are in the ranges of a history's text
+pub record IsOpInRange (k : ℕ) : Type 0 where
+  pub place : is_operation (place_of k) ≡ true
+  pub amount : IfSome (amount_of k) (λ n. is_amount n ≡ true)
+
+-- and so are those of each operation of a table
+abbrev pub AreOpsInRange : Table → Type 0
+AreOpsInRange T = (k : ℕ) → has_op T k ≡ true → IsOpInRange k
+
+-- what is known of the history of a run that a text may have: over objects whose operations are in its ranges, each named by a line, by
+-- workers whose numbers a byte holds
 pub record MayBeTold (lines : List ObjectLine) (objects : List Object) (H : List Event) : Type 0 where
   pub run : IsRun objects H
-  pub ops_fit : (x : ℕ) (o : Object) → slice_get objects x ≡ Some o → length o.table.ops ≤ most_ops
+  pub ops_fit : (x : ℕ) (o : Object) → slice_get objects x ≡ Some o → AreOpsInRange o.table
   pub as_many : length objects ≡ length lines
   pub some_object : 0 < length lines
   pub objects_fit : length lines ≤ most_objects

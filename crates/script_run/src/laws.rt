@@ -54,8 +54,8 @@ pub fn script_is_by_one()
     ensures { ScriptIsByOne }
 {}
 
-/// The history of a run is in the ranges of a history's text: with at most 256 objects over tables of
-/// at most 64 operations, and at most 1,000,000 events.
+/// The history of a run is in the ranges of a history's text: with at most 256 objects, whose operations
+/// have places below 64 and amounts of 32 bits, and at most 1,000,000 events.
 pub fn run_is_in_range()
     ensures { RunIsInRange }
 {

@@ -22,6 +22,7 @@ use Rattle.serial_order.proofs.Runs.{transactions_in_run, pending_is_open, open_
 use Rattle.serial_order.proofs.Pairs.{each-rest, each-from_map}
 use Rattle.serial_order.proofs.RepresentUndo.{undo_represents-run}
 use Rattle.serial_order.proofs.RepresentEscrow.{as_deferred, escrow_stops-alike}
+use Rattle.table_checker.proofs.TableOps.{op_below}
 use Rattle.serial_order.proofs.RepresentDeferred.{deferred_represents-run}
 
 -- ---- what is legal
@@ -98,7 +99,7 @@ pub machine_may_apply : RunsAlong → MachineMayApply
 machine_may_apply along = λ objects H w t x k m run may place represents room.
     let does = rw place at may.1 in
     record {
-      operation = does.0;
+      operation = op_below m.checked.file.table k does.0;
       legal = (allows_alike along m x H t k may.0 represents).1 does.1;
       free = log_free m.checked.kind (object m) refl m.base m.log x (summary H) t k (transactions_in_run objects H run) represents does.2;
       room = room;

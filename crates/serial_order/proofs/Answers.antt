@@ -1,14 +1,15 @@
 -- The answer of a call is one that the machine allows.
-use Rattle.std.proofs.Common.{◌≡◌, ℕ, zero, suc, ◌<◌, Bool, true, false, not, cond, nat_lt, List, [], ◌∷◌, length, Option, Some, None, MatchOption, is_some, refl, inl, inr, arith}
+use Rattle.std.proofs.Common.{◌≡◌, ℕ, zero, suc, ◌<◌, Bool, true, false, not, cond, nat_lt, List, [], ◌∷◌, length, Option, Some, None, MatchOption, is_some, refl, ap, ◌∙◌, inl, inr, arith}
 use Rattle.std.specs.List.{AllByRecursion}
 use Rattle.std.specs.Prelude.{slice_get, Contains}
 use Rattle.std.proofs.lemmas.Bool.{cases_eq, false≢true, true≢false, and_parts, and_from, not-true, not-false, ltb-true}
 use Rattle.object_trait.specs.Object.{Object}
-use Rattle.type_table.specs.Table.{is_same_call}
+use Rattle.std.proofs.lemmas.Slice.Eq.{bytes_eq-Decides}
+use Rattle.type_table.specs.Table.{call_of, has_op, is_same_call}
 use Rattle.serial_order.specs.Operations.{at_object}
 use Rattle.serial_order.specs.History.{Summary, summary, is_open}
 use Rattle.serial_order.specs.View.{is_legal_for, conflicts_with, is_of_call}
-use Rattle.serial_order.specs.Machine.{IsFirstOfCall, IsBlocked, IsFirstLegal, MayDo, MayBeBusy, May}
+use Rattle.serial_order.specs.Machine.{IsFirstOfCall, IsBlocked, IsFirstLegal, IsBusyWith, MayDo, May}
 use Rattle.type_table.specs.Least.{found_or, first_below}
 use Rattle.serial_order.specs.Answer.{earliest, blocker, is_reply, is_free_reply, busy_with, refused, event_of_first, event_of_call}
 use Rattle.serial_order.specs.Laws.{AnswerMayFollow}
@@ -92,12 +93,18 @@ module _ (o : Object) (s : Summary) (x t c : ℕ) where
   of_call_below : (k : ℕ) → is_of_call o c k ≡ true → k < length o.table.ops
   of_call_below k of_call = ltb-true k (length o.table.ops) (and_parts (nat_lt k (length o.table.ops)) (is_same_call o.table k c) of_call).0
 
+  -- and it has a name where the call has one
+  of_call_named : (k : ℕ) → has_op o.table c ≡ true → is_of_call o c k ≡ true → has_op o.table k ≡ true
+  of_call_named k named of_call =
+      let same = (bytes_eq-Decides (call_of o.table k) (call_of o.table c)).0 (and_parts (nat_lt k (length o.table.ops)) (is_same_call o.table k c) of_call).1 in
+      ap (λ (name : List ℕ). nat_lt 0 (length name)) same ∙ named
+
   -- a free reply may be done
-  free_may_do : (k : ℕ) → is_free_reply o s x t c k ≡ true → MayDo (Some o) s x t k
-  free_may_do k free =
+  free_may_do : (k : ℕ) → has_op o.table c ≡ true → is_free_reply o s x t c k ≡ true → MayDo (Some o) s x t k
+  free_may_do k named free =
       let parts = and_parts (is_reply o s x t c k) (not (is_some (blocker o s x t k))) free in
       let reply = reply_parts k parts.0 in
-      (of_call_below k reply.0, reply.1, unblocked k (blocker o s x t k) (blocker_found k) (not-true (is_some (blocker o s x t k)) parts.1))
+      (of_call_named k named reply.0, reply.1, unblocked k (blocker o s x t k) (blocker_found k) (not-true (is_some (blocker o s x t k)) parts.1))
 
   -- an operation of the call that isn't a reply isn't legal
   not_legal : (k : ℕ) → is_of_call o c k ≡ true → is_reply o s x t c k ≡ false → is_legal_for o s x t k ≡ false
@@ -121,7 +128,7 @@ module _ (o : Object) (s : Summary) (x t c : ℕ) where
 
   -- with a blocker of the first legal operation, the call may be busy
   busy : IsFirstOfCall o c → NoneBelow (is_free_reply o s x t c) (length o.table.ops) → (k : ℕ) → IsFirstBelow (is_reply o s x t c) (length o.table.ops) k →
-      (held : Entry) → IsFound (conflicts_with o s x t k) (at_object x s.survives) held → MayBeBusy (Some o) s x t c held.by
+      (held : Entry) → IsFound (conflicts_with o s x t k) (at_object x s.survives) held → IsBusyWith o s x t c held.by
   busy least none k found held conflicting = record {
     least = least;
     all_blocked = λ j of_call legal. blocked j (blocker o s x t j) (blocker_found j) (none_free none j (and_from (is_of_call o c j) (is_legal_for o s x t j) of_call legal));
@@ -138,20 +145,20 @@ module _ (o : Object) (s : Summary) (x t c : ℕ) where
     busy_follows : NoneBelow (is_free_reply o s x t c) (length o.table.ops) → (k : ℕ) → IsFirstBelow (is_reply o s x t c) (length o.table.ops) k →
         (found : Option Entry) → BlockerIs k found → is_some found ≡ true → May objects s (busy_with found t x c)
     busy_follows none k first None held some = absurd (false≢true some)
-    busy_follows none k first (Some e) held some = (is_there, rw there (busy least none k first e held))
+    busy_follows none k first (Some e) held some = (is_there, rw there (c, refl, busy least none k first e held))
 
     -- the answer to a call with no free reply
     refused_follows : NoneBelow (is_free_reply o s x t c) (length o.table.ops) → (found : Option ℕ) →
         MatchOption found (NoneBelow (is_reply o s x t c) (length o.table.ops)) (IsFirstBelow (is_reply o s x t c) (length o.table.ops)) →
         May objects s (refused o s x t c found)
-    refused_follows none None no_reply = (is_there, rw there (least, λ k of_call. not_legal k of_call (no_reply k (of_call_below k of_call))))
+    refused_follows none None no_reply = (is_there, rw there (c, refl, least, λ k of_call. not_legal k of_call (no_reply k (of_call_below k of_call))))
     refused_follows none (Some k) first = busy_follows none k first (blocker o s x t k) (blocker_found k) (none_free none k first.passes)
 
     -- the answer to a call
     answered_follows : (found : Option ℕ) →
         MatchOption found (NoneBelow (is_free_reply o s x t c) (length o.table.ops)) (IsFirstBelow (is_free_reply o s x t c) (length o.table.ops)) →
         May objects s (event_of_first o s x t c found)
-    answered_follows (Some k) free = (is_there, rw there (free_may_do k free.passes))
+    answered_follows (Some k) free = (is_there, rw there (free_may_do k least.0 free.passes))
     answered_follows None none = refused_follows none (first_below (length o.table.ops) (is_reply o s x t c)) (first_below-least (is_reply o s x t c) (length o.table.ops))
 
     -- and so the event of a call

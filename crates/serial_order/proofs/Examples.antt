@@ -19,7 +19,7 @@ one_way-doesnt_look looks = false≢true (looks (2 ∷ []) refl)
 
 -- counting down is the only operation of its call
 down-least : IsFirstOfCall undo_counter 1
-down-least = (omega arith, below_more (λ k. is_of_call undo_counter 1 k ≡ false) 0 (below_none (λ k. is_of_call undo_counter 1 k ≡ false)) refl)
+down-least = (refl, below_more (λ k. is_of_call undo_counter 1 k ≡ false) 0 (below_none (λ k. is_of_call undo_counter 1 k ≡ false)) refl)
 
 -- a call to count down may be answered to be busy with transaction 0, which holds the lock
 pub lock-may_be_busy : MayFollow (undo_counter ∷ []) (take 4 lock_history) (record { worker = 0; kind = Busy 1 1 0 0 })

@@ -11,7 +11,8 @@ use Rattle.object_trait.specs.declared.event.EventKind.TheVariants.{Begin, Op, B
 use Rattle.serial_order.specs.Operations.{is_by}
 use Rattle.serial_order.specs.History.{Summary, summary, is_begin, surviving}
 use Rattle.serial_order.specs.Machine.{May, MayDo, MayBeBusy, MayHaveNone, IsRun, MayFollow}
-use Rattle.serial_order.specs.After.{AreInRun, AreBelow, NumbersInRun}
+use Rattle.type_table.specs.Operation.{place_of}
+use Rattle.serial_order.specs.After.{AreInRun, AreBelow, ArePlaces, NumbersInRun}
 use Rattle.serial_order.specs.declared.entry.Entry.{Entry}
 use Rattle.serial_order.proofs.Events.{begun_after, begins-snoc, surviving-snoc}
 use Rattle.serial_order.proofs.Pairs.{each-at}
@@ -28,28 +29,27 @@ below-more objects ops n (Commit t) h = omega (arith, h)
 below-more objects ops n (Abort t) h = omega (arith, h)
 below-more objects ops n (Rollback t m) h = (omega (arith, h.0), h.1, omega (arith, h.2))
 
-module _ (objects : List Object) (ops : ℕ) (few : (x : ℕ) (o : Object) → slice_get objects x ≡ Some o → length o.table.ops ≤ ops) where
+module _ (objects : List Object) (ops : ℕ) (few : (x : ℕ) (o : Object) → slice_get objects x ≡ Some o → ArePlaces ops o.table) where
   abbrev Below : ℕ → EventKind → Type 0
   Below n happened = AreBelow (length objects) ops n happened
 
   -- what is asked of an object's operation is asked of one that is there
-  op-below : (s : Summary) (x t k : ℕ) (o : Option Object) → slice_get objects x ≡ o → MayDo o s x t k → (x < length objects) × (k < ops)
+  op-below : (s : Summary) (x t k : ℕ) (o : Option Object) → slice_get objects x ≡ o → MayDo o s x t k → (x < length objects) × (place_of k < ops)
   op-below s x t k None at may = absurd may
-  op-below s x t k (Some o) at may = let most = few x o at in (slice_get_within objects x o at, omega (arith, most, may.0))
+  op-below s x t k (Some o) at may = (slice_get_within objects x o at, few x o at k may.0)
 
   none-below : (s : Summary) (x t c : ℕ) (o : Option Object) → slice_get objects x ≡ o → MayHaveNone o s x t c → (x < length objects) × (c < ops)
   none-below s x t c None at may = absurd may
-  none-below s x t c (Some o) at may = let most = few x o at in (slice_get_within objects x o at, omega (arith, most, may.0.0))
+  none-below s x t c (Some o) at may = (slice_get_within objects x o at, subst (λ place. place < ops) may.1 (few x o at may.0 may.2.0))
 
   -- the holder has an operation that survives, so it began
   busy-below : (s : Summary) (x t c u : ℕ) (o : Option Object) → AreInRun s → slice_get objects x ≡ o → MayBeBusy o s x t c u
       → (x < length objects) × (c < ops) × (u < s.begun)
   busy-below s x t c u None known at may = absurd may
   busy-below s x t c u (Some o) known at may =
-      let most = few x o at in
       let lives = each-filter _ (λ (e : Entry). e.at == x) s.survives known.survive in
-      let began = each-at _ _ may.held lives may.survives in
-      (slice_get_within objects x o at, omega (arith, most, may.least.0), subst (λ v. v < s.begun) may.holder began.0)
+      let began = each-at _ _ may.2.held lives may.2.survives in
+      (slice_get_within objects x o at, subst (λ place. place < ops) may.1 (few x o at may.0 may.2.least.0), subst (λ v. v < s.begun) may.2.holder began.0)
 
   -- an event that may come next, where no more transactions began and no more operations survive than there are events
   next-below : (s : Summary) (n : ℕ) (happened : EventKind) → AreInRun s → s.begun ≤ n → length s.survives ≤ n → May objects s happened → Below (n + 1) happened

@@ -1,6 +1,7 @@
 -- What comes of a list of commands is a run.
-use Rattle.std.proofs.Common.{◌≡◌, ℕ, suc, ◌+◌, ◌<◌, ◌≤◌, Bool, true, false, not, ◌||◌, ◌==◌, List, [], ◌∷◌, ◌++◌, length, get_or, Option, Some, None, is_some, refl, ◌∙◌, inl, inr, arith, add-zero, zero-add, add-suc, suc-add}
+use Rattle.std.proofs.Common.{◌≡◌, ℕ, suc, ◌+◌, ◌<◌, ◌≤◌, Bool, true, false, not, ◌||◌, ◌==◌, List, [], ◌∷◌, ◌++◌, length, get_or, Option, Some, None, is_some, refl, ap, ◌∙◌, inl, inr, arith, add-zero, zero-add, add-suc, suc-add}
 use Rattle.std.specs.Prelude.{slice_get, nat_lt, if◌then◌else◌}
+use Rattle.std.specs.List.{position}
 use Rattle.std.specs.Str.{bytes_eq}
 use Rattle.std.proofs.lemmas.Bool.{cases_Bool, false≢true, true≢false, not-false, or_parts, and_right, eqb-false, ltb-false}
 use Rattle.std.proofs.lemmas.List.{get_or-map}
@@ -29,13 +30,20 @@ use Rattle.serial_order.proofs.Answers.{answer_may_follow}
 call_of-within : (T : Table) (k : ℕ) (d : Op) → k < length T.ops → call_of T k ≡ (get_or T.ops k d).call
 call_of-within T k d below = get_or-map (λ (o : Op). o.call) T.ops k d [] below
 
+-- what a name finds, which isn't empty
+named_first : (T : Table) (name : List ℕ) (c : ℕ) (some : Bool) → nat_lt 0 (length name) ≡ some → (if some then position (λ (q : Op). bytes_eq q.call name) T.ops else None) ≡ Some c
+    → (nat_lt 0 (length name) ≡ true) × (position (λ (q : Op). bytes_eq q.call name) T.ops ≡ Some c)
+named_first T name c true is found = (is, found)
+named_first T name c false is found = absurd cc
+
 -- the operation that a name finds is an operation, and the least of its call
 pub first_op_is_least : FirstOpIsLeast
 first_op_is_least = λ o name c found.
     let d : Op = record { call = []; reply = [] } in
-    let place = position-Some (λ (q : Op). bytes_eq q.call name) o.table.ops c d found in
+    let named = named_first o.table name c (nat_lt 0 (length name)) refl found in
+    let place = position-Some (λ (q : Op). bytes_eq q.call name) o.table.ops c d named.1 in
     let name_of_c = call_of-within o.table c d place.0 ∙ (bytes_eq-Decides (get_or o.table.ops c d).call name).0 place.1 in (
-      place.0,
+      ap (λ (n : List ℕ). nat_lt 0 (length n)) name_of_c ∙ named.0,
       λ k before. and_right (nat_lt k (length o.table.ops)) (bytes_eq (call_of o.table k) (call_of o.table c))
           (rw (name_of_c, call_of-within o.table k d (omega (arith, before, place.0))) (place.2 k before)),
     )

@@ -1,7 +1,8 @@
 -- What a history says after one more event, by what it said before; and what is known of every run. Statements of their laws.
 use Rattle.std.specs.Prelude.{◌≡◌, ℕ, suc, ◌-◌, ◌<◌, ◌≤◌, List, [], ◌∷◌, ◌++◌, length, map, Bool, true, false, not, ◌&&◌, ◌||◌, ◌==◌, Some, slice_get}
 use Rattle.std.specs.List.{flat_map, AllByRecursion}
-use Rattle.type_table.specs.Table.{Table}
+use Rattle.type_table.specs.Operation.{place_of}
+use Rattle.type_table.specs.Table.{Table, has_op}
 use Rattle.object_trait.specs.Object.{Object}
 use Rattle.object_trait.specs.Strike.{keep_first}
 use Rattle.object_trait.specs.Meaning.{Meaning, ops_of, open_of}
@@ -88,23 +89,27 @@ BeginnersAfter =
 
 -- ---- numbers of a run
 
--- the numbers of an event are below these: those of objects, of operations and of transactions. A rollback strikes some operation,
+-- the numbers of an event are below these: those of objects, of places of operations and of transactions. A rollback strikes some operation,
 -- and fewer than the last number
 abbrev pub AreBelow : ℕ → ℕ → ℕ → EventKind → Type 0
 AreBelow objects ops n (Begin t) = t < n
-AreBelow objects ops n (Op t x k) = (t < n) × (x < objects) × (k < ops)
+AreBelow objects ops n (Op t x k) = (t < n) × (x < objects) × (place_of k < ops)
 AreBelow objects ops n (Busy c t x u) = (t < n) × (x < objects) × (c < ops) × (u < n)
 AreBelow objects ops n (kind.None t x c) = (t < n) × (x < objects) × (c < ops)
 AreBelow objects ops n (Commit t) = t < n
 AreBelow objects ops n (Abort t) = t < n
 AreBelow objects ops n (Rollback t k) = (t < n) × (0 < k) × (k < n)
 
--- in a run over objects of no more operations than these, each event names what is there: an object, an operation, and transactions
+-- each operation of the table has a place below this
+abbrev pub ArePlaces : ℕ → Table → Type 0
+ArePlaces places T = (k : ℕ) → has_op T k ≡ true → place_of k < places
+
+-- in a run over objects of no more places than these, each event names what is there: an object, an operation, and transactions
 -- by numbers below the number of events, of which a rollback strikes fewer
 abbrev pub NumbersInRun : Type 0
 NumbersInRun =
     (objects : List Object) (ops : ℕ) (H : List Event) → IsRun objects H
-    → ((x : ℕ) (o : Object) → slice_get objects x ≡ Some o → length o.table.ops ≤ ops)
+    → ((x : ℕ) (o : Object) → slice_get objects x ≡ Some o → ArePlaces ops o.table)
     → AllByRecursion (λ e. AreBelow (length objects) ops (length H) e.kind) H
 
 -- ---- operations of a run, and objects that represent it

@@ -1,6 +1,7 @@
 -- The answer of a call: one of those that the machine allows.
 use Rattle.std.specs.Prelude.{ℕ, List, [], ◌∷◌, length, Bool, cond, not, ◌&&◌, Option, Some, None, is_some}
 use Rattle.type_table.specs.Least.{first_below}
+use Rattle.type_table.specs.Operation.{place_of}
 use Rattle.object_trait.specs.Object.{Object}
 use Rattle.object_trait.specs.declared.event.EventKind.{EventKind}
 use Rattle.object_trait.specs.declared.event.EventKind.TheVariants as kind
@@ -29,12 +30,12 @@ is_free_reply o s x t c k = is_reply o s x t c k && not (is_some (blocker o s x 
 
 -- `Busy` with the holder of the operation that blocks
 abbrev pub busy_with : Option Entry → ℕ → ℕ → ℕ → EventKind
-busy_with None t x c = kind.None t x c
-busy_with (Some e) t x c = Busy c t x e.by
+busy_with None t x c = kind.None t x (place_of c)
+busy_with (Some e) t x c = Busy (place_of c) t x e.by
 
 -- `Busy` where some operation is legal, with the blocker of the first legal one; else `None`
 abbrev pub refused : Object → Summary → ℕ → ℕ → ℕ → Option ℕ → EventKind
-refused o s x t c None = kind.None t x c
+refused o s x t c None = kind.None t x (place_of c)
 refused o s x t c (Some k) = busy_with (blocker o s x t k) t x c
 
 abbrev pub event_of_first : Object → Summary → ℕ → ℕ → ℕ → Option ℕ → EventKind

@@ -1,7 +1,7 @@
 -- Histories: lists of events, oldest first, and what they say (Weihl 1988).
 use Rattle.std.specs.Prelude.{◌≡◌, ℕ, ◌-◌, ◌<◌, ◌≤◌, List, [], ◌∷◌, ◌++◌, length, filter, fold, Bool, true, false, not, ◌&&◌, nat_lt, Option, Some, None, slice_get}
 use Rattle.std.specs.List.{flat_map}
-use Rattle.type_table.specs.Table.{Table}
+use Rattle.type_table.specs.Table.{Table, has_op, HasPlace}
 use Rattle.object_trait.specs.Strike.{keep_first}
 use Rattle.object_trait.specs.declared.event.Event.{Event}
 use Rattle.object_trait.specs.declared.event.EventKind.{EventKind}
@@ -67,15 +67,20 @@ is_open s t = nat_lt t s.begun && (not (is_among s.committed t) && not (is_among
 -- the object is there, and the operation is one of its table
 abbrev pub IsOperation : Option Table → ℕ → Type 0
 IsOperation None k = ⊥
-IsOperation (Some T) k = k < length T.ops
+IsOperation (Some T) k = has_op T k ≡ true
 
--- the event names what is there: a new transaction by its number, else an open one, objects and operations of their tables; and a
+-- the object is there, and some operation of its table has this place
+abbrev pub IsPlace : Option Table → ℕ → Type 0
+IsPlace None place = ⊥
+IsPlace (Some T) place = HasPlace T place
+
+-- the event names what is there: a new transaction by its number, else an open one, objects and operations of their tables, or places; and a
 -- rollback strikes at least one operation and no more than its transaction has
 abbrev pub ContinuesHistory : List Table → Summary → EventKind → Type 0
 ContinuesHistory tables s (Begin t) = t ≡ s.begun
 ContinuesHistory tables s (Op t x k) = (is_open s t ≡ true) × IsOperation (slice_get tables x) k
-ContinuesHistory tables s (Busy c t x u) = (is_open s t ≡ true) × IsOperation (slice_get tables x) c
-ContinuesHistory tables s (kind.None t x c) = (is_open s t ≡ true) × IsOperation (slice_get tables x) c
+ContinuesHistory tables s (Busy c t x u) = (is_open s t ≡ true) × IsPlace (slice_get tables x) c
+ContinuesHistory tables s (kind.None t x c) = (is_open s t ≡ true) × IsPlace (slice_get tables x) c
 ContinuesHistory tables s (Commit t) = is_open s t ≡ true
 ContinuesHistory tables s (Abort t) = is_open s t ≡ true
 ContinuesHistory tables s (Rollback t n) = (is_open s t ≡ true) × (0 < n) × (n ≤ length (of t s.survives))

@@ -1,6 +1,8 @@
 -- The machine: which event the locks admit after a history, and its runs (Weihl's commutativity-based locking).
 use Rattle.std.specs.Prelude.{◌≡◌, ℕ, ◌<◌, ◌≤◌, List, [], ◌∷◌, ◌++◌, length, true, false, Option, Some, None, slice_get, Contains}
 use Rattle.std.specs.List.{AllByRecursion}
+use Rattle.type_table.specs.Operation.{place_of}
+use Rattle.type_table.specs.Table.{has_op}
 use Rattle.object_trait.specs.Object.{Object, IsCovered}
 use Rattle.object_trait.specs.declared.event.Event.{Event}
 use Rattle.object_trait.specs.declared.event.EventKind.{EventKind}
@@ -13,7 +15,7 @@ use Rattle.serial_order.specs.declared.entry.Entry.{Entry}
 
 -- c is the least operation of its call
 abbrev pub IsFirstOfCall : Object → ℕ → Type 0
-IsFirstOfCall o c = (c < length o.table.ops) × ((k : ℕ) → k < c → is_of_call o c k ≡ false)
+IsFirstOfCall o c = (has_op o.table c ≡ true) × ((k : ℕ) → k < c → is_of_call o c k ≡ false)
 
 -- an operation of another open transaction at x conflicts with k
 abbrev pub IsBlocked : Object → Summary → ℕ → ℕ → ℕ → Type 0
@@ -29,12 +31,14 @@ pub record IsFirstLegal (o : Object) (s : Summary) (x t c k : ℕ) : Type 0 wher
 abbrev pub MayDo : Option Object → Summary → ℕ → ℕ → ℕ → Type 0
 MayDo None s x t k = ⊥
 MayDo (Some o) s x t k =
-    (k < length o.table.ops) × (is_legal_for o s x t k ≡ true) × AllByRecursion (λ e. conflicts_with o s x t k e ≡ false) (at_object x s.survives)
+    (has_op o.table k ≡ true) × (is_legal_for o s x t k ≡ true) × AllByRecursion (λ e. conflicts_with o s x t k e ≡ false) (at_object x s.survives)
 
--- `None`: no operation of the call is legal
+-- `None`: no operation of the call is legal. An answer without a reply tells of its call the place of the first operation, and no amount:
+-- it may be told where there is such a call
 abbrev pub MayHaveNone : Option Object → Summary → ℕ → ℕ → ℕ → Type 0
 MayHaveNone None s x t c = ⊥
-MayHaveNone (Some o) s x t c = IsFirstOfCall o c × ((k : ℕ) → is_of_call o c k ≡ true → is_legal_for o s x t k ≡ false)
+MayHaveNone (Some o) s x t place =
+    (c : ℕ) × (place_of c ≡ place) × IsFirstOfCall o c × ((k : ℕ) → is_of_call o c k ≡ true → is_legal_for o s x t k ≡ false)
 
 -- `Busy`: each legal operation of the call is blocked, and u holds one that blocks the first legal one
 pub record IsBusyWith (o : Object) (s : Summary) (x t c u : ℕ) : Type 0 where
@@ -49,7 +53,7 @@ pub record IsBusyWith (o : Object) (s : Summary) (x t c u : ℕ) : Type 0 where
 
 abbrev pub MayBeBusy : Option Object → Summary → ℕ → ℕ → ℕ → ℕ → Type 0
 MayBeBusy None s x t c u = ⊥
-MayBeBusy (Some o) s x t c u = IsBusyWith o s x t c u
+MayBeBusy (Some o) s x t place u = (c : ℕ) × (place_of c ≡ place) × IsBusyWith o s x t c u
 
 -- the event may come next
 abbrev pub May : List Object → Summary → EventKind → Type 0

@@ -1,3 +1,5 @@
+use type_table::Operation;
+
 /// An operation that a transaction executed at an object.
 #[derive(Clone, Copy, Debug, PartialEq, Eq)]
 pub struct Entry {
@@ -5,6 +7,6 @@ pub struct Entry {
     pub by: u32,
     /// The object, by its place.
     pub at: u32,
-    /// The operation, by its number in the object's table.
-    pub op: u8,
+    /// The operation.
+    pub op: Operation,
 }

@@ -12,7 +12,7 @@ use request_text::TransactionName;
 use serial_order::Refusal;
 use sqlite_trees::store::Alter;
 use store::Store;
-use type_table::Name;
+use type_table::{Name, Op, Operation};
 
 impl<S: Alter> Session<S> {
     /// What a call would be answered now.
@@ -24,7 +24,7 @@ impl<S: Alter> Session<S> {
         }
         let store = self.store.store();
         let answer = store.would_bytes(t.number, x, name.as_bytes());
-        call_answer(store, self.life, x, answer)
+        call_answer(store, self.life, x, &answer)
     }
 
     /// The kept state of the object at x.
@@ -57,11 +57,11 @@ pub(crate) fn call_answer(
     store: &Store<Object>,
     life: u32,
     x: u32,
-    answer: Result<Answer, Refusal>,
+    answer: &Result<Answer, Refusal>,
 ) -> AnswerLine
-    ensures { result ≡ call_answer store.now life x answer }
+    ensures { result ≡ call_answer store.now life x answer.now }
 {
-    match answer {
+    match *answer {
         Ok(Answer::Reply(k)) => reply_at(store, x, k),
         Ok(Answer::Busy(number)) => AnswerLine::Busy {
             blocker: TransactionName { life, number },
@@ -72,14 +72,19 @@ pub(crate) fn call_answer(
 }
 
 /// The reply of operation k of the object at x.
-fn reply_at(store: &Store<Object>, x: u32, k: u8) -> AnswerLine
+fn reply_at(store: &Store<Object>, x: u32, k: Operation) -> AnswerLine
     ensures { result ≡ reply_of (op_at store.now x k) }
 {
-    let Some(checked) = store.checked(x) else {
-        return AnswerLine::Nothing;
-    };
-    match checked.ops().get(k as usize) {
+    match op_at(store, x, k) {
         Some(op) => AnswerLine::Reply { reply: op.reply },
         None => AnswerLine::Nothing,
     }
+}
+
+/// Operation k of the object at x, where its type has it.
+fn op_at(store: &Store<Object>, x: u32, k: Operation) -> Option<Op>
+    ensures { result ≡ op_at store.now x k }
+{
+    let checked = store.checked(x)?;
+    checked.op(k)
 }

@@ -68,7 +68,7 @@ impl<S: Alter> Session<S> {
             return Ok(not_open());
         }
         let answer = self.store.call(t.number, x, name.as_bytes())?;
-        Ok(call_answer(self.store.store(), self.life, x, answer))
+        Ok(call_answer(self.store.store(), self.life, x, &answer))
     }
 
     /// Commits a transaction. It is answered only once it is settled.

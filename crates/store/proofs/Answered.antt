@@ -5,6 +5,7 @@ use Rattle.std.proofs.lemmas.Bool.Decides.{nat_tests}
 use Rattle.std.proofs.lemmas.List.{length-map}
 use Rattle.std.proofs.lemmas.Option.{same_Some, slice_get_within}
 use Rattle.type_table.proofs.Elements.{element_at}
+use Rattle.type_table.specs.Operation.{place_of}
 use Rattle.type_table.specs.Table.{call_of}
 use Rattle.object_trait.specs.Object.{Object, object_of}
 use Rattle.object_trait.specs.Meaning.{Meaning, object}
@@ -34,7 +35,7 @@ use Rattle.store_laws.specs.Words.{as_event, AnswersAsDefined}
 use Rattle.store_laws.specs.Events.{takes, QuietMoves, OpMoves, TypesStay, RoomAfter}
 use Rattle.store_laws.proofs.Objects.{object-at}
 use Rattle.store.specs.Calls.{Comes}
-use Rattle.store.specs.Executed.{IsExecuted}
+use Rattle.store.specs.Executed.{IsExecuted, IsDone}
 use Rattle.store.specs.Whole.{IsWhole}
 use Rattle.store.proofs.Pasts.{past-test}
 use Rattle.store.proofs.Stored.{stored, shown, event-whole}
@@ -149,15 +150,19 @@ room-left H max room = grind (arith, nat_tests, room)
 
 -- ---- its answer
 
--- is that of the event that the history defines
+-- the event that the history defines is that of the object's answer
+pub event-defined : AnswersAsDefined → (ms : List Meaning) (rows : List (Option Row)) (H : List Event) (t x c : ℕ) (m : Meaning) → IsKept (keeping ms rows) H
+    → is_open (summary H) t ≡ true → slice_get ms x ≡ Some m → call_event (slice_get (objects_of ms) x) (summary H) x t (Some c) ≡ Some (as_event t x c (answer_of m t c))
+event-defined defined ms rows H t x c m kept going there =
+    ap (λ o. call_event o (summary H) x t (Some c)) (object-at ms x m there)
+    ∙ ap Some (sym (defined (objects_of ms) m x H t c kept.run (kept.objects x m there).represents going))
+
+-- which a call is given
 pub answer-defined : {ms : List Meaning} {rows : List (Option Row)} {H : List Event} {t x : ℕ} {call : Call} {m : Meaning} {a : Answer}
     → IsCalled ms rows H t x call m → a ≡ answer_of m t call.first → AnswersAsDefined
     → call_event (slice_get (objects_of ms) x) (summary H) x t (Some call.first) ≡ Some (as_event t x call.first a)
-answer-defined {ms} {H = H} {t = t} {x = x} {call = call} {m = m} called is_answer defined =
-    let event =
-    ap (as_event t x call.first) is_answer
-    ∙ defined (objects_of ms) m x H t call.first called.kept.run (called.kept.objects x m called.there).represents called.going in
-    ap (λ o. call_event o (summary H) x t (Some call.first)) (object-at ms x m called.there) ∙ ap Some (sym event)
+answer-defined {ms} {rows} {H} {t} {x} {call} {m} called is_answer defined =
+    event-defined defined ms rows H t x call.first m called.kept called.going called.there ∙ ap (λ a. Some (as_event t x call.first a)) (sym is_answer)
 
 module _ {ms : List Meaning} {rows : List (Option Row)} {H : List Event} {t x : ℕ} {call : Call} {m : Meaning} {a : Answer}
     (given : IsGiven ms rows H t x call m a) where
@@ -185,18 +190,6 @@ module _ {ms : List Meaning} {rows : List (Option Row)} {H : List Event} {t x : 
 
 -- ---- what it changes
 
--- a reply executes its operation, and any other answer changes nothing
-abbrev pub IsDone : Answer → ℕ → ℕ → List Meaning → List Meaning → List (Option Row) → List (Option Row) → Type 0
-IsDone (answer.Reply k) t x ms now rows left = IsExecuted t x k ms now rows left
-IsDone a t x ms now rows left = (now ≡ ms) × (left ≡ rows)
-
--- an answer that is no reply changes nothing
-pub quiet-done : (a : Answer) (t x : ℕ) (ms : List Meaning) (rows : List (Option Row)) → ((k : ℕ) → a ≡ answer.Reply k → ⊥)
-    → IsDone a t x ms ms rows rows
-quiet-done (answer.Reply k) t x ms rows another = absurd (another k refl)
-quiet-done (answer.Busy u) t x ms rows another = (refl, refl)
-quiet-done answer.None t x ms rows another = (refl, refl)
-
 -- it takes room for one event
 answer-takes : (t x c : ℕ) (a : Answer) → takes (as_event t x c a) ≡ 1
 answer-takes t x c (answer.Reply k) = refl
@@ -220,9 +213,9 @@ answer-moved quiet op ms now rows left H w t x c (answer.Reply k) kept going don
     op (keeping ms rows) (keeping now left) H w t x k found.0 done.m kept found.1 done.there done.object
     (done.row ∙ ap (λ r. set rows t (option_map (pushed x) r)) found.1)
 answer-moved quiet op ms now rows left H w t x c (answer.Busy u) kept going done =
-    (quiet (keeping ms rows) (keeping now left) H w t x c kept done.0 done.1).0 u
+    (quiet (keeping ms rows) (keeping now left) H w t x (place_of c) kept done.0 done.1).0 u
 answer-moved quiet op ms now rows left H w t x c answer.None kept going done =
-    (quiet (keeping ms rows) (keeping now left) H w t x c kept done.0 done.1).1
+    (quiet (keeping ms rows) (keeping now left) H w t x (place_of c) kept done.0 done.1).1
 
 module _ (quiet : QuietMoves) (op : OpMoves) (types : TypesStay) (ms now : List Meaning) (rows left : List (Option Row)) (H after : List Event)
     (w t x c : ℕ) (a : Answer) (kept : IsKept (keeping ms rows) H) (going : table.is_open rows t ≡ true) (done : IsDone a t x ms now rows left)

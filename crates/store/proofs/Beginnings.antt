@@ -8,7 +8,7 @@ use Rattle.table_checker.specs.Checked.{Checked, IsChecked}
 use Rattle.object_trait.specs.Meaning.{Meaning}
 use Rattle.object_trait.specs.declared.event.Event.{Event}
 use Rattle.serial_order.specs.Laws.{AreChecked}
-use Rattle.object_calls.specs.Calls.{IsCallTable}
+use Rattle.object_calls.specs.Calls.{HoldsCalls}
 use Rattle.object_calls.specs.declared.call.NamedCall.{NamedCall}
 use Rattle.open_transactions.specs.Transactions.{Row}
 use Rattle.store_laws.specs.Stored.{types_of}
@@ -42,11 +42,11 @@ pub record HasFirstCalls (ms : List Meaning) (calls : List (List NamedCall)) (ca
   pub as_many : length calls ≡ i
   pub room : length ms ≤ capacity
   pub checked : FirstAre (λ m. IsChecked m.checked) ms i
-  pub each : (x : ℕ) (m : Meaning) (its : List NamedCall) → slice_get ms x ≡ Some m → slice_get calls x ≡ Some its → IsCallTable m.checked.file.table its
+  pub each : (x : ℕ) (m : Meaning) (its : List NamedCall) → slice_get ms x ≡ Some m → slice_get calls x ≡ Some its → HoldsCalls m.checked.file.table its
 
 -- those of one more
 pub calls-more : (ms : List Meaning) (calls more : List (List NamedCall)) (its : List NamedCall) (capacity i : ℕ) (m : Meaning) → HasFirstCalls ms calls capacity i
-    → slice_get ms i ≡ Some m → IsChecked m.checked → IsCallTable m.checked.file.table its → more ≡ calls ++ its ∷ [] → HasFirstCalls ms more capacity (i + 1)
+    → slice_get ms i ≡ Some m → IsChecked m.checked → HoldsCalls m.checked.file.table its → more ≡ calls ++ its ∷ [] → HasFirstCalls ms more capacity (i + 1)
 calls-more ms calls more its capacity i m first is checked table pushed =
     record {
       as_many = ap length pushed ∙ length-append calls (its ∷ []) ∙ ap (λ n. n + 1) first.as_many;
@@ -58,7 +58,7 @@ calls-more ms calls more its capacity i m first is checked table pushed =
             | inr last ↦
                 let same : x ≡ i = last.0 ∙ first.as_many in
                 let one : m ≡ n = same_Some m n (sym is ∙ subst (λ y. slice_get ms y ≡ Some n) same there) in
-                subst (λ ts. IsCallTable n.checked.file.table ts) last.1 (subst (λ (k : Meaning). IsCallTable k.checked.file.table its) one table)
+                subst (λ ts. HoldsCalls n.checked.file.table ts) last.1 (subst (λ (k : Meaning). HoldsCalls k.checked.file.table its) one table)
           ];
     }
 
@@ -70,7 +70,7 @@ module _ (ms : List Meaning) (calls : List (List NamedCall)) (capacity i : ℕ) 
         as_many = first.as_many ∙ all ∙ sym (length-map ms (λ (m : Meaning). m.checked));
         each = λ x c its there here.
             let found = found-map (λ (m : Meaning). m.checked) ms x c there in
-            subst (λ (k : Checked). IsCallTable k.file.table its) found.2 (first.each x found.0 its found.1 here);
+            subst (λ (k : Checked). HoldsCalls k.file.table its) found.2 (first.each x found.0 its found.1 here);
       }
 
   -- and each type was accepted

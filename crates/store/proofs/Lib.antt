@@ -19,4 +19,5 @@ pub mod Renewals
 pub mod SerialRenewals
 pub mod Follows
 pub mod FollowedOps
+pub mod Unreplied
 pub mod Replays

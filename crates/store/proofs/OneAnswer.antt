@@ -18,12 +18,12 @@ use Rattle.store.specs.Calls.{Comes, ComesIf, CallsIf}
 
 -- ---- one event says one answer
 
-answer-of : EventKind → Answer
+pub answer-of : EventKind → Answer
 answer-of (kind.Op t x k) = answer.Reply k
 answer-of (kind.Busy c t x u) = answer.Busy u
 answer-of _ = answer.None
 
-answer-told : (t x c : ℕ) (a : Answer) → answer-of (as_event t x c a) ≡ a
+pub answer-told : (t x c : ℕ) (a : Answer) → answer-of (as_event t x c a) ≡ a
 unfolding answer-of
 answer-told t x c (answer.Reply k) = refl
 answer-told t x c (answer.Busy u) = refl

@@ -1,5 +1,5 @@
 -- What a call at an object answers.
-use Rattle.std.specs.Prelude.{◌≡◌, ℕ, List, [], ◌∷◌, ◌++◌, Bool, true, false, not, if◌then◌else◌, ◌⊎◌, Option, Some, None, is_some, nat_lt, length, Result, Ok, Err, slice_get}
+use Rattle.std.specs.Prelude.{◌≡◌, ℕ, List, [], ◌∷◌, ◌++◌, Bool, true, false, not, if◌then◌else◌, ◌⊎◌, Option, Some, None, is_some, Result, Ok, Err, slice_get}
 use Rattle.type_table.specs.Table.{call_of, first_op}
 use Rattle.object_trait.specs.Object.{Object}
 use Rattle.object_trait.specs.declared.event.EventKind.{EventKind}
@@ -8,13 +8,19 @@ use Rattle.serial_order.specs.Replay.{is_full, call_at, call_event, event_of}
 use Rattle.serial_order.specs.declared.command.Command.TheVariants.{Call}
 use Rattle.serial_order.specs.declared.refusal.Refusal.{Refusal}
 use Rattle.serial_order.specs.declared.refusal.Refusal.TheVariants.{NotOpen, NoObject, NoCall, HistoryFull, NoMemory}
+use Rattle.object_calls.specs.Calls.{IsCall}
 use Rattle.object_calls.specs.declared.answer.Answer.{Answer}
+use Rattle.object_calls.specs.declared.call.Call as calls
 use Rattle.store_laws.specs.Stored.{Stored, objects, refusal_of}
 use Rattle.store_laws.specs.Words.{as_event}
 
 -- with one event more
 abbrev pub noted : Stored → ℕ → EventKind → Stored
 noted s w happened = record s { history = s.history ++ (record { worker = w; kind = happened }) ∷ [] }
+
+-- an object is there, and has the call
+abbrev pub HasCall : Option Object → calls.Call → Type 0
+HasCall at call = (o : Object) × (at ≡ Some o) × IsCall o.table call
 
 -- the event that was appended says the answer of t's call c at x
 abbrev pub Answers : Stored → ℕ → ℕ → ℕ → ℕ → Result Answer Refusal → Stored → Type 0
@@ -29,6 +35,11 @@ Comes old w t x c (Ok a) new =
 Comes old w t x c (Err r) new =
     (new ≡ old)
     × (((is_full old.max old.history 1 ≡ true) × (r ≡ HistoryFull)) ⊎ ((is_full old.max old.history 1 ≡ false) × (r ≡ NoMemory)))
+
+-- and so where its answer, which is given, is a
+abbrev pub Gives : Stored → ℕ → ℕ → ℕ → ℕ → Answer → Result (Unit {0}) Refusal → Stored → Type 0
+Gives old w t x c a (Ok given) new = Comes old w t x c (Ok a) new
+Gives old w t x c a (Err r) new = Comes old w t x c (Err r) new
 
 -- what comes of t's call c at x where it is made only if it has this answer
 abbrev pub ComesIf : Stored → ℕ → ℕ → ℕ → ℕ → Answer → Result Bool Refusal → Stored → Type 0
@@ -67,4 +78,4 @@ unnumbered s t x = if not (is_open (summary s.history) t) then NotOpen else (if 
 -- the number of the call of operation k, where the object is there and has it
 abbrev pub op_call_at : Option Object → ℕ → Option ℕ
 op_call_at None k = None
-op_call_at (Some o) k = if nat_lt k (length o.table.ops) then first_op o.table (call_of o.table k) else None
+op_call_at (Some o) k = first_op o.table (call_of o.table k)

@@ -1,7 +1,9 @@
--- What the execution of an operation changes: the object, and the row of its transaction.
+-- What an answer changes: where it is a reply, the object, and the row of the transaction.
 use Rattle.std.specs.Prelude.{◌≡◌, ℕ, List, set, Option, Some, slice_get}
 use Rattle.object_trait.specs.Meaning.{Meaning}
 use Rattle.object_trait.specs.Steps.{applied}
+use Rattle.object_calls.specs.declared.answer.Answer.{Answer}
+use Rattle.object_calls.specs.declared.answer.Answer.TheVariants as answer
 use Rattle.open_transactions.specs.Transactions.{Row, pushed, changed}
 
 -- at x there is one entry more, and t has one place more
@@ -10,3 +12,8 @@ pub record IsExecuted (t x k : ℕ) (ms now : List Meaning) (rows left : List (O
   pub there : slice_get ms x ≡ Some m
   pub object : now ≡ set ms x (applied m t k)
   pub row : left ≡ changed rows t (pushed x)
+
+-- a reply executes its operation, and any other answer changes nothing
+abbrev pub IsDone : Answer → ℕ → ℕ → List Meaning → List Meaning → List (Option Row) → List (Option Row) → Type 0
+IsDone (answer.Reply k) t x ms now rows left = IsExecuted t x k ms now rows left
+IsDone a t x ms now rows left = (now ≡ ms) × (left ≡ rows)

@@ -1,14 +1,17 @@
 -- A store follows events that it made before.
-use Rattle.std.specs.Prelude.{◌≡◌, ℕ, List, [], ◌∷◌, ◌++◌, Bool, true, false, Some, None, slice_get, Result, Ok, Err}
+use Rattle.std.specs.Prelude.{◌≡◌, ℕ, List, [], ◌∷◌, ◌++◌, Bool, true, false, Option, Some, None, slice_get, Result, Ok, Err}
 use Rattle.object_trait.specs.declared.event.Event.{Event}
 use Rattle.serial_order.specs.History.{summary}
 use Rattle.object_trait.specs.declared.event.EventKind.{EventKind}
-use Rattle.serial_order.specs.Replay.{call_at, event_of}
+use Rattle.object_trait.specs.declared.event.EventKind.TheVariants as kind
+use Rattle.serial_order.specs.Replay.{call_at, call_event, event_of}
 use Rattle.serial_order.specs.declared.command.Command.TheVariants.{Call}
 use Rattle.serial_order.specs.declared.command.Command.{Command}
 use Rattle.serial_order.specs.declared.refusal.Refusal.{Refusal}
 use Rattle.serial_order.specs.declared.refusal.Refusal.TheVariants as refusal
+use Rattle.object_calls.specs.declared.answer.Answer.{Answer}
 use Rattle.store_laws.specs.Stored.{Stored, objects, refusal_of}
+use Rattle.store_laws.specs.Words.{as_event}
 use Rattle.store.specs.declared.stray.Stray.{Stray}
 use Rattle.store.specs.declared.stray.Stray.TheVariants.{NotMade, NoMemory}
 
@@ -18,11 +21,24 @@ pub record IsMade (s : Stored) (e : Event) : Type 0 where
   pub accepted : refusal_of s command ≡ None
   pub makes : event_of (objects s) (summary s.history) command ≡ Some e.kind
 
--- whatever command makes the event is t's call c at x
-abbrev pub IsOfCallAlone : Stored → EventKind → ℕ → ℕ → ℕ → Type 0
-IsOfCallAlone s happened t x c =
-    (d : Command) → event_of (objects s) (summary s.history) d ≡ Some happened
-    → (name : List ℕ) × (d ≡ Call t x name) × (call_at (slice_get (objects s) x) name ≡ Some c)
+-- this command isn't refused, and makes the event
+abbrev pub Makes : Stored → Command → EventKind → Type 0
+Makes s command happened = (refusal_of s command ≡ None) × (event_of (objects s) (summary s.history) command ≡ Some happened)
+
+-- where some command makes the event, t's call c at x does
+abbrev pub IsByCall : Stored → Event → ℕ → ℕ → ℕ → Type 0
+IsByCall s e t x c = IsMade s e → (name : List ℕ) × (call_at (slice_get (objects s) x) name ≡ Some c) × Makes s (Call t x name) e.kind
+
+-- the event of an answer without a reply: `None`, or `Busy` with who holds what it waits for. It says the place of its call's first operation
+abbrev pub unreplied : ℕ → ℕ → ℕ → Option ℕ → EventKind
+unreplied t x place None = kind.None t x place
+unreplied t x place (Some u) = kind.Busy place t x u
+
+-- t's call c at x, which is there, has the answer
+abbrev pub IsAnswered : Stored → ℕ → ℕ → ℕ → Answer → Type 0
+IsAnswered s t x c a =
+    (name : List ℕ) × (call_at (slice_get (objects s) x) name ≡ Some c)
+    × (call_event (slice_get (objects s) x) (summary s.history) x t (Some c) ≡ Some (as_event t x c a))
 
 -- with the event
 abbrev pub with_event : Stored → Event → Stored

@@ -1,17 +1,15 @@
 //! What comes of a call at an object.
 
 ghost use Rattle.std.specs.Prelude.{◌≡◌, true, Some, slice_get};
-ghost use Rattle.object_trait.specs.Object.{Object};
 ghost use Rattle.serial_order.specs.History.{summary, is_open};
 ghost use Rattle.serial_order.specs.Laws.{FirstOpIsLeast, AnswerMayFollow, MachineMayApply};
 ghost use Rattle.serial_order.specs.After.{LogsAreCounted};
 ghost use Rattle.serial_order.specs.Replay.{call_event};
-ghost use Rattle.object_calls.specs.Calls.{IsCall};
 ghost use Rattle.store_laws.specs.Stored.{objects};
 ghost use Rattle.store_laws.specs.Words.{as_event};
-ghost use Rattle.store.specs.Calls.{Comes};
+ghost use Rattle.store.specs.Calls.{Comes, Gives, HasCall};
 
-use crate::executing::execute;
+use crate::executing::do_answer;
 use crate::room::has_room;
 use crate::store::Store;
 use object_calls::{Answer, Call};
@@ -23,17 +21,19 @@ use store_laws::{
     op_moves, quiet_moves, room_after, rows_are_counted, rows_say_who_is_open, stays_kept,
     types_stay,
 };
+use type_table::Operation;
 
 impl<R: Recovery> Store<R> {
     /// Answers t's call at object x, which has it.
     #[inline(always)]
-    pub(crate) fn answer(&mut self, w: u8, t: u32, x: u8, call: Call) -> Result<Answer, Refusal>
+    pub(crate) fn answer(&mut self, w: u8, t: u32, x: u8, call: &Call) -> Result<Answer, Refusal>
         requires still_open { is_open (summary self.old.history) t ≡ true }
-        requires call { (o : Object) × (slice_get (objects self.old) x ≡ Some o) × IsCall o.table call }
-        ensures { Comes self.old w t x call.first result self.new }
+        requires call { HasCall (slice_get (objects self.old) x) call.now }
+        ensures { Comes self.old w t x call.now.first result self.new }
     {
         let answer = self.chosen(t, x, call);
-        self.give(w, t, x, call, answer)
+        self.give(w, t, x, call, &answer)?;
+        Ok(answer)
     }
 
     /// Gives t's call at object x the answer that it has there.
@@ -43,13 +43,13 @@ impl<R: Recovery> Store<R> {
         w: u8,
         t: u32,
         x: u8,
-        call: Call,
-        answer: Answer,
-    ) -> Result<Answer, Refusal>
+        call: &Call,
+        answer: &Answer,
+    ) -> Result<(), Refusal>
         requires still_open { is_open (summary self.old.history) t ≡ true }
-        requires call { (o : Object) × (slice_get (objects self.old) x ≡ Some o) × IsCall o.table call }
-        requires chosen { call_event (slice_get (objects self.old) x) (summary self.old.history) x t (Some call.first) ≡ Some (as_event t x call.first answer) }
-        ensures { Comes self.old w t x call.first result self.new }
+        requires call { HasCall (slice_get (objects self.old) x) call.now }
+        requires chosen { call_event (slice_get (objects self.old) x) (summary self.old.history) x t (Some call.now.first) ≡ Some (as_event t x call.now.first answer.now) }
+        ensures { Gives self.old w t x call.now.first answer.now result self.new }
     {
         rows_say_who_is_open();
         rows_are_counted();
@@ -66,15 +66,13 @@ impl<R: Recovery> Store<R> {
         if self.history.reserve(opened as usize + 1).is_err() {
             return Err(Refusal::NoMemory);
         }
-        if let Answer::Reply(k) = answer {
-            let executed = execute(&mut self.objects, &mut self.transactions, t, x, k);
-            if executed.is_err() {
-                return Err(Refusal::NoMemory);
-            }
+        let done = do_answer(&mut self.objects, &mut self.transactions, t, x, answer);
+        if done.is_err() {
+            return Err(Refusal::NoMemory);
         }
         let kind = kind_of(answer, t, u32::from(x), call.first);
         self.history.push_reserved(Event { worker: w, kind });
-        Ok(answer)
+        Ok(())
     }
 }
 
@@ -92,12 +90,17 @@ fn answers_are_known()
 }
 
 /// The event of an answer of t's call c at object x.
-fn kind_of(answer: Answer, t: u32, x: u32, c: u8) -> EventKind
-    ensures { result ≡ as_event t x c answer }
+fn kind_of(answer: &Answer, t: u32, x: u32, c: Operation) -> EventKind
+    ensures { result ≡ as_event t x c answer.now }
 {
-    match answer {
+    match *answer {
         Answer::Reply(k) => EventKind::Op { t, x, k },
-        Answer::Busy(u) => EventKind::Busy { t, x, c, u },
-        Answer::None => EventKind::None { t, x, c },
+        Answer::Busy(u) => EventKind::Busy {
+            c: c.place(),
+            t,
+            x,
+            u,
+        },
+        Answer::None => EventKind::None { t, x, c: c.place() },
     }
 }

@@ -3,13 +3,14 @@
 ghost use Rattle.std.specs.Prelude.{◌≡◌};
 ghost use Rattle.object_trait.specs.declared.event.EventKind.TheVariants as kind;
 ghost use Rattle.store_laws.specs.Words.{as_event};
-ghost use Rattle.store.specs.Follows.{Follows, IsOfCallAlone, made_or_stray, told, stray_of};
+ghost use Rattle.store.specs.Follows.{Follows, IsByCall, unreplied, made_or_stray, told, stray_of};
 
 use crate::store::Store;
 use crate::stray::Stray;
-use object_calls::Answer;
+use object_calls::{Answer, busy_with};
 use object_trait::{Event, EventKind, Recovery};
 use serial_order::Refusal;
+use type_table::Operation;
 
 /// Makes an event again, as the worker that made it: it does the command that makes it.
 ///
@@ -20,8 +21,8 @@ use serial_order::Refusal;
 ///
 /// `NotMade` where no command that isn't refused makes it after the events so far, or `NoMemory`, and the
 /// store is as it was.
-pub fn follow<R: Recovery>(store: &mut Store<R>, event: Event) -> Result<(), Stray>
-    ensures { Follows store.old event result store.new }
+pub fn follow<R: Recovery>(store: &mut Store<R>, event: &Event) -> Result<(), Stray>
+    ensures { Follows store.old event.now result store.new }
 {
     let w = event.worker;
     match event.kind {
@@ -33,23 +34,42 @@ pub fn follow<R: Recovery>(store: &mut Store<R>, event: Event) -> Result<(), Str
             Some(c) => follow_call(store, event, t, x, c, Answer::Reply(k)),
             None => Err(Stray::NotMade),
         },
-        EventKind::Busy { c, t, x, u } => follow_call(store, event, t, x, c, Answer::Busy(u)),
-        EventKind::None { t, x, c } => follow_call(store, event, t, x, c, Answer::None),
+        EventKind::Busy { c, t, x, u } => follow_unreplied(store, event, t, x, c, Some(u)),
+        EventKind::None { t, x, c } => follow_unreplied(store, event, t, x, c, None),
     }
 }
 
-/// Makes the event of a call again: that of t's call c at x, if it is answered so, or of no call.
-fn follow_call<R: Recovery>(
+/// Makes the event of a call without a reply again, which says the place of its first operation: that of a call of t
+/// at x with this place that is answered so, where there is one.
+fn follow_unreplied<R: Recovery>(
     store: &mut Store<R>,
-    event: Event,
+    event: &Event,
     t: u32,
     x: u32,
-    c: u8,
+    place: u8,
+    holder: Option<u32>,
+) -> Result<(), Stray>
+    requires told { unreplied t x place holder ≡ event.now.kind }
+    ensures { Follows store.old event.now result store.new }
+{
+    match store.call_unreplied(t, x, place, holder) {
+        Some(c) => follow_call(store, event, t, x, c, busy_with(holder)),
+        None => Err(Stray::NotMade),
+    }
+}
+
+/// Makes the event of a call again: that of t's call c at x, if it is answered so.
+fn follow_call<R: Recovery>(
+    store: &mut Store<R>,
+    event: &Event,
+    t: u32,
+    x: u32,
+    c: Operation,
     answer: Answer,
 ) -> Result<(), Stray>
-    requires alone { IsOfCallAlone store.old event.kind t x c }
-    requires told { as_event t x c answer ≡ event.kind }
-    ensures { Follows store.old event result store.new }
+    requires by { IsByCall store.old event.now t x c }
+    requires told { as_event t x c answer ≡ event.now.kind }
+    ensures { Follows store.old event.now result store.new }
 {
     made_or_stray(store.call_if(event.worker, t, x, c, answer))
 }

@@ -74,8 +74,7 @@ fn calls_of<R: Recovery>(alloc: Global, objects: &Vec<R>) -> Result<Vec<CallTabl
 {
     let mut calls = Vec::with_capacity(alloc, objects.len())?;
     for object in objects {
-        let ops = object.ops();
-        calls.push_reserved(CallTable::new(alloc, ops)?);
+        calls.push_reserved(CallTable::new(alloc, object.declared())?);
     }
     Ok(calls)
 }

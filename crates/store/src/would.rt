@@ -1,20 +1,22 @@
 //! What a call would be answered now.
 
-ghost use Rattle.std.specs.Prelude.{◌≡◌, ℕ, List, true, Some, Err, slice_get};
-ghost use Rattle.object_calls.specs.Calls.{IsCall};
-ghost use Rattle.object_trait.specs.Object.{Object};
+ghost use Rattle.std.specs.Prelude.{◌≡◌, ℕ, List, true, Some, Err, IfSome, slice_get};
+ghost use Rattle.type_table.specs.Operation.{place_of};
+ghost use Rattle.object_calls.specs.Answers.{busy_with};
 ghost use Rattle.serial_order.specs.History.{summary, is_open};
 ghost use Rattle.serial_order.specs.Replay.{call_at, call_event};
 ghost use Rattle.store_laws.specs.Stored.{objects};
 ghost use Rattle.store_laws.specs.Words.{as_event};
-ghost use Rattle.store.specs.Calls.{Would, WouldCome, unnumbered};
+ghost use Rattle.store.specs.Calls.{HasCall, Would, WouldCome, unnumbered};
+ghost use Rattle.store.specs.Follows.{IsAnswered};
 
 use crate::room::has_room;
 use crate::store::Store;
-use object_calls::{Answer, Call, choose};
+use object_calls::{Answer, Call, call_unreplied, choose};
 use object_trait::Recovery;
 use serial_order::Refusal;
 use store_laws::{answers_as_defined, rows_are_counted};
+use type_table::Operation;
 
 impl<R: Recovery> Store<R> {
     /// What `call` would answer now, for transaction t and the call with this name at object x. It is no
@@ -37,11 +39,8 @@ impl<R: Recovery> Store<R> {
     pub fn would_bytes(&self, t: u32, x: u32, name: &[u8]) -> Result<Answer, Refusal>
         ensures { Would self.now t x name.now result }
     {
-        let calls = self.calls_for(t, x)?;
-        let Some(call) = calls.by_bytes(name) else {
-            return Err(Refusal::NoCall);
-        };
-        self.would_give(t, x as u8, call)
+        let call = self.named_call(t, x, name)?;
+        self.would_give(t, x as u8, &call)
     }
 
     /// The same of the call with this number there.
@@ -49,22 +48,37 @@ impl<R: Recovery> Store<R> {
     /// # Errors
     ///
     /// As `would`; `NoCall` where no call there has this number.
-    pub fn would_op(&self, t: u32, x: u32, c: u8) -> Result<Answer, Refusal>
+    pub fn would_op(&self, t: u32, x: u32, c: Operation) -> Result<Answer, Refusal>
         ensures answer { (name : List ℕ) → call_at (slice_get (objects self.now) x) name ≡ Some c → Would self.now t x name result }
         ensures unnumbered { ((name : List ℕ) → call_at (slice_get (objects self.now) x) name ≡ Some c → ⊥) → result ≡ Err (unnumbered self.now t x) }
     {
-        let calls = self.calls_for(t, x)?;
-        let Some(call) = calls.by_number(c) else {
-            return Err(Refusal::NoCall);
-        };
-        self.would_give(t, x as u8, call)
+        let call = self.numbered_call(t, x, c)?;
+        self.would_give(t, x as u8, &call)
+    }
+
+    /// Of the calls at object x whose first operation has this place one that would be answered with this holder, or
+    /// with none, where there is one.
+    pub(crate) fn call_unreplied(
+        &self,
+        t: u32,
+        x: u32,
+        place: u8,
+        holder: Option<u32>,
+    ) -> Option<Operation>
+        ensures place { IfSome result (λ c. place_of c ≡ place) }
+        ensures found { is_open (summary self.now.history) t ≡ true → (d : ℕ) → place_of d ≡ place → IsAnswered self.now t x d (busy_with holder)
+            → (c : ℕ) × (result ≡ Some c) × IsAnswered self.now t x c (busy_with holder) }
+    {
+        answers_as_defined();
+        let object = self.objects.get(x as usize)?;
+        call_unreplied(object, t, place, holder)
     }
 
     /// What t's call at object x, which has it, would be given.
-    fn would_give(&self, t: u32, x: u8, call: Call) -> Result<Answer, Refusal>
+    fn would_give(&self, t: u32, x: u8, call: &Call) -> Result<Answer, Refusal>
         requires still_open { is_open (summary self.now.history) t ≡ true }
-        requires call { (o : Object) × (slice_get (objects self.now) x ≡ Some o) × IsCall o.table call }
-        ensures { WouldCome self.now t x call.first result }
+        requires call { HasCall (slice_get (objects self.now) x) call.now }
+        ensures { WouldCome self.now t x call.now.first result }
     {
         rows_are_counted();
         let opened = self.transactions.open_count();
@@ -76,12 +90,12 @@ impl<R: Recovery> Store<R> {
 
     /// The answer that t's call at object x has, which is there.
     #[inline(always)]
-    pub(crate) fn chosen(&self, t: u32, x: u8, call: Call) -> Answer
+    pub(crate) fn chosen(&self, t: u32, x: u8, call: &Call) -> Answer
         requires still_open { is_open (summary self.now.history) t ≡ true }
-        requires call { (o : Object) × (slice_get (objects self.now) x ≡ Some o) × IsCall o.table call }
-        ensures { call_event (slice_get (objects self.now) x) (summary self.now.history) x t (Some call.first) ≡ Some (as_event t x call.first result) }
+        requires call { HasCall (slice_get (objects self.now) x) call.now }
+        ensures { call_event (slice_get (objects self.now) x) (summary self.now.history) x t (Some call.now.first) ≡ Some (as_event t x call.now.first result) }
     {
         answers_as_defined();
-        choose(&self.objects[x as usize], t, call)
+        choose(&self.objects[x as usize], t, *call)
     }
 }

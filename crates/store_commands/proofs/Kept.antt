@@ -25,7 +25,7 @@ module _ (holds later : Held) (kept : (other : List ℕ) → later other ≡ hol
   }
 
   pub types_kept : (words : List (List ℕ)) (objects : List ObjectLine) (types : List Checked) → AreTypesAt later words objects types → AreTypesAt holds words objects types
-  types_kept words objects types at = record { declared = at.declared; held = files_kept words at.declared at.held; are = at.are }
+  types_kept words objects types at = record { declared = at.declared; held = files_kept words at.declared at.held; fit = at.fit; are = at.are }
 
   pub refused_kept : (words : List (List ℕ)) (objects : List ObjectLine) (x : ℕ) (refusal : CheckRefusal) → IsRefusedAt later words objects x refusal
       → IsRefusedAt holds words objects x refusal

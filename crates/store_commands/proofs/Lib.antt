@@ -8,5 +8,6 @@ pub mod Passed
 pub mod Runs
 pub mod Works
 pub mod Reading
+pub mod OpRanges
 pub mod RunsRead
 pub mod WorksRead

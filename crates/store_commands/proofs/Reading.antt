@@ -15,11 +15,11 @@ use Rattle.type_text.specs.declared.type_file.TypeFile.{TypeFile}
 use Rattle.type_table.specs.declared.kind.Kind.{Kind}
 use Rattle.type_table.specs.declared.kind.Kind.TheVariants.{Undo, Intentions, Escrow}
 use Rattle.table_checker.specs.Checked.{Checked, IsChecked, IsCheckedBy}
-use Rattle.object_trait.specs.Object.{Object, object_of}
+use Rattle.object_trait.specs.Object.{Object}
 use Rattle.object_trait.specs.declared.event.Event.{Event}
 use Rattle.object_trait.specs.declared.event.EventKind.{EventKind}
 use Rattle.object_trait.specs.declared.event.EventKind.TheVariants as kind
-use Rattle.serial_order.specs.After.{AreBelow, NumbersInRun}
+use Rattle.serial_order.specs.After.{AreBelow, ArePlaces, NumbersInRun}
 use Rattle.serial_order.specs.History.{commits, committed_by}
 use Rattle.serial_order.specs.Operations.{ops}
 use Rattle.serial_order.specs.Serial.{serial_at}
@@ -37,12 +37,6 @@ pub mapped : {X Y : Type 0} (f : X → Y) (P : Y → Type 0) (xs : List X) → (
 mapped f P xs each i y at = let found = found-map f xs i y at in subst P found.2 (each i found.0 found.1)
 
 -- ---- types
-
--- what was checked has at most 64 operations
-few_ops : (kind : Kind) (file : TypeFile) → IsCheckedBy kind file → length file.table.ops ≤ 64
-few_ops Undo file is = is.table.ops_fit
-few_ops Intentions file is = is.table.ops_fit
-few_ops Escrow file is = is.ops_fit
 
 -- from nowhere nothing leads anywhere
 no_run : (T : Table) (ks : List ℕ) → run T None ks ≡ None
@@ -71,9 +65,6 @@ ends_fit within Escrow file ks e is leads =
     omega (arith, inside, start, is.states_fit)
 
 module _ (s : Stored) (checked : (x : ℕ) (c : Checked) → slice_get s.types x ≡ Some c → IsChecked c) where
-  pub ops_few : (x : ℕ) (o : Object) → slice_get (objects s) x ≡ Some o → length o.table.ops ≤ 64
-  ops_few = mapped object_of (λ o. length o.table.ops ≤ 64) s.types (λ x c there. few_ops c.kind c.file (checked x c there))
-
   -- what holds of the runs of each type holds of those of each table
   ends_are : EndsWithin → (x : ℕ) (T : Table) → slice_get (tables s) x ≡ Some T → (ks : List ℕ) (e : ℕ) → run T (Some T.initial) ks ≡ Some e → e < 2 ^ 32
   ends_are within =
@@ -102,12 +93,15 @@ commits_below : (n k m : ℕ) (H : List Event) → AllByRecursion (λ e. AreBelo
 commits_below n k m [] low = tt
 commits_below n k m (e ∷ H) low = each-append (λ t. t < m) (committed_by e.kind) (commits H) (commit_below n k m e.kind low.0) (commits_below n k m H low.1)
 
+-- a place is a byte
+all_places : (objects : List Object) (x : ℕ) (o : Object) → slice_get objects x ≡ Some o → ArePlaces 256 o.table
+all_places objects x o at k has = omega arith
+
 -- the numbers of committed transactions have at most seven digits
-pub commits_short : NumbersInRun → (s : Stored) → ((x : ℕ) (c : Checked) → slice_get s.types x ≡ Some c → IsChecked c) → HasSerialRun s → s.max ≤ 1000000
-    → AllByRecursion (λ n. n < 10 ^ 7) (commits s.history)
-commits_short numbers s checked history limit =
-    let below = numbers (objects s) 64 s.history history.run (ops_few s checked) in
-    let all = commits_below (length (objects s)) 64 (length s.history) s.history below in
+pub commits_short : NumbersInRun → (s : Stored) → HasSerialRun s → s.max ≤ 1000000 → AllByRecursion (λ n. n < 10 ^ 7) (commits s.history)
+commits_short numbers s history limit =
+    let below = numbers (objects s) 256 s.history history.run (all_places (objects s)) in
+    let all = commits_below (length (objects s)) 256 (length s.history) s.history below in
     each-weaker (λ n low. omega (arith, low, history.room, limit)) (commits s.history) all
 
 -- and so have those of a yes, but for states
@@ -115,7 +109,7 @@ pub audit_short : EndsWithin → NumbersInRun → (s : Stored) → ((x : ℕ) (c
     → length s.types ≤ 256 → (a : Audit) → Audits (tables s) s.history (Ok a) → IsShortYes a
 audit_short within numbers s checked history limit few a audits =
     record {
-      order = subst (AllByRecursion (λ n. n < 10 ^ 7)) (sym audits.1.order_is) (commits_short numbers s checked history limit);
+      order = subst (AllByRecursion (λ n. n < 10 ^ 7)) (sym audits.1.order_is) (commits_short numbers s history limit);
       objects = omega (arith, audits.1.leads.as_many, length-map s.types (λ (c : Checked). c.file.table), few);
       finals = finals_fit s checked within a.order.items a.finals.items audits.1;
     }

@@ -19,7 +19,7 @@ use Rattle.script_text.specs.Script.{IsFit}
 use Rattle.script_text.specs.declared.script.Script.{Script}
 use Rattle.history_text.specs.Canonical.{AreInRange, CanonicalIsRead, canonical_lines}
 use Rattle.history_text.specs.Events.{event_of, events}
-use Rattle.script_run.specs.Laws.{RunIsInRange, ScriptIsByOne, ScriptIsRead}
+use Rattle.script_run.specs.Laws.{AreOpsInRange, RunIsInRange, ScriptIsByOne, ScriptIsRead}
 use Rattle.script_run.specs.Running.{AreKept}
 use Rattle.script_run.specs.Turns.{history_after, script_turns, text_of}
 use Rattle.history_audit.specs.Audit.{Audits}
@@ -30,7 +30,7 @@ use Rattle.work_text.proofs.Comments.{audit_comments}
 use Rattle.store_commands.specs.Passing.{new_store, tables}
 use Rattle.store_commands.specs.Reading.{IsAuditedAs, IsReadAs}
 use Rattle.store_commands.specs.Runs.{IsRunOf}
-use Rattle.store_commands.proofs.Reading.{audit_short, ops_few}
+use Rattle.store_commands.proofs.Reading.{audit_short, mapped}
 
 same_Ok : {A E : Type 0} (r : Result A E) (x y : A) → r ≡ Ok x → r ≡ Ok y → x ≡ y
 same_Ok r x y first second = let same : x ≡ y = cc in same
@@ -63,7 +63,7 @@ audited_as agree alike s audit audits = λ outcome other memory.
     alike outcome (Ok audit) (agree (tables s) s.history outcome (Ok audit) other audits memory (λ clash. absurd cc))
 
 module _ (script : Script) (types : List Checked) (text : List ℕ) (fit : IsFit script) (checked : (x : ℕ) (c : Checked) → slice_get types x ≡ Some c → IsChecked c)
-    (as_many : length types ≡ length script.objects.items) (its : IsRunOf script types text) where
+    (in_ranges : (x : ℕ) (c : Checked) → slice_get types x ≡ Some c → AreOpsInRange c.file.table) (as_many : length types ≡ length script.objects.items) (its : IsRunOf script types text) where
   abbrev start : Stored
   start = new_store types script.max
 
@@ -83,13 +83,16 @@ module _ (script : Script) (types : List Checked) (text : List ℕ) (fit : IsFit
       let each : (x : ℕ) (c : Checked) → slice_get left.types x ≡ Some c → IsChecked c =
       subst (λ (ts : List Checked). (x : ℕ) (c : Checked) → slice_get ts x ≡ Some c → IsChecked c) (sym types_are) checked
       in
+      let each_op : (x : ℕ) (c : Checked) → slice_get left.types x ≡ Some c → AreOpsInRange c.file.table =
+      subst (λ (ts : List Checked). (x : ℕ) (c : Checked) → slice_get ts x ≡ Some c → AreOpsInRange c.file.table) (sym types_are) in_ranges
+      in
       let many : length left.types ≡ length lines = ap (λ (ts : List Checked). length ts) types_are ∙ as_many in
       let few : length left.types ≤ 256 = omega (arith, many, fit.objects_fit) in
       let ranges : AreInRange lines left.history =
       in_range lines (objects left) left.history
       (record {
         run = its.history.run;
-        ops_fit = ops_few left each;
+        ops_fit = mapped object_of (λ o. AreOpsInRange o.table) left.types each_op;
         as_many = length-map left.types object_of ∙ many;
         some_object = fit.some_object;
         objects_fit = fit.objects_fit;

@@ -21,7 +21,7 @@ use Rattle.jobs_text.specs.declared.jobs_file.Job.{Job}
 use Rattle.jobs_text.specs.declared.jobs_file.JobsFile.{JobsFile}
 use Rattle.history_text.specs.Canonical.{AreInRange, CanonicalIsRead}
 use Rattle.history_text.specs.Events.{events}
-use Rattle.script_run.specs.Laws.{RunIsInRange}
+use Rattle.script_run.specs.Laws.{AreOpsInRange, RunIsInRange}
 use Rattle.worker_turns.specs.declared.outcome.Outcome.{Outcome}
 use Rattle.worker_turns.specs.declared.outcome.Outcome.TheVariants.{Committed, GaveUp, Refused, NotRun}
 use Rattle.worker_turns.specs.declared.outcome.Report.{Report}
@@ -29,7 +29,7 @@ use Rattle.workers.specs.Worked.{HasWorked}
 use Rattle.work_text.specs.Reading.{IsShort, IsShortOutcome, IsShortReport, WorkIsRead}
 use Rattle.store_commands.specs.Reading.{IsReadAs}
 use Rattle.store_commands.specs.Works.{IsWorkOf, start_of_work}
-use Rattle.store_commands.proofs.Reading.{audit_short, commits_short, ops_few}
+use Rattle.store_commands.proofs.Reading.{audit_short, commits_short, mapped}
 use Rattle.store_commands.proofs.RunsRead.{kept_short, read_as}
 
 -- an outcome is short where the transaction that it names is
@@ -40,7 +40,7 @@ outcome_short (Refused r) short = tt
 outcome_short NotRun short = tt
 
 module _ (file : JobsFile) (types : List Checked) (tries : ℕ) (text : List ℕ) (fit : IsFit file) (checked : (x : ℕ) (c : Checked) → slice_get types x ≡ Some c → IsChecked c)
-    (as_many : length types ≡ length file.objects.items) (its : IsWorkOf file types tries text) where
+    (in_ranges : (x : ℕ) (c : Checked) → slice_get types x ≡ Some c → AreOpsInRange c.file.table) (as_many : length types ≡ length file.objects.items) (its : IsWorkOf file types tries text) where
   worked : HasWorked (start_of_work file types tries) (length file.jobs.items) its.left its.reports
   worked = subst (λ n. HasWorked (start_of_work file types tries) n its.left its.reports) (length-map file.jobs.items calls_in) its.worked.2
 
@@ -80,6 +80,9 @@ module _ (file : JobsFile) (types : List Checked) (tries : ℕ) (text : List ℕ
       let each : (x : ℕ) (c : Checked) → slice_get left.types x ≡ Some c → IsChecked c =
       subst (λ (ts : List Checked). (x : ℕ) (c : Checked) → slice_get ts x ≡ Some c → IsChecked c) (sym types_are) checked
       in
+      let each_op : (x : ℕ) (c : Checked) → slice_get left.types x ≡ Some c → AreOpsInRange c.file.table =
+      subst (λ (ts : List Checked). (x : ℕ) (c : Checked) → slice_get ts x ≡ Some c → AreOpsInRange c.file.table) (sym types_are) in_ranges
+      in
       let many : length left.types ≡ length lines = ap (λ (ts : List Checked). length ts) types_are ∙ as_many in
       let few : length left.types ≤ 256 = omega (arith, many, fit.objects_fit) in
       let inside : All (λ (e : Event). e.worker < length file.jobs.items) left.history = worked.inside in
@@ -90,7 +93,7 @@ module _ (file : JobsFile) (types : List Checked) (tries : ℕ) (text : List ℕ
       in_range lines (objects left) left.history
       (record {
         run = its.history.run;
-        ops_fit = ops_few left each;
+        ops_fit = mapped object_of (λ o. AreOpsInRange o.table) left.types each_op;
         as_many = length-map left.types object_of ∙ many;
         some_object = fit.some_object;
         objects_fit = fit.objects_fit;
@@ -99,7 +102,7 @@ module _ (file : JobsFile) (types : List Checked) (tries : ℕ) (text : List ℕ
         workers_fit = by;
       })
       in
-      let short = commits_short numbers left each its.history limit in
+      let short = commits_short numbers left its.history limit in
       let value = work_read lines left.history its.told.kept (Ok its.audit) its.reports ranges
       (record {
         objects = omega (arith, its.told.all, few);

@@ -12,4 +12,4 @@ pub record Has (objects : List ObjectLine) (events : List Event) (history : Hist
 
 -- the text of a history without its `end`
 abbrev pub endless_history : List ℕ
-endless_history = ended (take 10 history_text)
+endless_history = ended (take 11 history_text)

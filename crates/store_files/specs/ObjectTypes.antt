@@ -1,10 +1,11 @@
 -- The types of the objects that a text names, by the TYPE words beside it, and why there are none.
-use Rattle.std.specs.Prelude.{◌≡◌, ◌⊎◌, ℕ, List, map, IfSome, Result, Ok, Err}
+use Rattle.std.specs.Prelude.{◌≡◌, ◌⊎◌, ℕ, List, All, map, IfSome, Result, Ok, Err}
 use Rattle.table_checker.specs.Checked.{Checked}
 use Rattle.table_checker.specs.declared.declared_type.Declaration.{Declaration}
 use Rattle.table_checker.specs.declared.refusal.CheckRefusal.{CheckRefusal}
 use Rattle.store_text.specs.declared.line.ObjectLine.{ObjectLine}
 use Rattle.command_files.specs.Answers.{Refuses}
+use Rattle.command_files.specs.Files.{IsFitDeclaration}
 use Rattle.command_files.specs.declared.fault.Fault.{Fault}
 use Rattle.object_types.specs.Types.{AreTypesOf, IsAccepted, IsFirstWith, value_of}
 use Rattle.object_types.specs.declared.object_fault.ObjectFault.TheVariants.{NoType, NeedsEscrow, Refused as RefusedType}
@@ -13,10 +14,12 @@ use Rattle.store_files.specs.Lines.{object_line}
 use Rattle.store_files.specs.declared.found_types.ObjectTypes.{ObjectTypes}
 use Rattle.store_files.specs.declared.found_types.ObjectTypes.TheVariants.{Accepted, Refused}
 
--- each TYPE word has what its text declares, and each object has for its type the one at the place that it names
+-- each TYPE word has what its text declares, in its ranges whatever the text was, and each object has for its type the one at the place that
+-- it names
 pub record AreTypesAt (holds : Held) (words : List (List ℕ)) (objects : List ObjectLine) (types : List Checked) : Type 0 where
   pub declared : List Declaration
   pub held : AreDeclaredAt holds words declared
+  pub fit : All IsFitDeclaration declared
   pub are : AreTypesOf declared objects types
 
 -- the type of object x isn't accepted for its kind, for this reason, and those of the objects before it are

@@ -1,7 +1,8 @@
 //! The files that several words name.
 
-ghost use Rattle.std.specs.Prelude.{◌≡◌, ℕ, List, map, IfOk, IfErr};
+ghost use Rattle.std.specs.Prelude.{◌≡◌, ℕ, List, All, map, IfOk, IfErr};
 ghost use Rattle.command_files.specs.Answers.{Refuses};
+ghost use Rattle.command_files.specs.Files.{IsFitDeclaration};
 ghost use Rattle.store_files.specs.Histories.{AreHistoriesAt, IsFirstFaultyHistory};
 ghost use Rattle.store_files.specs.Types.{AreDeclaredAt, AreReadAt, IsFirstFaultyDeclaration, IsFirstFaultyOf};
 
@@ -22,6 +23,7 @@ pub fn read_declared<'a, S: Source>(
     source: &mut S,
 ) -> Result<Vec<DeclaredType>, Fault<'a>>
     ensures read { IfOk result (λ types. AreDeclaredAt (S.holds source.old) (map (λ p. p.now) paths.now) types.items) }
+    ensures fit { IfOk result (λ types. All IsFitDeclaration types.items) }
     ensures refused { IfErr result (Refuses (IsFirstFaultyDeclaration (S.holds source.old) (map (λ p. p.now) paths.now))) }
     ensures kept { (other : List ℕ) → S.holds source.new other ≡ S.holds source.old other }
 {
@@ -53,6 +55,7 @@ fn read_files<'a, F: Format, S: Source>(
     source: &mut S,
 ) -> Result<Vec<F::Value>, Fault<'a>>
     ensures read { IfOk result (λ files. AreReadAt (F.describes format.now) (S.holds source.old) (map (λ p. p.now) paths.now) files.items) }
+    ensures fit { IfOk result (λ files. All (F.is_fit format.now) files.items) }
     ensures refused { IfErr result (Refuses (IsFirstFaultyOf (F.describes format.now) (F.is_faulty format.now) (S.holds source.old) (map (λ p. p.now) paths.now))) }
     ensures kept { (other : List ℕ) → S.holds source.new other ≡ S.holds source.old other }
 {

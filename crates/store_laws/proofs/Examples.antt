@@ -110,7 +110,7 @@ module _ (stays : StaysKept) (new : IsKept new_counters []) where
 
   pub counted-kept : IsKept counted (take 2 one_up)
   unfolding next
-  counted-kept = stays begun counted (take 1 one_up) (record { worker = 7; kind = Op 0 1 0 }) begun-kept (refl, (omega arith, refl, tt)) counts (omega arith)
+  counted-kept = stays begun counted (take 1 one_up) (record { worker = 7; kind = Op 0 1 0 }) begun-kept (refl, (refl, refl, tt)) counts (omega arith)
 
   pub committed-kept : IsKept committed one_up
   committed-kept = stays counted committed (take 2 one_up) (record { worker = 7; kind = Commit 0 }) counted-kept refl commits (omega arith)

@@ -2,6 +2,7 @@
 #![tactic(auto, unfolding(type_table::specs::Table::next))]
 
 ghost use Rattle.std.specs.Prelude.{◌≡◌, ℕ, [], ◌∷◌, Some, None, Ok, Err, take, codes};
+ghost use Rattle.type_table.specs.Operation.{operation_at};
 ghost use Rattle.serial_order.specs.Replay.{replay};
 ghost use Rattle.store_laws.specs.Stored.{objects, refusal_of, stored_after, Steps, MayStep};
 ghost use Rattle.store_laws.specs.Kept.{IsRow, IsKept, IsStore};
@@ -100,11 +101,12 @@ pub fn a_call_may_be_refused_memory()
 {}
 
 /// The event of an answer is its transaction's, at its object, and says its call where nothing was
-/// executed.
+/// executed: the place of its first operation, without an amount.
 pub fn an_answer_is_an_event()
     ensures reply { as_event 3 1 2 (Answer.Reply 4) ≡ EventKind.Op 3 1 4 }
     ensures busy { as_event 3 1 2 (Answer.Busy 5) ≡ EventKind.Busy 2 3 1 5 }
     ensures none { as_event 3 1 2 Answer.None ≡ EventKind.None 3 1 2 }
+    ensures busy_for_an_amount { as_event 3 1 (operation_at 2 (Some 17)) (Answer.Busy 5) ≡ EventKind.Busy 2 3 1 5 }
 {}
 
 /// A rollback is at the last places, in their order.

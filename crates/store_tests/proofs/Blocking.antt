@@ -1,13 +1,21 @@
 -- Who keeps a transaction from an operation, for objects of tests.
-use Rattle.std.proofs.Common.{◌≡◌, ℕ, Bool, true, false, not, ◌&&◌, ◌==◌, List, [], ◌∷◌, filter, is_some, refl, sym, ap, ◌∙◌, inl, inr}
+use Rattle.std.proofs.Common.{◌≡◌, ◌<◌, ℕ, Bool, true, false, not, ltb, ◌&&◌, ◌==◌, List, [], ◌∷◌, filter, Option, Some, None, is_some, refl, sym, ap, ◌∙◌, inl, inr, arith}
 use Rattle.std.specs.List.{find, AllByRecursion}
 use Rattle.std.specs.Option.{option_map}
-use Rattle.std.proofs.lemmas.Bool.{true≢false, cases_Bool}
+use Rattle.std.proofs.lemmas.Bool.{true≢false, false≢true, cases_Bool, le-ltb}
 use Rattle.type_table.proofs.Elements.{each-weaker}
+use Rattle.type_table.specs.Operation.{operation_at, place_of}
 use Rattle.type_table.specs.declared.kind.Kind.TheVariants.{Undo}
 use Rattle.object_trait.specs.Meaning.{Meaning, object}
 use Rattle.object_trait.specs.Steps.{IsOfAnotherOpen, stops_by, stopper}
 use Rattle.object_trait.specs.declared.log_entry.LogEntry.{LogEntry}
+
+-- ---- operations of tables
+
+-- one with an amount comes after all places
+pub counted_past : (k ops : ℕ) (amount : Option ℕ) → k ≡ operation_at (place_of k) amount → is_some amount ≡ true → ops < 256 → ltb k ops ≡ false
+counted_past k ops None whole some small = absurd (false≢true some)
+counted_past k ops (Some n) whole some small = le-ltb k ops (omega (arith, whole, small))
 
 -- ---- with update in place
 

@@ -1,7 +1,6 @@
 -- What an object keeps that runs its whole log anew for each view.
 use Rattle.std.proofs.Common.{◌≡◌, ◌≤◌, ◌<◌, ◌==◌, ◌||◌, ◌+◌, not, nat_eq, ℕ, get_or, take, drop, slice_set, true, false, nat_lt, List, [], ◌∷◌, ◌++◌, map, length, Some, IsSome, refl, ◌∙◌, arith}
 use Rattle.std.specs.List.{list_any}
-use Rattle.std.proofs.lemmas.Bool.{not-true}
 use Rattle.std.proofs.lemmas.List.{append_assoc, drop-set-lt, drop_more, length-map, length_push, take_more_set}
 use Rattle.type_table.specs.Table.{Table, next}
 use Rattle.type_table.specs.Run.{IsLegal}
@@ -94,5 +93,5 @@ no_more (e ∷ log) d n some is last = grind (arith, is, last)
 same_none : (n : ℕ) → nat_eq n 0 ≡ not (nat_lt 0 n)
 same_none n = grind arith
 
-pub is_none : (e : LogEntry) (log : List LogEntry) (n : ℕ) → n ≡ length (open_of e.by log) → not e.done ≡ true → nat_eq n 0 ≡ not (e.done || list_any (λ t. t == e.by) (open_transactions log))
-is_none e log n is held = rw (not-true e.done held, among_open e.by log, is) (same_none (length (open_of e.by log)))
+pub is_none : (e : LogEntry) (log : List LogEntry) (n : ℕ) → n ≡ length (open_of e.by log) → e.done ≡ false → nat_eq n 0 ≡ not (e.done || list_any (λ t. t == e.by) (open_transactions log))
+is_none e log n is held = rw (held, among_open e.by log, is) (same_none (length (open_of e.by log)))

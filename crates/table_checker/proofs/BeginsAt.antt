@@ -97,7 +97,6 @@ are_bounds-at T i top ops bounds = record { steps = bounds.steps; within = bound
 numeric-at : (T : Table) (i : ℕ) → IsNumericType T → i < T.states → IsNumericType (table_at T i)
 numeric-at T i numeric below = record {
   states_fit = numeric.states_fit;
-  ops_fit = numeric.ops_fit;
   initial_inside = below;
   bounds = rw (bounds-at T i) (are_bounds-at T i (T.states - 1) (bounds_of T) numeric.bounds);
 }

@@ -1,31 +1,52 @@
 -- Numbers are accepted, and their files at another value.
-use Rattle.std.proofs.Common.{◌≡◌, ℕ, ◌+◌, ◌-◌, List, refl, sym, subst, arith}
-use Rattle.type_table.specs.Table.{Table}
+use Rattle.std.proofs.Common.{◌≡◌, ℕ, ◌+◌, ◌-◌, List, refl, sym, ap, subst, ◌∙◌, arith}
+use Rattle.type_table.specs.Table.{Table as TableValue}
 use Rattle.escrow_laws.specs.Bounds.{AreBounds, bounds_of}
 use Rattle.escrow_laws.specs.declared.bounded.Bounded.{Bounded}
 use Rattle.number_text.specs.NumberFile.{Number, number_at}
 use Rattle.number_text.specs.Operations.{number_bounds, number_table, NumberHasTable, NumberTellsBounds}
-use Rattle.number_text.proofs.Tables.{few_ops}
 use Rattle.type_text.specs.TypeFile.{file_at}
-use Rattle.table_checker.specs.Declarations.{number_file, NumberIsChecked}
+use Rattle.type_table.specs.declared.kind.Kind.{Kind}
+use Rattle.type_table.specs.declared.kind.Kind.TheVariants.{Escrow}
+use Rattle.type_text.specs.declared.type_file.TypeFile.{TypeFile}
+use Rattle.table_checker.specs.Declarations.{file_of, number_file, declared_at, IsDeclaredFor, HoldsBounds, NumberIsChecked}
+use Rattle.table_checker.specs.declared.declared_type.Declaration.{Declaration}
+use Rattle.table_checker.specs.declared.declared_type.Declaration.TheVariants.{Table, Number as Numbers}
+use Rattle.table_checker.proofs.BeginsAt.{bounds-at}
 
 -- the file of a number that begins at another value is its file, beginning there
 pub number_file-at : (v : Number) (s : ℕ) → number_file (number_at v s) ≡ file_at (number_file v) s
 number_file-at v s = refl
 
 pub numbers_checked : NumberHasTable → NumberTellsBounds → NumberIsChecked
-numbers_checked tables tells = λ v known listed.
-    let T : Table = number_table v in
+numbers_checked tables tells = λ v known.
+    let T : TableValue = number_table v in
     let max = known.max_fits in
     let initial = known.initial_inside in
-    let calls = known.calls_fit in
-    let few = few_ops v.calls in
     let top : v.max ≡ v.max + 1 - 1 = omega arith in (
       record {
         states_fit = omega (arith, max);
-        ops_fit = omega (arith, calls, few);
         initial_inside = omega (arith, initial);
-        bounds = subst (λ m. AreBounds T m (bounds_of T)) top (subst (λ (ops : List Bounded). AreBounds T v.max ops) (sym (tells v known listed)) (tables v known listed));
+        bounds = subst (λ m. AreBounds T m (bounds_of T)) top (subst (λ (ops : List Bounded). AreBounds T v.max ops) (sym (tells v known)) (tables v known));
       },
       tt,
     )
+
+-- the file of what declares it at another state
+pub file_of-at : (d : Declaration) (s : ℕ) → file_of (declared_at d s) ≡ file_at (file_of d) s
+file_of-at (Table file) s = refl
+file_of-at (Numbers v) s = number_file-at v s
+
+-- it is declared for the same kinds
+pub declared_for-at : (kind : Kind) (d : Declaration) (s : ℕ) → IsDeclaredFor kind d → IsDeclaredFor kind (declared_at d s)
+declared_for-at kind (Table file) s is = is
+declared_for-at kind (Numbers v) s is = is
+
+-- and the bounds that are held are its
+pub holds_bounds-at : (kind : Kind) (d : Declaration) (s : ℕ) (bounds : List Bounded) → HoldsBounds kind d bounds → HoldsBounds kind (declared_at d s) bounds
+holds_bounds-at kind (Table file) s bounds holds = λ escrow. holds escrow ∙ sym (bounds-at file.table s)
+holds_bounds-at kind (Numbers v) s bounds holds = tt
+
+-- what is held of a table is its bounds
+pub held_of_table : (kind : Kind) (d : Declaration) (bounds : List Bounded) (file : TypeFile) → HoldsBounds kind d bounds → d ≡ Table file → kind ≡ Escrow → bounds ≡ bounds_of file.table
+held_of_table kind d bounds file holds is escrow = subst (λ e. HoldsBounds kind e bounds) is holds escrow

@@ -1,4 +1,5 @@
 pub mod Numbers
+pub mod TableOps
 pub mod Failures
 pub mod Found
 pub mod Covering

@@ -1,8 +1,7 @@
 -- What a yes of the checker is.
-use Rattle.std.specs.Prelude.{◌≡◌, ℕ, ◌-◌, ◌<◌, ◌≤◌, length, Bool, true, nat_lt}
+use Rattle.std.specs.Prelude.{◌≡◌, ℕ, ◌-◌, ◌<◌, ◌≤◌, Bool, true, nat_lt}
 use Rattle.equi_cert.specs.Relation.{relates}
 use Rattle.equi_cert.specs.Simulation.{IsSimulation}
-use Rattle.type_table.specs.Limits.{most_ops}
 use Rattle.type_table.specs.StateSet.{has}
 use Rattle.type_table.specs.Table.{Table, IsTable}
 use Rattle.type_table.specs.declared.kind.Kind.{Kind}
@@ -48,7 +47,6 @@ pub record IsCommuting (kind : TableKind) (file : TypeFile) : Type 0 where
 -- many as a word of 32 bits has values
 pub record IsNumericType (T : Table) : Type 0 where
   pub states_fit : T.states ≤ 4294967296
-  pub ops_fit : length T.ops ≤ most_ops
   pub initial_inside : T.initial < T.states
   pub bounds : AreBounds T (T.states - 1) (bounds_of T)
 

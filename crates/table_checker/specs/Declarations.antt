@@ -11,9 +11,10 @@ use Rattle.type_table.specs.declared.kind.Kind.TheVariants.{Undo, Intentions, Es
 use Rattle.type_table.specs.declared.op.Op.{Op}
 use Rattle.escrow_laws.specs.Bounds.{bounds_of}
 use Rattle.escrow_laws.specs.declared.bounded.Bounded.{Bounded}
+use Rattle.type_text.specs.TypeFile.{file_at}
 use Rattle.type_text.specs.declared.type_file.TypeFile.{TypeFile}
-use Rattle.number_text.specs.NumberFile.{Number, IsNumber}
-use Rattle.number_text.specs.Operations.{number_ops, number_table, is_listed}
+use Rattle.number_text.specs.NumberFile.{Number, IsNumber, number_at}
+use Rattle.number_text.specs.Operations.{number_ops, number_rows, number_table}
 use Rattle.table_checker.specs.Checked.{IsCheckedBy, IsStrongBy}
 use Rattle.table_checker.specs.declared.declared_type.Declaration.{Declaration}
 use Rattle.table_checker.specs.declared.declared_type.Declaration.TheVariants.{Table, Number as Numbers}
@@ -42,25 +43,35 @@ file_of (Numbers number) = number_file number
 abbrev pub table_of : Declaration → TableValue
 table_of declaration = (file_of declaration).table
 
+-- what declares the type that begins at another state
+abbrev pub declared_at : Declaration → ℕ → Declaration
+declared_at (Table file) s = Table (file_at file s)
+declared_at (Numbers number) s = Numbers (number_at number s)
+
 -- a number is declared for escrow alone
 abbrev pub IsDeclaredFor : Kind → Declaration → Type 0
 IsDeclaredFor kind (Table file) = Unit {0}
 IsDeclaredFor kind (Numbers number) = kind ≡ Escrow
 
--- each call of a number lists its amount, so that the number has a table
-abbrev pub IsListed : Declaration → Type 0
-IsListed (Table file) = Unit {0}
-IsListed (Numbers number) = is_listed number ≡ true
+-- the names of the operations that are listed, by their places: of a number those of its lines
+abbrev pub rows_of : Declaration → List Op
+rows_of (Table file) = file.table.ops
+rows_of (Numbers number) = number_rows number
 
--- what is known of an accepted type: what was tested, that only for escrow it is a number, and then the bounds of its operations
+-- for escrow the bounds of a table's operations are held; those of a number are worked out
+abbrev pub HoldsBounds : Kind → Declaration → List Bounded → Type 0
+HoldsBounds kind (Table file) bounds = kind ≡ Escrow → bounds ≡ bounds_of file.table
+HoldsBounds kind (Numbers number) bounds = Unit {0}
+
+-- what is known of an accepted type: what was tested, that only for escrow it is a number, and the bounds that are held
 pub record IsAccepted (kind : Kind) (declared : Declaration) (bounds : List Bounded) : Type 0 where
   pub checked : IsCheckedBy kind (file_of declared)
   pub kinds : IsDeclaredFor kind declared
-  pub bounds_are : kind ≡ Escrow → bounds ≡ bounds_of (file_of declared).table
+  pub bounds_are : HoldsBounds kind declared bounds
 
--- a number whose calls list their amounts is accepted for escrow, and strongly
+-- a number is accepted for escrow, and strongly
 abbrev pub NumberIsChecked : Type 0
-NumberIsChecked = (v : Number) → IsNumber v → is_listed v ≡ true → IsCheckedBy Escrow (number_file v) × IsStrongBy Escrow (number_file v)
+NumberIsChecked = (v : Number) → IsNumber v → IsCheckedBy Escrow (number_file v) × IsStrongBy Escrow (number_file v)
 
 -- a kind for which a type is declared by a table
 abbrev pub IsByTable : Kind → Type 0

@@ -1,21 +1,21 @@
-ghost use Rattle.std.specs.Prelude.{◌≡◌, ◌↔◌, ◌≤◌, ◌<◌, ◌-◌, true, length, is_some, IfOk, IfSome, OnErr};
+ghost use Rattle.std.specs.Prelude.{◌≡◌, ◌↔◌, ◌≤◌, ◌<◌, ◌-◌, true, Some, length, slice_get, is_some, IfOk, IfSome, OnErr};
 ghost use Rattle.type_table.specs.Kind.{of_table};
-ghost use Rattle.type_table.specs.Limits.{most_ops};
 ghost use Rattle.type_table.specs.StateSet.{has};
-ghost use Rattle.type_table.specs.Table.{IsTable};
+ghost use Rattle.type_table.specs.Table.{IsTable, has_op, first_op};
 ghost use Rattle.type_table.specs.declared.kind.Kind.TheVariants as kinds;
 ghost use Rattle.escrow_laws.specs.Bounds.{AreBounds, bounds_of};
+ghost use Rattle.number_text.specs.Operations.{number_ops, number_table};
 ghost use Rattle.table_checker.specs.Checked.{condition_of};
 
 use crate::condition::Condition;
-use crate::declared_type::DeclaredType;
+use crate::declared_type::{Declaration, DeclaredType};
 use crate::laws::{at_is_checked, number_is_checked};
 use crate::scan::passes_everywhere;
-use escrow_laws::OpBounds;
+use escrow_laws::{Bounded, OpBounds};
 use number_text::{NumberFile, number_tells_bounds};
 use std::alloc::{AllocError, Global};
 use std::marker::Model;
-use type_table::{ConflictTable, Kind, Op, TableKind, TypeTable};
+use type_table::{ConflictTable, Kind, Op, Operation, TableKind, TypeTable};
 use type_text::TypeFile;
 
 /// A type that the checker accepted for a kind of recovery. Only the checker makes one. Contracts see
@@ -43,7 +43,6 @@ impl CheckedType {
     ghost use Rattle.table_checker.specs.Checked.{IsChecked, IsCommuting, IsNumericType, IsStrong};
     ghost use Rattle.table_checker.specs.At.{checked_at, is_inside};
     ghost use Rattle.table_checker.specs.Declarations.{file_of, number_file, IsDeclaredFor, IsByTable};
-    ghost use Rattle.number_text.specs.Operations.{is_listed};
     ghost use Rattle.type_table.specs.ConflictTable.{IsSquare};
     ghost use Rattle.type_text.specs.TypeFile.{conflicts_of};
 
@@ -76,18 +75,15 @@ impl CheckedType {
 
     /// A number, as a value.
     pub(crate) fn number(number: NumberFile) -> CheckedType
-        requires { is_listed number ≡ true }
         ensures { result ≡ record { kind = kinds.Escrow; file = number_file number } }
     {
-        number_tells_bounds();
         number_is_checked();
         // (read for its clause on what is known of a number)
         let _calls = number.calls();
-        let bounds = number.bounds();
         CheckedType {
             kind: Kind::Escrow,
             declared: DeclaredType::number(number),
-            bounds,
+            bounds: OpBounds::none(),
         }
     }
 
@@ -104,25 +100,14 @@ impl CheckedType {
         if !self.is_inside(state) {
             return Ok(None);
         }
-        let declared = self.declared.copy(alloc)?;
-        Ok(Some(self.begun(declared, state)))
-    }
-
-    /// The type of a copy of its declaration, beginning at this state.
-    fn begun(&self, copied: DeclaredType, state: u32) -> CheckedType
-        requires copied { file_of copied ≡ self.now.file }
-        requires kind { IsDeclaredFor self.now.kind copied }
-        requires inside { is_inside self.now state ≡ true }
-        ensures { result ≡ checked_at self.now state }
-    {
         at_is_checked();
-        let mut declared = copied;
+        let mut declared = self.declared.copy(alloc)?;
         declared.begin_at(state);
-        CheckedType {
+        Ok(Some(CheckedType {
             kind: self.kind,
             declared,
             bounds: self.bounds.copy(),
-        }
+        }))
     }
 
     /// Whether it may begin at this state.
@@ -168,13 +153,20 @@ impl CheckedType {
         &self.declared
     }
 
-    /// Its operations, at most 64, by their numbers.
-    pub fn ops(&self) -> &[Op]
-        ensures exact { result.now ≡ self.now.file.table.ops }
-        ensures few { length result.now ≤ most_ops }
+    /// The call and the reply of operation k, where the type has it.
+    pub fn op(&self, k: Operation) -> Option<Op>
+        ensures there { is_some result ≡ has_op self.now.file.table k }
+        ensures exact { IfSome result (λ op. slice_get self.now.file.table.ops k ≡ Some op) }
+    {
+        self.declared.op(k)
+    }
+
+    /// The first operation of the call with this name, where there is such a call.
+    pub fn first_op(&self, name: &[u8]) -> Option<Operation>
+        ensures exact { result ≡ first_op self.now.file.table name.now }
         ensures checked { IsChecked self.now }
     {
-        self.declared.ops()
+        self.declared.first_op(name)
     }
 
     /// The state at which it begins.
@@ -226,12 +218,17 @@ impl CheckedType {
         conflicts
     }
 
-    /// For escrow the bounds of its operations, and else none.
-    pub fn bounds(&self) -> &OpBounds
-        ensures exact { self.now.kind ≡ kinds.Escrow → result.now ≡ bounds_of self.now.file.table }
-        ensures numeric { self.now.kind ≡ kinds.Escrow → IsNumericType self.now.file.table }
+    /// For escrow the bounds of operation k.
+    pub fn bounded(&self, k: Operation) -> Bounded
+        requires kind { self.now.kind ≡ kinds.Escrow }
+        requires operation { k < length self.now.file.table.ops }
+        ensures exact { slice_get (bounds_of self.now.file.table) k ≡ Some result }
+        ensures numeric { IsNumericType self.now.file.table }
     {
-        &self.bounds
+        match self.declared.declaration() {
+            Declaration::Table(file) => held_at(&file.table, &self.bounds, k),
+            Declaration::Number(number) => bounded_of(number, k),
+        }
     }
 
     /// Whether the stronger condition holds: for update in place, where each pair outside the
@@ -278,4 +275,26 @@ pub fn condition_of(kind: TableKind) -> Condition
         TableKind::Undo => Condition::Backward,
         TableKind::Intentions => Condition::Forward,
     }
+}
+
+/// The bounds of a table's operation, among those of all of them.
+fn held_at(table: &TypeTable, bounds: &OpBounds, k: Operation) -> Bounded
+    requires bounds { bounds.now ≡ bounds_of table.now }
+    requires operation { k < length table.now.ops }
+    ensures { slice_get (bounds_of table.now) k ≡ Some result }
+{
+    // (read for its clause on what is known of a table)
+    let _states = table.states();
+    bounds.as_slice()[usize::from(k.place())]
+}
+
+/// The bounds of a number's operation, which are those that its table's steps tell.
+fn bounded_of(number: &NumberFile, k: Operation) -> Bounded
+    requires { k < length (number_ops number.now) }
+    ensures { slice_get (bounds_of (number_table number.now)) k ≡ Some result }
+{
+    number_tells_bounds();
+    // (read for its clause on what is known of a number)
+    let _calls = number.calls();
+    number.bounded(k)
 }

@@ -6,7 +6,6 @@ ghost use Rattle.table_checker.specs.Answer.{IsAnswer};
 ghost use Rattle.table_checker.specs.Condition.{PassesEverywhere, IsFirstFailure};
 ghost use Rattle.table_checker.specs.Checked.{IsCertified, IsStrong, condition_of};
 ghost use Rattle.table_checker.specs.Declarations.{number_file};
-ghost use Rattle.number_text.specs.Operations.{is_listed};
 ghost use Rattle.table_checker.specs.Laws.{CoversType};
 ghost use Rattle.table_checker.specs.Refusal.{IsFirstOfCertificate};
 
@@ -66,9 +65,8 @@ pub fn check_parallel(
     }
 }
 
-/// Accepts a number for escrow, whose calls list their amounts: a number is numeric. It takes no memory.
+/// Accepts a number for escrow: a number is numeric. It takes no memory.
 pub fn check_number(number: NumberFile) -> CheckedType
-    requires { is_listed number ≡ true }
     ensures exact { result ≡ record { kind = Kind.Escrow; file = number_file number } }
     ensures strong { IsStrong result }
     // Over all lists of operations.

@@ -1,17 +1,16 @@
 //! What declares a type.
 
-ghost use Rattle.std.specs.Prelude.{◌≡◌, ◌+◌, ◌-◌, ◌<◌, ◌≤◌, true, length, IfOk, IfSome, IsSome};
+ghost use Rattle.std.specs.Prelude.{◌≡◌, ◌↔◌, ◌+◌, ◌-◌, ◌<◌, ◌≤◌, true, Some, length, slice_get, is_some, IfOk, IfSome, IsSome};
 ghost use Rattle.type_table.specs.Limits.{most_ops};
-ghost use Rattle.type_table.specs.Table.{next};
+ghost use Rattle.type_table.specs.Table.{next, has_op, HasPlace, first_op};
 ghost use Rattle.type_table.specs.declared.kind.Kind.{Kind as AnyKind};
 ghost use Rattle.type_text.specs.TypeFile.{file_at};
-ghost use Rattle.number_text.specs.Operations.{is_listed};
-ghost use Rattle.table_checker.specs.Declarations.{file_of, table_of, IsDeclaredFor, IsListed, IsByTable};
+ghost use Rattle.table_checker.specs.Declarations.{file_of, table_of, rows_of, declared_at, IsDeclaredFor, IsByTable};
 
 use number_text::NumberFile;
 use std::alloc::{AllocError, Global};
 use std::marker::Model;
-use type_table::{Name, Op, TypeTable};
+use type_table::{Name, Op, Operation, TypeTable};
 use type_text::{TypeFile, parts_tell_the_file};
 
 /// How a type is declared: by a table, with conflict tables, or as a number that has no table.
@@ -21,7 +20,7 @@ pub enum Declaration {
     Number(NumberFile),
 }
 
-/// A type as it was declared. Each call of a number lists its amount. Contracts see its declaration.
+/// A type as it was declared. Contracts see its declaration.
 #[derive(Drop)]
 pub struct DeclaredType {
     declaration: Declaration,
@@ -29,13 +28,10 @@ pub struct DeclaredType {
 
 impl Model for DeclaredType {
     ghost use Rattle.table_checker.specs.declared.declared_type.Declaration.{Declaration};
-    ghost use Rattle.table_checker.specs.Declarations.{IsListed};
 
     ghost Value = { Declaration };
 
     ghost view = { λ a. a.declaration };
-
-    ghost invariant = { λ a. IsListed a.declaration };
 }
 
 impl DeclaredType {
@@ -48,9 +44,8 @@ impl DeclaredType {
         }
     }
 
-    /// A number, each of whose calls lists its amount.
+    /// A number.
     pub fn number(number: NumberFile) -> DeclaredType
-        requires { is_listed number ≡ true }
         ensures { result ≡ Declaration.Number number }
     {
         DeclaredType {
@@ -60,8 +55,7 @@ impl DeclaredType {
 
     /// What declares it.
     pub fn declaration(&self) -> &Declaration
-        ensures exact { result.now ≡ self.now }
-        ensures listed { IsListed self.now }
+        ensures { result.now ≡ self.now }
     {
         &self.declaration
     }
@@ -87,26 +81,51 @@ impl DeclaredType {
         }
     }
 
-    /// Its operations, at most 64, by their numbers.
-    pub fn ops(&self) -> &[Op]
-        ensures exact { result.now ≡ (table_of self.now).ops }
+    /// The names of the operations that it lists, at most 64, by their places. Where a call takes any amount, its name
+    /// has `any` in place of it, and where `value` is answered, `n`.
+    pub fn rows(&self) -> &[Op]
+        ensures exact { result.now ≡ rows_of self.now }
         ensures few { length result.now ≤ most_ops }
     {
         match &self.declaration {
             Declaration::Table(file) => ops_of(&file.table),
-            Declaration::Number(number) => number.ops(),
+            Declaration::Number(number) => number.rows(),
         }
     }
 
-    /// How many operations it has, at most 64.
-    pub fn op_count(&self) -> u8
-        ensures { result ≡ length (table_of self.now).ops }
+    /// Whether some operation has this place.
+    pub fn has_place(&self, place: u8) -> bool
+        ensures { (result ≡ true) ↔ HasPlace (table_of self.now) place }
     {
-        self.ops().len() as u8
+        match &self.declaration {
+            Declaration::Table(file) => is_place(&file.table, place),
+            Declaration::Number(number) => number.has_place(place),
+        }
+    }
+
+    /// The call and the reply of operation k, where the type has it.
+    pub fn op(&self, k: Operation) -> Option<Op>
+        ensures there { is_some result ≡ has_op (table_of self.now) k }
+        ensures exact { IfSome result (λ op. slice_get (table_of self.now).ops k ≡ Some op) }
+    {
+        match &self.declaration {
+            Declaration::Table(file) => op_of(&file.table, k),
+            Declaration::Number(number) => number.op(k),
+        }
+    }
+
+    /// The first operation of the call with this name, where there is such a call.
+    pub fn first_op(&self, name: &[u8]) -> Option<Operation>
+        ensures { result ≡ first_op (table_of self.now) name.now }
+    {
+        match &self.declaration {
+            Declaration::Table(file) => first_op_of(&file.table, name),
+            Declaration::Number(number) => number.first_op(name),
+        }
     }
 
     /// The next state of state s under operation k, where k is legal in s.
-    pub fn next(&self, s: u32, k: u8) -> Option<u32>
+    pub fn next(&self, s: u32, k: Operation) -> Option<u32>
         requires state { s < (table_of self.now).states }
         requires operation { k < length (table_of self.now).ops }
         ensures exact { result ≡ next (table_of self.now) s k }
@@ -153,8 +172,7 @@ impl DeclaredType {
     /// It begins at this state, which is one of its states, from now on.
     pub fn begin_at(&mut self, state: u32)
         requires { state < (table_of self.old).states }
-        ensures exact { file_of self.new ≡ file_at (file_of self.old) state }
-        ensures kinds { (kind : AnyKind) → IsDeclaredFor kind self.old → IsDeclaredFor kind self.new }
+        ensures { self.new ≡ declared_at self.old state }
     {
         match &mut self.declaration {
             Declaration::Table(file) => begin_file_at(file, state),
@@ -194,8 +212,49 @@ fn initial_of(number: &NumberFile) -> u32
     number.initial()
 }
 
+/// The call and the reply of operation k of a table.
+fn op_of(table: &TypeTable, k: Operation) -> Option<Op>
+    ensures there { is_some result ≡ has_op table.now k }
+    ensures exact { IfSome result (λ op. slice_get table.now.ops k ≡ Some op) }
+{
+    // (read for its clause on what is known of a table)
+    let _states = table.states();
+    match k.amount() {
+        Some(_) => None,
+        None => listed_op(table, k.place()),
+    }
+}
+
+/// The call and the reply at a place of a table.
+fn listed_op(table: &TypeTable, place: u8) -> Option<Op>
+    ensures there { is_some result ≡ has_op table.now place }
+    ensures exact { IfSome result (λ op. slice_get table.now.ops place ≡ Some op) }
+{
+    let op = *table.ops().get(usize::from(place))?;
+    // (read for its clause on what is known of a name)
+    let _call = op.call.as_bytes();
+    Some(op)
+}
+
+/// Whether an operation of a table has this place.
+fn is_place(table: &TypeTable, place: u8) -> bool
+    ensures { (result ≡ true) ↔ HasPlace table.now place }
+{
+    // (read for its clause on what is known of a table)
+    let _states = table.states();
+    listed_op(table, place).is_some()
+}
+
+/// The first operation of a table's call with this name.
+fn first_op_of(table: &TypeTable, name: &[u8]) -> Option<Operation>
+    ensures { result ≡ first_op table.now name.now }
+{
+    let place = table.first_op(name)?;
+    Some(Operation::listed(place))
+}
+
 /// The next state of a table.
-fn next_of(table: &TypeTable, s: u32, k: u8) -> Option<u32>
+fn next_of(table: &TypeTable, s: u32, k: Operation) -> Option<u32>
     requires state { s < table.now.states }
     requires operation { k < length table.now.ops }
     ensures exact { result ≡ next table.now s k }
@@ -203,7 +262,7 @@ fn next_of(table: &TypeTable, s: u32, k: u8) -> Option<u32>
 {
     // (read for its clause on what is known of a table)
     let _states = table.states();
-    match table.next(s as u16, k) {
+    match table.next(s as u16, k.place()) {
         Some(t) => Some(u32::from(t)),
         None => None,
     }

@@ -50,7 +50,7 @@ pub fn at_is_strong()
     ensures { AtIsStrong }
 {}
 
-/// A number whose calls list their amounts is accepted for escrow, and strongly.
+/// A number is accepted for escrow, and strongly.
 pub fn number_is_checked()
     ensures { NumberIsChecked }
 {

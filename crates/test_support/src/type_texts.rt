@@ -347,3 +347,15 @@ give 5
 atleast 1000000000
 end
 ";
+
+/// A number of any amounts, of which one is listed too, and whose value is read.
+pub const PURSE: &str = "number purse
+max 100
+initial 20
+take any
+give 7
+give any
+atleast 5
+value
+end
+";

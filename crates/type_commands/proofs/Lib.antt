@@ -3,3 +3,4 @@ pub mod Verdicts
 pub mod Words
 pub mod Asked
 pub mod Explaining
+pub mod RowOps

@@ -10,7 +10,7 @@ use Rattle.declared_text.specs.Declared.{Declares}
 use Rattle.escrow_laws.specs.Faults.{IsFirstNumericFault}
 use Rattle.explaining.specs.Explained.{IsExplained, AreRows}
 use Rattle.explaining.specs.Leads.{IsLedSet}
-use Rattle.explaining.specs.Numeric.{IsWhyNot, bounds_text, why_not_line}
+use Rattle.explaining.specs.Numeric.{IsWhyNot, why_not_line}
 use Rattle.explaining.specs.Text.{word_of, pair_text, explanation_text}
 use Rattle.explaining.specs.declared.explained.Explained.{Explained}
 use Rattle.explaining.specs.declared.explained.Row.{Row}
@@ -26,50 +26,51 @@ use Rattle.type_text.specs.declared.type_file.TypeFile.{TypeFile}
 use Rattle.std.specs.Borrow.{Bor}
 use Rattle.std.specs.Io.KnownBytes.{Appends}
 use Rattle.table_checker.specs.Checked.{Checked, IsStrong}
-use Rattle.table_checker.specs.Declarations.{IsDeclaredFor, file_of, table_of}
+use Rattle.table_checker.specs.Declarations.{IsDeclaredFor, file_of, rows_of, table_of}
 use Rattle.table_checker.specs.declared.declared_type.Declaration.{Declaration}
 use Rattle.type_commands.specs.declared.explain.Asked.{Asked}
+use Rattle.type_commands.specs.Rows.{rows_text}
 use Rattle.type_commands.specs.Verdict.{CannotBeChecked, SaysOf, yes_line}
 
 -- ---- which pair
 
--- an operation of the table by its number
-abbrev pub numbered : Table → ℕ → Option ℕ
-numbered T n = if nat_lt n (length T.ops) then Some n else None
+-- a row of a type by its number
+abbrev pub numbered : List Op → ℕ → Option ℕ
+numbered rows n = if nat_lt n (length rows) then Some n else None
 
 -- or by its word, CALL/REPLY
 abbrev pub worded : List Op → List ℕ → Option ℕ
-worded ops word = position (λ (op : Op). bytes_eq (word_of op) word) ops
+worded rows word = position (λ (op : Op). bytes_eq (word_of op) word) rows
 
-abbrev pub named_by : Table → List ℕ → Option ℕ → Option ℕ
-named_by T word (Some n) = numbered T n
-named_by T word None = worded T.ops word
+abbrev pub named_by : List Op → List ℕ → Option ℕ → Option ℕ
+named_by rows word (Some n) = numbered rows n
+named_by rows word None = worded rows word
 
--- the operation that a word names
-abbrev pub op_of : Table → List ℕ → Option ℕ
-op_of T word = named_by T word (number_of word)
+-- the row that a word names
+abbrev pub row_of : List Op → List ℕ → Option ℕ
+row_of rows word = named_by rows word (number_of word)
 
--- the pair of operations that two words name
-abbrev pub pair_of : Table → List ℕ → List ℕ → Option (ℕ × ℕ)
-pair_of T p q = option_and_then (λ first. option_map (λ second. (first, second)) (op_of T q)) (op_of T p)
+-- the pair of rows that two words name
+abbrev pub pair_of : List Op → List ℕ → List ℕ → Option (ℕ × ℕ)
+pair_of rows p q = option_and_then (λ first. option_map (λ second. (first, second)) (row_of rows q)) (row_of rows p)
 
 -- no words ask for all pairs, two for the pair that they name; None where they name none
-abbrev pub asked_of : Table → Option (List ℕ × List ℕ) → Option (Option (ℕ × ℕ))
-asked_of T None = Some None
-asked_of T (Some words) = option_map (λ pair. Some pair) (pair_of T words.0 words.1)
+abbrev pub asked_of : List Op → Option (List ℕ × List ℕ) → Option (Option (ℕ × ℕ))
+asked_of rows None = Some None
+asked_of rows (Some words) = option_map (λ pair. Some pair) (pair_of rows words.0 words.1)
 
 -- two words behind references
 abbrev pub words_as : Option (Bor (List ℕ) × Bor (List ℕ)) → Option (List ℕ × List ℕ)
 words_as words = option_map (λ (w : Bor (List ℕ) × Bor (List ℕ)). (w.0.now, w.1.now)) words
 
--- a pair of operations
+-- a pair of rows
 abbrev pub pair_as : Option Asked → Option (ℕ × ℕ)
 pair_as asked = option_map (λ (a : Asked). (a.p, a.q)) asked
 
 abbrev pub asked_as : Option (Option Asked) → Option (Option (ℕ × ℕ))
 asked_as asked = option_map pair_as asked
 
--- both are of the table
+-- both are operations of a table
 abbrev pub AreOps : Table → Asked → Type 0
 AreOps T asked = (asked.p < length T.ops) × (asked.q < length T.ops)
 
@@ -82,30 +83,40 @@ ExplainsPairs kind file None text =
 ExplainsPairs kind file (Some pair) text =
     (led : List Bool) × (e : Explained) × IsLedSet file.table led × IsExplained kind file pair.0 pair.1 e × (text ≡ pair_text kind file led e)
 
--- an operation that is asked for
+-- a row that is asked for
 abbrev pub is_asked : Option (ℕ × ℕ) → ℕ → Bool
 is_asked None k = true
 is_asked (Some pair) k = k == pair.0 || k == pair.1
 
--- escrow: the bounds of the operations that are asked for, or why the type isn't numeric
-abbrev pub ExplainsNumber : Table → Option (ℕ × ℕ) → Verdict → List ℕ → Type 0
-ExplainsNumber T asked Yes text = text ≡ bounds_text T (filter (is_asked asked) (range_with_len 0 (length T.ops)))
-ExplainsNumber T asked No text =
-    (k : ℕ) × (s : ℕ) × (w : WhyNot) × IsFirstNumericFault T k s × IsWhyNot T k s w × (text ≡ why_not_line T k s w)
+abbrev pub rows_asked : Declaration → Option (ℕ × ℕ) → List ℕ
+rows_asked declaration asked = filter (is_asked asked) (range_with_len 0 (length (rows_of declaration)))
 
-abbrev pub ExplainsBy : Kind → TypeFile → Option (ℕ × ℕ) → Verdict → List ℕ → Type 0
-ExplainsBy Undo file asked verdict text = ExplainsPairs tabled.Undo file asked text
-ExplainsBy Intentions file asked verdict text = ExplainsPairs tabled.Intentions file asked text
-ExplainsBy Escrow file asked verdict text = ExplainsNumber file.table asked verdict text
+-- escrow: why a type isn't numeric
+abbrev pub ExplainsFault : Table → List ℕ → Type 0
+ExplainsFault T text = (k : ℕ) × (s : ℕ) × (w : WhyNot) × IsFirstNumericFault T k s × IsWhyNot T k s w × (text ≡ why_not_line T k s w)
+
+-- the lines of the rows that are asked for, or that
+abbrev pub ExplainsNumber : Declaration → Option (ℕ × ℕ) → Verdict → List ℕ → Type 0
+ExplainsNumber declaration asked Yes text = text ≡ rows_text declaration (rows_asked declaration asked)
+ExplainsNumber declaration asked No text = ExplainsFault (table_of declaration) text
+
+-- by the kind: the pairs of a file, or for escrow these lines
+abbrev pub ExplainsFor : Kind → TypeFile → Option (ℕ × ℕ) → (List ℕ → Type 0) → List ℕ → Type 0
+ExplainsFor Undo file asked numeric text = ExplainsPairs tabled.Undo file asked text
+ExplainsFor Intentions file asked numeric text = ExplainsPairs tabled.Intentions file asked text
+ExplainsFor Escrow file asked numeric text = numeric text
+
+abbrev pub ExplainsBy : Kind → Declaration → Option (ℕ × ℕ) → Verdict → List ℕ → Type 0
+ExplainsBy kind declaration asked verdict text = ExplainsFor kind (file_of declaration) asked (ExplainsNumber declaration asked verdict) text
 
 -- ---- the answer
 
--- to what is asked of a file: the line of `check`, and the lines after it
-pub record Explains (kind : Kind) (file : TypeFile) (asked : Option (ℕ × ℕ)) (verdict : Verdict) (text : List ℕ) : Type 0 where
+-- to what is asked of a type: the line of `check`, and the lines after it
+pub record Explains (kind : Kind) (declaration : Declaration) (asked : Option (ℕ × ℕ)) (verdict : Verdict) (text : List ℕ) : Type 0 where
   pub first : List ℕ
   pub rest : List ℕ
-  pub checked : SaysOf kind file verdict first
-  pub explained : ExplainsBy kind file asked verdict rest
+  pub checked : SaysOf kind (file_of declaration) verdict first
+  pub explained : ExplainsBy kind declaration asked verdict rest
   pub whole : text ≡ first ++ rest
 
 -- the answer to what is declared at a path, by what is held there
@@ -114,13 +125,13 @@ pub record ExplainsFile (held : Option (List ℕ)) (kind : Kind) (words : Option
   pub asked : Option (ℕ × ℕ)
   pub declared : IsDeclaredAt held declaration
   pub fits : IsDeclaredFor kind declaration
-  pub names : asked_of (table_of declaration) words ≡ Some asked
-  pub explains : Explains kind (file_of declaration) asked verdict text
+  pub names : asked_of (rows_of declaration) words ≡ Some asked
+  pub explains : Explains kind declaration asked verdict text
 
--- the text has a fault, or declares a number, and the kind isn't escrow; or the words name no operations of its type
+-- the text has a fault, or declares a number, and the kind isn't escrow; or the words name no rows of its type
 abbrev pub CannotBeExplained : Kind → Option (List ℕ × List ℕ) → List ℕ → Type 0
 CannotBeExplained kind words text =
-    CannotBeChecked kind text ⊎ ((declaration : Declaration) × Declares text declaration × (asked_of (table_of declaration) words ≡ None))
+    CannotBeChecked kind text ⊎ ((declaration : Declaration) × Declares text declaration × (asked_of (rows_of declaration) words ≡ None))
 
 -- ---- how it is put together
 

@@ -2,3 +2,4 @@ pub mod Request
 pub mod Verdict
 pub mod Made
 pub mod Explain
+pub mod Rows

@@ -3,7 +3,7 @@ use Rattle.std.specs.Borrow.{Bor}
 use Rattle.std.specs.Prelude.{map, ◌≡◌, ◌≢◌, ℕ, ◌^◌, List, [], ◌∷◌, nat_lt, Option, Some, None, Result, Ok, Err, option_map, option_and_then, codes, length, ◌==◌, if◌then◌else◌}
 use Rattle.std.specs.Str.{bytes_eq}
 use Rattle.line_text.specs.Text.{number_of}
-use Rattle.number_text.specs.Digits.{long_number_of}
+use Rattle.line_text.specs.LongNumbers.{long_number_of}
 use Rattle.number_text.specs.NumberFile.{Number}
 use Rattle.type_table.specs.Name.{is_name}
 use Rattle.table_maker.specs.Account.{account as account_family, AccountFits}

@@ -4,7 +4,7 @@ ghost use Rattle.std.specs.Prelude.{◌≡◌, ◌↔◌, true, IfErr, IfOk, IfS
 ghost use Rattle.command_files.specs.Answers.{Refuses};
 ghost use Rattle.command_files.specs.Files.{IsDeclaredAt};
 ghost use Rattle.table_checker.specs.Answer.{IsAnswer};
-ghost use Rattle.table_checker.specs.Declarations.{IsDeclaredFor, IsListed, file_of};
+ghost use Rattle.table_checker.specs.Declarations.{IsDeclaredFor, file_of};
 ghost use Rattle.table_checker.specs.Laws.{CoversType};
 ghost use Rattle.type_commands.specs.Verdict.{CannotBeChecked, IsToldEscrow, NeedsEscrow};
 
@@ -53,8 +53,7 @@ fn is_for(declared: &DeclaredType, kind: Kind) -> bool
 
 /// A copy of what is declared, which the checker may take.
 pub fn copied(alloc: Global, declared: &DeclaredType) -> Result<Declaration, AllocError>
-    ensures same { IfOk result (λ declaration. declaration ≡ declared.now) }
-    ensures listed { IfOk result IsListed }
+    ensures { IfOk result (λ declaration. declaration ≡ declared.now) }
 {
     match declared.declaration() {
         Declaration::Table(file) => Ok(Declaration::Table(file.copy(alloc)?)),
@@ -72,8 +71,7 @@ pub fn check_declared(
     kind: Kind,
     declaration: Declaration,
 ) -> Result<CheckedType, (TypeFile, CheckRefusal)>
-    requires fits { IsDeclaredFor kind declaration }
-    requires listed { IsListed declaration }
+    requires { IsDeclaredFor kind declaration }
     ensures exact { IsAnswer kind (file_of declaration) result }
     // Over all lists of operations.
     ensures covers { OnOk result (CoversType kind (file_of declaration)) }
@@ -83,7 +81,7 @@ pub fn check_declared(
         Declaration::Number(number) => {
             let checked = check_number(number);
             // (read for its clause on what was checked)
-            checked.ops();
+            let _initial = checked.initial();
             Ok(checked)
         }
     }

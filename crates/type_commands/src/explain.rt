@@ -1,7 +1,6 @@
 //! `explain`: why two operations of a type have to exclude each other.
 
-ghost use Rattle.std.specs.Prelude.{◌≡◌, ◌≤◌, ◌<◌, ◌∷◌, All, None, Some, IfOk, IfSome, OnOk, filter, if◌then◌else◌, length, nat_lt};
-ghost use Rattle.std.specs.List.{range_with_len};
+ghost use Rattle.std.specs.Prelude.{◌≡◌, ◌≤◌, ◌<◌, ◌∷◌, All, None, Some, IfOk, IfSome, OnOk, if◌then◌else◌, length, nat_lt};
 ghost use Rattle.std.specs.Str.{bytes_eq};
 ghost use Rattle.command_files.specs.Answers.{Comes};
 ghost use Rattle.command_files.specs.Refusals.{no_line};
@@ -9,18 +8,20 @@ ghost use Rattle.command_files.specs.declared.status.Verdict.TheVariants as verd
 ghost use Rattle.escrow_laws.specs.Faults.{IsFirstNumericFault};
 ghost use Rattle.explaining.specs.Explainers.{IsExplainer};
 ghost use Rattle.explaining.specs.Text.{word_of};
-ghost use Rattle.table_checker.specs.Declarations.{IsDeclaredFor, file_of, table_of};
+ghost use Rattle.table_checker.specs.Declarations.{IsDeclaredFor, file_of, rows_of, table_of};
 ghost use Rattle.table_checker.specs.Laws.{CoversType};
 ghost use Rattle.table_checker.specs.Refusal.{IsFirstOfNumeric, IsFirstReason};
+ghost use Rattle.table_checker.specs.declared.declared_type.Declaration.{Declaration as DeclarationValue};
 ghost use Rattle.type_table.specs.Limits.{most_ops};
 ghost use Rattle.type_table.specs.declared.kind.Kind.TheVariants as kinds;
-ghost use Rattle.type_commands.specs.Explain.{Adds, AreOps, CannotBeExplained, Explains, ExplainsBy, ExplainsFile, ExplainsNumber, ExplainsPairs, IsYesLine, SaysThen, asked_as, asked_of, is_asked, op_of, pair_as, worded, words_as};
+ghost use Rattle.type_commands.specs.Explain.{Adds, AreOps, CannotBeExplained, Explains, ExplainsBy, ExplainsFault, ExplainsFile, ExplainsFor, ExplainsNumber, ExplainsPairs, IsYesLine, SaysThen, asked_as, asked_of, is_asked, pair_as, row_of, rows_asked, worded, words_as};
 ghost use Rattle.type_commands.specs.Verdict.{IsToldEscrow, NeedsEscrow};
 
 use crate::asked_type::{check_declared, copied, read_for};
 use crate::check::yes_line;
+use crate::rows::write_row_lines;
 use command_files::{Fault, Source, Verdict, no_line, put_answer};
-use explaining::{Explainer, why_not, write_bounds, write_pair, write_rows, write_why_not};
+use explaining::{Explainer, why_not, write_pair, write_rows, write_why_not};
 use line_text::number_of;
 use std::alloc::{AllocError, Global};
 use std::thread::Threads;
@@ -28,7 +29,7 @@ use table_checker::{CheckRefusal, CheckedType, DeclaredType};
 use type_table::{Kind, Op, TableKind, TypeTable};
 use type_text::{Out, OutFault, Sink, TypeFile, put};
 
-/// A requested operation and a held one.
+/// A requested operation and a held one, by their places among those that the type lists.
 #[derive(Clone, Copy)]
 pub struct Asked {
     pub p: u8,
@@ -53,8 +54,8 @@ impl From<OutFault> for NoText {
 
 /// `explain KIND FILE [P Q]`: the line of `check`, and why each pair of operations has to be in the
 /// file's conflict table for the kind; with two words, P requested and Q held, the lines on this pair.
-/// A word is an operation's number, or CALL/REPLY. For escrow, the bounds of the operations. A number is
-/// asked about for escrow alone.
+/// A word is an operation's number, or CALL/REPLY. For escrow, the bounds of the operations, where a call takes
+/// any amount by that amount N. A number is asked about for escrow alone.
 ///
 /// # Errors
 ///
@@ -82,58 +83,60 @@ pub fn explain_file<'a, R: AllocGlobal + Threads + Sync, S: Source, W: Out>(
 
 /// The pair that two words ask for, or all where there are none; None where they name no operations.
 fn asked_of(declared: &DeclaredType, words: Option<(&str, &str)>) -> Option<Option<Asked>>
-    ensures exact { asked_of (table_of declared.now) (words_as words.entry) ≡ asked_as result }
+    ensures exact { asked_of (rows_of declared.now) (words_as words.entry) ≡ asked_as result }
     ensures inside { IfSome result (λ asked. IfSome asked (AreOps (table_of declared.now))) }
 {
     match words {
         None => Some(None),
         Some((p, q)) => {
-            let p = op_of(declared, p)?;
-            let q = op_of(declared, q)?;
+            let p = row_of(declared, p)?;
+            let q = row_of(declared, q)?;
             Some(Some(Asked { p, q }))
         }
     }
 }
 
-/// The operation that a word names.
-fn op_of(declared: &DeclaredType, word: &str) -> Option<u8>
-    ensures exact { result ≡ op_of (table_of declared.now) word.now }
+/// The row that a word names.
+fn row_of(declared: &DeclaredType, word: &str) -> Option<u8>
+    ensures exact { result ≡ row_of (rows_of declared.now) word.now }
     ensures inside { IfSome result (λ k. k < length (table_of declared.now).ops) }
 {
-    let count = declared.op_count();
+    let rows = declared.rows();
     match number_of(word.as_bytes()) {
-        Some(n) => below(n, count),
-        None => worded(declared.ops(), word.as_bytes()),
+        Some(n) => below(n, rows.len()),
+        None => worded(rows, word.as_bytes()),
     }
 }
 
-/// A number, where it is below a count.
-fn below(n: u32, count: u8) -> Option<u8>
-    ensures { result ≡ if nat_lt n count then Some n else None }
+/// A number, where it is below a count of rows.
+fn below(n: u32, count: usize) -> Option<u8>
+    requires { count ≤ most_ops }
+    ensures exact { result ≡ if nat_lt n count then Some n else None }
+    ensures inside { IfSome result (λ k. k < count) }
 {
-    if n < u32::from(count) {
+    if (n as usize) < count {
         Some(n as u8)
     } else {
         None
     }
 }
 
-/// The operation of a word CALL/REPLY.
-fn worded(ops: &[Op], word: &[u8]) -> Option<u8>
-    requires { length ops.now ≤ most_ops }
-    ensures exact { result ≡ worded ops.now word.now }
-    ensures inside { IfSome result (λ k. k < length ops.now) }
+/// The row of a word CALL/REPLY.
+fn worded(rows: &[Op], word: &[u8]) -> Option<u8>
+    requires { length rows.now ≤ most_ops }
+    ensures exact { result ≡ worded rows.now word.now }
+    ensures inside { IfSome result (λ k. k < length rows.now) }
 {
-    let place = place_of_word(ops, word)?;
+    let place = place_of_word(rows, word)?;
     Some(place as u8)
 }
 
 /// Its place.
-fn place_of_word(ops: &[Op], word: &[u8]) -> Option<usize>
-    ensures exact { result ≡ worded ops.now word.now }
-    ensures inside { IfSome result (λ place. place < length ops.now) }
+fn place_of_word(rows: &[Op], word: &[u8]) -> Option<usize>
+    ensures exact { result ≡ worded rows.now word.now }
+    ensures inside { IfSome result (λ place. place < length rows.now) }
 {
-    ops.iter().position(|op| is_word(op, word))
+    rows.iter().position(|op| is_word(op, word))
 }
 
 /// Whether a word is an operation's: its call, a slash, its reply.
@@ -167,11 +170,11 @@ fn explain_read<'a, R: AllocGlobal + Threads + Sync, W: Out>(
     requires no_fault { W.fault out.old ≡ None }
     requires fits { IsDeclaredFor kind declared.now }
     requires asked { IfSome asked (AreOps (table_of declared.now)) }
-    ensures { Comes (Explains kind (file_of declared.now) (pair_as asked)) ⊥ result (W.taken out.old) (W.taken out.new) }
+    ensures { Comes (Explains kind declared.now (pair_as asked)) ⊥ result (W.taken out.old) (W.taken out.new) }
 {
     let declaration = copied(rt.alloc(), declared)?;
     match check_declared(rt, kind, declaration) {
-        Ok(checked) => explain_yes(rt.alloc(), &checked, asked, out),
+        Ok(checked) => explain_yes(rt.alloc(), declared, &checked, asked, out),
         Err((file, refusal)) => explain_no(rt.alloc(), kind, &file, refusal, asked, out),
     }
 }
@@ -179,16 +182,18 @@ fn explain_read<'a, R: AllocGlobal + Threads + Sync, W: Out>(
 /// The answer where the checker says yes.
 fn explain_yes<'a, W: Out>(
     alloc: Global,
+    declared: &DeclaredType,
     checked: &CheckedType,
     asked: Option<Asked>,
     out: &mut W,
 ) -> Result<Verdict, Fault<'a>>
     requires no_fault { W.fault out.old ≡ None }
     requires asked { IfSome asked (AreOps checked.now.file.table) }
+    requires same { checked.now.file ≡ file_of declared.now }
     requires covers { CoversType checked.now.kind checked.now.file }
-    ensures { Comes (Explains checked.now.kind checked.now.file (pair_as asked)) ⊥ result (W.taken out.old) (W.taken out.new) }
+    ensures { Comes (Explains checked.now.kind declared.now (pair_as asked)) ⊥ result (W.taken out.old) (W.taken out.new) }
 {
-    match yes_text(alloc, checked, asked) {
+    match yes_text(alloc, declared, checked, asked) {
         Ok(text) => put_answer(Verdict::Yes, &text, out),
         Err(NoText) => Err(Fault::NoMemory),
     }
@@ -206,7 +211,7 @@ fn explain_no<'a, W: Out>(
     requires no_fault { W.fault out.old ≡ None }
     requires asked { IfSome asked (AreOps file.now.table) }
     requires first { IsFirstReason kind file.now refusal }
-    ensures { Comes (Explains kind file.now (pair_as asked)) ⊥ result (W.taken out.old) (W.taken out.new) }
+    ensures { (declaration : DeclarationValue) → file_of declaration ≡ file.now → Comes (Explains kind declaration (pair_as asked)) ⊥ result (W.taken out.old) (W.taken out.new) }
 {
     match no_text(alloc, kind, file, refusal, asked) {
         Ok(text) => put_answer(Verdict::No, &text, out),
@@ -215,45 +220,55 @@ fn explain_no<'a, W: Out>(
 }
 
 /// The text of a yes.
-fn yes_text(alloc: Global, checked: &CheckedType, asked: Option<Asked>) -> Result<Vec<u8>, NoText>
-    requires { IfSome asked (AreOps checked.now.file.table) }
-    ensures { IfOk result (λ text. SaysThen (IsYesLine checked.now) (ExplainsBy checked.now.kind checked.now.file (pair_as asked) verdicts.Yes) text.items) }
+fn yes_text(
+    alloc: Global,
+    declared: &DeclaredType,
+    checked: &CheckedType,
+    asked: Option<Asked>,
+) -> Result<Vec<u8>, NoText>
+    requires asked { IfSome asked (AreOps checked.now.file.table) }
+    requires same { checked.now.file ≡ file_of declared.now }
+    ensures { IfOk result (λ text. SaysThen (IsYesLine checked.now) (ExplainsBy checked.now.kind declared.now (pair_as asked) verdicts.Yes) text.items) }
 {
     let mut text = Sink::new(Vec::new(alloc));
-    put_yes(alloc, checked, asked, &mut text)?;
+    put_yes(alloc, declared, checked, asked, &mut text)?;
     Ok(text.into_inner())
 }
 
 /// Writes the line of a yes, and what comes after it.
 fn put_yes<W: Out>(
     alloc: Global,
+    declared: &DeclaredType,
     checked: &CheckedType,
     asked: Option<Asked>,
     out: &mut W,
 ) -> Result<(), NoText>
     requires no_fault { W.fault out.old ≡ None }
     requires asked { IfSome asked (AreOps checked.now.file.table) }
+    requires same { checked.now.file ≡ file_of declared.now }
     ensures { OnOk result (Adds (W.taken out.old) (W.taken out.new)
-        (SaysThen (IsYesLine checked.now) (ExplainsBy checked.now.kind checked.now.file (pair_as asked) verdicts.Yes))) }
+        (SaysThen (IsYesLine checked.now) (ExplainsBy checked.now.kind declared.now (pair_as asked) verdicts.Yes))) }
 {
     put(out, yes_line(checked.is_strong()).as_bytes())?;
-    put_after_yes(alloc, checked, asked, out)
+    put_after_yes(alloc, declared, checked, asked, out)
 }
 
 /// Writes what comes after the line of a yes.
 fn put_after_yes<W: Out>(
     alloc: Global,
+    declared: &DeclaredType,
     checked: &CheckedType,
     asked: Option<Asked>,
     out: &mut W,
 ) -> Result<(), NoText>
     requires no_fault { W.fault out.old ≡ None }
     requires asked { IfSome asked (AreOps checked.now.file.table) }
-    ensures { OnOk result (Adds (W.taken out.old) (W.taken out.new) (ExplainsBy checked.now.kind checked.now.file (pair_as asked) verdicts.Yes)) }
+    requires same { checked.now.file ≡ file_of declared.now }
+    ensures { OnOk result (Adds (W.taken out.old) (W.taken out.new) (ExplainsBy checked.now.kind declared.now (pair_as asked) verdicts.Yes)) }
 {
     match checked.kind().table_kind() {
         Some(kind) => put_pairs(alloc, kind, checked.file(), asked, out),
-        None => put_bounds(alloc, checked, asked, out),
+        None => put_bounds(alloc, declared, checked, asked, out),
     }
 }
 
@@ -267,7 +282,7 @@ fn no_text(
 ) -> Result<Vec<u8>, NoText>
     requires asked { IfSome asked (AreOps file.now.table) }
     requires first { IsFirstReason kind file.now refusal }
-    ensures { IfOk result (λ text. SaysThen (λ line. line ≡ no_line refusal) (ExplainsBy kind file.now (pair_as asked) verdicts.No) text.items) }
+    ensures { IfOk result (λ text. SaysThen (λ line. line ≡ no_line refusal) (ExplainsFor kind file.now (pair_as asked) (ExplainsFault file.now.table)) text.items) }
 {
     let mut text = Sink::new(Vec::new(alloc));
     put_no(alloc, kind, file, refusal, asked, &mut text)?;
@@ -287,7 +302,7 @@ fn put_no<W: Out>(
     requires asked { IfSome asked (AreOps file.now.table) }
     requires first { IsFirstReason kind file.now refusal }
     ensures { OnOk result (Adds (W.taken out.old) (W.taken out.new)
-        (SaysThen (λ line. line ≡ no_line refusal) (ExplainsBy kind file.now (pair_as asked) verdicts.No))) }
+        (SaysThen (λ line. line ≡ no_line refusal) (ExplainsFor kind file.now (pair_as asked) (ExplainsFault file.now.table)))) }
 {
     let line = no_line(alloc, refusal)?;
     put(out, line.as_bytes())?;
@@ -306,7 +321,7 @@ fn put_after_no<W: Out>(
     requires no_fault { W.fault out.old ≡ None }
     requires asked { IfSome asked (AreOps file.now.table) }
     requires first { IsFirstReason kind file.now refusal }
-    ensures { OnOk result (Adds (W.taken out.old) (W.taken out.new) (ExplainsBy kind file.now (pair_as asked) verdicts.No)) }
+    ensures { OnOk result (Adds (W.taken out.old) (W.taken out.new) (ExplainsFor kind file.now (pair_as asked) (ExplainsFault file.now.table))) }
 {
     match kind.table_kind() {
         Some(kind) => put_pairs(alloc, kind, file, asked, out),
@@ -371,42 +386,44 @@ fn put_pair<W: Out>(
     Ok(())
 }
 
-/// Writes the bounds of the operations that are asked for.
+/// Writes the lines of the rows that are asked for.
 fn put_bounds<W: Out>(
     alloc: Global,
+    declared: &DeclaredType,
     checked: &CheckedType,
     asked: Option<Asked>,
     out: &mut W,
 ) -> Result<(), NoText>
     requires no_fault { W.fault out.old ≡ None }
     requires numeric { checked.now.kind ≡ kinds.Escrow }
-    ensures { OnOk result (Adds (W.taken out.old) (W.taken out.new) (ExplainsNumber checked.now.file.table (pair_as asked) verdicts.Yes)) }
+    requires same { checked.now.file ≡ file_of declared.now }
+    ensures { OnOk result (Adds (W.taken out.old) (W.taken out.new) (ExplainsNumber declared.now (pair_as asked) verdicts.Yes)) }
 {
-    let declared = checked.declared();
-    let ops = asked_ops(alloc, declared, asked)?;
-    write_bounds(declared, checked.bounds().as_slice(), &ops, out)?;
+    let rows = rows_asked(alloc, declared, asked)?;
+    write_row_lines(declared, checked, &rows, out)?;
     Ok(())
 }
 
-/// The operations that are asked for.
-fn asked_ops(
+/// The rows that are asked for.
+fn rows_asked(
     alloc: Global,
     declared: &DeclaredType,
     asked: Option<Asked>,
 ) -> Result<Vec<u8>, AllocError>
-    ensures exact { IfOk result (λ ops. ops.items ≡ filter (is_asked (pair_as asked)) (range_with_len 0 (length (table_of declared.now).ops))) }
-    ensures inside { IfOk result (λ ops. All (λ k. k < length (table_of declared.now).ops) ops.items) }
+    ensures exact { IfOk result (λ rows. rows.items ≡ rows_asked declared.now (pair_as asked)) }
+    ensures inside { IfOk result (λ rows. All (λ k. k < length (rows_of declared.now)) rows.items) }
 {
-    let mut ops = Vec::new(alloc);
-    for k in 0..declared.op_count() {
+    let count = declared.rows().len() as u8;
+    let mut rows = Vec::new(alloc);
+    for k in 0..count {
         if is_asked(asked, k) {
-            ops.push(k)?;
+            rows.push(k)?;
         }
     }
-    Ok(ops)
+    Ok(rows)
 }
 
-/// Whether an operation is asked for.
+/// Whether a row is asked for.
 fn is_asked(asked: Option<Asked>, k: u8) -> bool
     ensures { result ≡ is_asked (pair_as asked) k }
 {
@@ -420,7 +437,7 @@ fn is_asked(asked: Option<Asked>, k: u8) -> bool
 fn put_why_not<W: Out>(table: &TypeTable, refusal: CheckRefusal, out: &mut W) -> Result<(), NoText>
     requires no_fault { W.fault out.old ≡ None }
     requires first { IsFirstOfNumeric table.now refusal }
-    ensures { OnOk result (Adds (W.taken out.old) (W.taken out.new) (ExplainsNumber table.now None verdicts.No)) }
+    ensures { OnOk result (Adds (W.taken out.old) (W.taken out.new) (ExplainsFault table.now)) }
 {
     match refusal {
         CheckRefusal::NotNumeric { k, s } => put_fault(table, k, s, out),
@@ -433,7 +450,7 @@ fn put_why_not<W: Out>(table: &TypeTable, refusal: CheckRefusal, out: &mut W) ->
 fn put_fault<W: Out>(table: &TypeTable, k: u8, s: u16, out: &mut W) -> Result<(), NoText>
     requires no_fault { W.fault out.old ≡ None }
     requires first { IsFirstNumericFault table.now k s }
-    ensures { OnOk result (Adds (W.taken out.old) (W.taken out.new) (ExplainsNumber table.now None verdicts.No)) }
+    ensures { OnOk result (Adds (W.taken out.old) (W.taken out.new) (ExplainsFault table.now)) }
 {
     let why = why_not(table, k, s);
     write_why_not(table, k, s, why, out)?;

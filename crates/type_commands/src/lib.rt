@@ -4,14 +4,16 @@
 mod asked_type;
 mod check;
 mod explain;
-mod long_number;
+mod laws;
 mod make;
 mod request;
+mod rows;
 mod tables;
 mod write;
 
 pub use check::check_file;
 pub use explain::explain_file;
+pub use laws::bounds_by_amount;
 pub use make::make_family;
 pub use tables::make_tables_of;
 

@@ -8,9 +8,8 @@ ghost use Rattle.table_families.specs.Number.{MakesNumber};
 ghost use Rattle.table_maker.specs.Made.{Family, Makes};
 ghost use Rattle.number_text.specs.NumberFile.{Number};
 
-use crate::long_number::long_number_of;
-use line_text::number_of;
-use number_text::{NumberFile, numbers_are_listed};
+use line_text::{long_number_of, number_of};
+use number_text::NumberFile;
 use std::alloc::{AllocError, Global};
 use table_checker::DeclaredType;
 use table_families::{make_number, make_queue, make_seats, make_stock};
@@ -305,12 +304,7 @@ fn by_number(made: Result<NumberFile, MakeError>) -> Result<DeclaredType, MakeEr
     ensures { (wanted : Wanted) (v : Number) → formula_of wanted ≡ value v → MakesNumber made (IsGood wanted) (Fits wanted) v → MakesWanted wanted result }
 {
     match made {
-        Ok(number) => {
-            numbers_are_listed();
-            // (read for its clause on what is known of a number)
-            let _calls = number.calls();
-            Ok(DeclaredType::number(number))
-        }
+        Ok(number) => Ok(DeclaredType::number(number)),
         Err(error) => Err(error),
     }
 }

@@ -3,6 +3,7 @@ pub mod Name
 pub mod Kind
 pub mod Padded
 pub mod Op
+pub mod Operation
 pub mod Counts
 pub mod Least
 pub mod Table

@@ -4,6 +4,7 @@ use Rattle.std.specs.List.{list_all, position}
 use Rattle.std.specs.Str.{bytes_eq}
 use Rattle.type_table.specs.Limits.{most_states, most_ops}
 use Rattle.type_table.specs.Op.{has_twin}
+use Rattle.type_table.specs.Operation.{place_of}
 use Rattle.type_table.specs.Counts.{has_counts, is_inside}
 use Rattle.type_table.specs.declared.op.Op.{Op}
 use Rattle.type_table.specs.declared.table_error.TableError.{TableError}
@@ -36,9 +37,17 @@ AreSteps T steps = (s k : ℕ) → s < T.states → k < length T.ops → slice_g
 abbrev pub call_of : Table → ℕ → List ℕ
 call_of T k = slice_index_or (map (λ (o : Op). o.call) T.ops) k []
 
+-- the operation is one of the type's. A number of the table without a name is that of no operation
+abbrev pub has_op : Table → ℕ → Bool
+has_op T k = nat_lt 0 (length (call_of T k))
+
+-- some operation has this place
+abbrev pub HasPlace : Table → ℕ → Type 0
+HasPlace T place = (k : ℕ) × (place_of k ≡ place) × (has_op T k ≡ true)
+
 -- the first operation whose call has this name
 abbrev pub first_op : Table → List ℕ → Option ℕ
-first_op T name = position (λ (o : Op). bytes_eq o.call name) T.ops
+first_op T name = if nat_lt 0 (length name) then position (λ (o : Op). bytes_eq o.call name) T.ops else None
 
 -- two operations are of one call
 abbrev pub is_same_call : Table → ℕ → ℕ → Bool

@@ -8,6 +8,7 @@ mod laws;
 mod limits;
 mod name;
 mod op;
+mod operation;
 mod state_set;
 mod table;
 mod table_error;
@@ -26,6 +27,7 @@ pub use limits::{
 };
 pub use name::Name;
 pub use op::Op;
+pub use operation::Operation;
 pub use state_set::StateSet;
 pub use table::TypeTable;
 pub use table_error::TableError;

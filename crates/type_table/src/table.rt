@@ -9,6 +9,7 @@ ghost use Rattle.type_table.specs.Counts.{has_counts, is_inside};
 use crate::limits::{MOST_OPS, MOST_STATES};
 use crate::name::Name;
 use crate::op::Op;
+use crate::operation::Operation;
 use crate::table_error::TableError;
 use std::alloc::{AllocError, Global};
 use std::marker::Model;
@@ -190,11 +191,24 @@ impl TypeTable {
         Some(state)
     }
 
+    /// The place of an operation, which is its number: an operation of a table has no amount.
+    pub fn column(&self, k: Operation) -> u8
+        requires { k < length self.now.ops }
+        ensures { result ≡ k }
+    {
+        // (read for what is known of a table)
+        let _ops = &self.ops;
+        k.place()
+    }
+
     /// The least operation whose call has this name. Its number is the number of the call.
-    pub fn first_op(&self, name: &str) -> Option<u8>
+    pub fn first_op(&self, name: &[u8]) -> Option<u8>
         ensures { result ≡ first_op self.now name.now }
     {
-        let place = place_of_call(&self.ops, name.as_bytes())?;
+        if name.is_empty() {
+            return None;
+        }
+        let place = place_of_call(&self.ops, name)?;
         Some(place as u8)
     }
 

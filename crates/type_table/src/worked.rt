@@ -2,7 +2,8 @@
 #![tactic(auto, unfolding(crate::specs::Table::next, crate::specs::Table::table_fault))]
 
 ghost use Rattle.std.specs.Prelude.{◌≡◌, false, true, [], ◌∷◌, Some, None, codes};
-ghost use Rattle.type_table.specs.Table.{AreSteps, next, table_at, table_fault, first_op, is_same_call};
+ghost use Rattle.type_table.specs.Operation.{operation_at, place_of, amount_of};
+ghost use Rattle.type_table.specs.Table.{AreSteps, next, table_at, table_fault, has_op, first_op, is_same_call};
 ghost use Rattle.type_table.specs.Run.{run, Looks};
 ghost use Rattle.type_table.specs.StateSet.{IsClosed};
 ghost use Rattle.type_table.specs.ConflictTable.{conflicts};
@@ -41,6 +42,9 @@ pub fn counter_at_two()
 pub fn counter_calls()
     ensures first { first_op counter (codes "dec:1") ≡ Some 1 }
     ensures absent { first_op counter (codes "ok") ≡ None }
+    ensures unnamed { first_op counter [] ≡ None }
+    ensures there { has_op counter 1 ≡ true }
+    ensures past { has_op counter 64 ≡ false }
     ensures same { is_same_call counter 1 1 ≡ true }
     ensures other { is_same_call counter 0 1 ≡ false }
 {}
@@ -91,4 +95,14 @@ pub fn one_way_looks_one_way()
 pub fn one_way_commutes_one_way()
     ensures one { CommutesBackward one_way five_states 0 1 }
     ensures both { CommutesBackwardBothWays one_way five_states 0 1 → ⊥ }
+{}
+
+/// Operations without an amount have their places for numbers; with one each place has as many as there are amounts.
+pub fn operations_have_numbers()
+    ensures listed { operation_at 3 None ≡ 3 }
+    ensures least { operation_at 3 (Some 0) ≡ 259 }
+    ensures next { operation_at 3 (Some 1) ≡ 515 }
+    ensures place { place_of 515 ≡ 3 }
+    ensures amount { amount_of 515 ≡ Some 1 }
+    ensures none { amount_of 3 ≡ None }
 {}

@@ -4,6 +4,7 @@ mod apart;
 mod checked;
 mod checked_numbers;
 mod lines;
+mod number_calls;
 mod number_files;
 mod numbers;
 mod reasons;

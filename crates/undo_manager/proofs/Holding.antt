@@ -1,8 +1,8 @@
 -- What open transactions hold: what a further operation, a commit and a strike make of it, and who blocks.
-use Rattle.std.proofs.Common.{◌≡◌, ℕ, zero, suc, Bool, true, false, not, ◌&&◌, ◌||◌, ◌==◌, cond, List, [], ◌∷◌, ◌++◌, map, filter, length, refl, sym, ap, subst, ◌∙◌, inl, inr}
+use Rattle.std.proofs.Common.{◌≡◌, ℕ, zero, suc, Bool, false, not, ◌&&◌, ◌==◌, cond, List, [], ◌∷◌, ◌++◌, map, filter, refl, sym, ap, subst, inl, inr}
 use Rattle.std.proofs.lemmas.Bool.{cases_Bool}
 use Rattle.object_trait.specs.Strike.{keep_first}
-use Rattle.object_trait.specs.Meaning.{is_open_of, open_of}
+use Rattle.object_trait.specs.Meaning.{is_open_of}
 use Rattle.object_trait.specs.Steps.{marked}
 use Rattle.object_trait.specs.declared.log_entry.LogEntry.{LogEntry}
 use Rattle.std.specs.List.{find, AllByRecursion}

@@ -28,8 +28,9 @@ pub fn append(
 {
     log.reserve(1)?;
     counts.reserve(1)?;
+    let by = one.entry.by;
     log.push_reserved(one);
-    count_one_more(counts, one.entry.by);
+    count_one_more(counts, by);
     Ok(())
 }
 

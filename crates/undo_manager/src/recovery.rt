@@ -15,8 +15,8 @@ use object_trait::{
 };
 use std::alloc::{AllocError, Global};
 use std::sync::Arc;
-use table_checker::CheckedType;
-use type_table::{Op, TableKind, ends_within, runs_along, steps_within};
+use table_checker::{CheckedType, DeclaredType};
+use type_table::{Operation, TableKind, ends_within, runs_along, steps_within};
 
 impl UndoManager {
     /// The number of t's open entries.
@@ -30,27 +30,40 @@ impl UndoManager {
 impl Recovery for UndoManager {
     ghost meaning = { λ m. m };
 
-    fn ops(&self) -> &[Op] {
-        self.checked.ops()
+    fn declared(&self) -> &DeclaredType {
+        self.checked.declared()
     }
 
     fn state(&self) -> u32 {
         u32::from(self.state)
     }
 
-    fn legal(&self, _t: u32, k: u8) -> bool {
-        self.checked.table().next(self.state, k).is_some()
+    fn view(&self, _t: u32) -> u32 {
+        u32::from(self.state)
     }
 
-    fn blocker(&self, t: u32, k: u8) -> Option<u32> {
+    fn legal(&self, _t: u32, k: Operation) -> bool {
+        let table = self.checked.table();
+        table.next(self.state, table.column(k)).is_some()
+    }
+
+    fn blocker(&self, t: u32, k: Operation) -> Option<u32> {
         steps_within();
+        let column = self.checked.table().column(k);
         self.held
-            .blocker(self.checked.conflicts(TableKind::Undo), t, k)
+            .blocker(self.checked.conflicts(TableKind::Undo), t, column)
     }
 
-    fn apply(&mut self, t: u32, k: u8) -> Result<(), AllocError> {
+    fn amount_kept(&self, _t: u32, _place: u8, _u: u32) -> Option<u32> {
+        // (read for what is known of this object, that its type has a table, and so no amounts)
+        let _state = self.state;
+        None
+    }
+
+    fn apply(&mut self, t: u32, k: Operation) -> Result<(), AllocError> {
         sound_after_apply();
         steps_within();
+        let column = self.checked.table().column(k);
         let state = next_state(self.checked.table(), self.state, k);
         let entry = LogEntry {
             by: t,
@@ -61,7 +74,7 @@ impl Recovery for UndoManager {
         self.held.reserve()?;
         append(&mut self.log, &mut self.opened, UndoEntry { entry, before })?;
         self.state = state;
-        self.held.hold(t, k);
+        self.held.hold(t, column);
         Ok(())
     }
 

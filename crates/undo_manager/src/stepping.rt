@@ -8,16 +8,16 @@ ghost use Rattle.undo_manager.specs.Log.{entries, stays};
 ghost use Rattle.undo_manager.specs.Rerun.{IsRerun};
 
 use crate::undo_entry::UndoEntry;
-use type_table::{TypeTable, steps_within};
+use type_table::{Operation, TypeTable, steps_within};
 
 /// The next state of a state in which operation k is legal.
-pub fn next_state(table: &TypeTable, s: u16, k: u8) -> u16
+pub fn next_state(table: &TypeTable, s: u16, k: Operation) -> u16
     requires table { IsTable table.now }
     requires legal { IsSome (next table.now s k) }
     ensures { next table.now s k ≡ Some result }
 {
     steps_within();
-    match table.next(s, k) {
+    match table.next(s, table.column(k)) {
         Some(next) => next,
         None => unreachable!(),
     }
@@ -34,14 +34,14 @@ pub fn rerun(table: &TypeTable, log: &mut Vec<UndoEntry>, place: usize, t: u32, 
     let mut state = start;
     let mut kept = place;
     for read in place..log.len() {
-        let entry = log[read].entry;
-        if !entry.is_open_of(t) {
+        let one = log[read];
+        if !one.entry.is_open_of(t) {
             log[kept] = UndoEntry {
-                entry,
                 before: state,
+                ..one
             };
             kept += 1;
-            state = next_state(table, state, entry.op);
+            state = next_state(table, state, one.entry.op);
         }
     }
     log.truncate(kept);

@@ -1,5 +1,5 @@
 -- The lines after the history are comments.
-use Rattle.std.proofs.Common.{◌≡◌, ℕ, ◌+◌, ◌<◌, ◌≤◌, ◌^◌, true, List, [], ◌∷◌, ◌++◌, length, Result, Ok, Err, refl, arith}
+use Rattle.std.proofs.Common.{ℕ, List, [], ◌∷◌, ◌++◌, Result, Ok, Err, refl, arith}
 use Rattle.std.specs.Prelude.{codes}
 use Rattle.std.specs.Fmt.{decimal}
 use Rattle.line_text.specs.Spelling.{spaced}
@@ -8,7 +8,7 @@ use Rattle.history_audit.specs.Text.{audit_text, commit_line, serial_line}
 use Rattle.history_audit.specs.declared.outcome.Audit.{Audit}
 use Rattle.history_audit.specs.declared.outcome.AuditFault.{AuditFault}
 use Rattle.history_audit.specs.declared.outcome.AuditFault.TheVariants as fault
-use Rattle.script_run.specs.Lines.{refusal_number, refusal_name}
+use Rattle.script_run.specs.Lines.{refusal_number}
 use Rattle.script_run.proofs.LongNumbers.{long_number_text}
 use Rattle.script_run.proofs.Reading.{one_digit, refusal_text}
 use Rattle.worker_turns.specs.declared.outcome.Outcome.{Outcome}

@@ -1,5 +1,5 @@
 -- The text of what workers did is read as its history.
-use Rattle.std.proofs.Common.{◌≡◌, ℕ, true, false, List, [], ◌∷◌, ◌++◌, map, filter, Ok, refl, sym, ap, ◌∙◌, subst, append-nil}
+use Rattle.std.proofs.Common.{◌≡◌, ℕ, false, List, [], ◌∷◌, ◌++◌, map, filter, Ok, refl, sym, ap, ◌∙◌, subst, append-nil}
 use Rattle.std.specs.List.{AllByRecursion}
 use Rattle.std.proofs.lemmas.Grind.{flat_map-append}
 use Rattle.std.proofs.lemmas.List.Elements.{filter-append}
@@ -8,15 +8,13 @@ use Rattle.line_text.specs.Outcome.{outcome_of}
 use Rattle.line_text.specs.Spelling.{spaced, text_of}
 use Rattle.line_text.specs.Text.{is_comment}
 use Rattle.line_text.proofs.CommentLines.{comments_skip, nothing_told, skips_append, told_skips}
-use Rattle.object_trait.specs.declared.event.Event.{Event}
 use Rattle.store_text.specs.Body.{store_rules}
 use Rattle.store_text.specs.declared.line.Line.{Line}
 use Rattle.store_text.specs.declared.line.Line.TheVariants.{Max, Object, Entry, End}
-use Rattle.store_text.specs.declared.line.ObjectLine.{ObjectLine}
 use Rattle.history_text.specs.Canonical.{CanonicalIsRead, CommentsAreSkipped, canonical_lines, canonical_text, words_of}
 use Rattle.history_text.specs.Events.{events}
 use Rattle.history_text.specs.declared.event_line.EventLine.{EventLine}
-use Rattle.history_text.specs.declared.event_line.EventLine.TheVariants.{Begin, Op, Busy, Nothing, Commit, Abort, Rollback}
+use Rattle.history_text.specs.declared.event_line.EventLine.TheVariants.{Begin, Op, OpOf, Busy, Nothing, Commit, Abort, Rollback}
 use Rattle.work_text.specs.Reading.{WorkIsRead}
 use Rattle.work_text.proofs.Comments.{comments_follow}
 
@@ -31,6 +29,7 @@ lines ls = map line ls
 tells_event : (x : EventLine) → is_comment (line (Entry x)) ≡ false
 tells_event (Begin w t) = refl
 tells_event (Op w t x k) = refl
+tells_event (OpOf w t x k n) = refl
 tells_event (Busy w t x c u) = refl
 tells_event (Nothing w t x c) = refl
 tells_event (Commit w t) = refl

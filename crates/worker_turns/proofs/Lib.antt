@@ -5,3 +5,4 @@ pub mod Told
 pub mod Counted
 pub mod Asked
 pub mod Examples
+mod Purses

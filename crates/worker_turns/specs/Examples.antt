@@ -1,6 +1,9 @@
 -- Small jobs and workers, worked by hand.
 use Rattle.std.specs.Prelude.{ℕ, List, [], ◌∷◌, take, codes}
-use Rattle.object_trait.specs.Object.{Object}
+use Rattle.type_table.specs.declared.kind.Kind.TheVariants.{Escrow}
+use Rattle.number_text.specs.Examples.{purse}
+use Rattle.table_checker.specs.Declarations.{number_file}
+use Rattle.object_trait.specs.Object.{Object, object_of}
 use Rattle.object_trait.specs.declared.event.EventKind.{EventKind}
 use Rattle.object_trait.specs.declared.event.EventKind.TheVariants.{Begin, Op, Busy, Commit, Abort}
 use Rattle.store_laws.specs.Stored.{objects}
@@ -35,6 +38,10 @@ both_made = Begin 3 ∷ Op 3 0 0 ∷ Op 3 0 1 ∷ Commit 3 ∷ []
 -- transaction 4 makes the first call alone
 abbrev pub first_made : List EventKind
 first_made = Begin 4 ∷ Op 4 0 0 ∷ Abort 4 ∷ []
+
+-- a purse of 0 to 9, from which any amount may be taken
+abbrev pub purses : List Object
+purses = object_of (record { kind = Escrow; file = number_file purse }) ∷ []
 
 -- ---- turns
 

@@ -1,5 +1,6 @@
 -- The parts of a worker's jobs: which events come of a job with each outcome.
 use Rattle.std.specs.Prelude.{◌≡◌, ℕ, zero, suc, ◌<◌, List, [], ◌∷◌, ◌++◌, take, true, not, if◌then◌else◌, ◌⊎◌, Option, Some, None, is_some, slice_get}
+use Rattle.type_table.specs.Operation.{place_of}
 use Rattle.object_trait.specs.Object.{Object}
 use Rattle.object_trait.specs.declared.event.EventKind.{EventKind}
 use Rattle.object_trait.specs.declared.event.EventKind.TheVariants as kind
@@ -28,11 +29,11 @@ pub record IsReply (objects : List Object) (t : ℕ) (call : Call) (e : EventKin
   pub of_call : is_of_call o c k ≡ true
   pub is : e ≡ Op t (call.0) k
 
--- t's call had none: it was answered `Busy` or `None`
+-- t's call had none: it was answered `Busy` or `None`, by the place of its first operation
 pub record IsNoReply (objects : List Object) (t : ℕ) (call : Call) (e : EventKind) : Type 0 where
   pub c : ℕ
   pub number : number_of objects call ≡ Some c
-  pub is : ((u : ℕ) × (e ≡ Busy c t (call.0) u)) ⊎ (e ≡ kind.None t (call.0) c)
+  pub is : ((u : ℕ) × (e ≡ Busy (place_of c) t (call.0) u)) ⊎ (e ≡ kind.None t (call.0) (place_of c))
 
 -- t's calls had a reply each, in order
 abbrev pub AreReplies : List Object → ℕ → List Call → List EventKind → Type 0

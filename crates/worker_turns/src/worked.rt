@@ -2,16 +2,18 @@
 #![tactic(auto)]
 
 ghost use Rattle.std.specs.Prelude.{◌≡◌, [], ◌∷◌, ◌++◌, take, Some, codes};
+ghost use Rattle.type_table.specs.Operation.{operation_at};
 ghost use Rattle.store_laws.specs.Stored.{objects};
 ghost use Rattle.store_laws.specs.Examples.{stored, one_up};
 ghost use Rattle.store.specs.Calls.{noted};
-ghost use Rattle.worker_turns.specs.Parts.{IsPart, IsBroken, IsBeginRefusal, IsCallRefusal, call_fault, AreParts};
+ghost use Rattle.worker_turns.specs.Parts.{IsReply, IsNoReply, IsPart, IsBroken, IsBeginRefusal, IsCallRefusal, call_fault, AreParts};
 ghost use Rattle.worker_turns.specs.Progress.{IsTold};
 ghost use Rattle.worker_turns.specs.Turns.{Turns, gets, ends, breaks, turns_left};
-ghost use Rattle.worker_turns.specs.Examples.{counters, up_and_down, up_and_away, in_the_way, both_made, first_made, counting, away};
+ghost use Rattle.worker_turns.specs.Examples.{counters, up_and_down, up_and_away, in_the_way, both_made, first_made, purses, counting, away};
 
 use crate::outcome::Outcome;
 use crate::phase::Phase;
+use number_text::worked::names_at_the_purse;
 use object_trait::EventKind;
 use serial_order::Refusal;
 
@@ -48,6 +50,18 @@ pub fn parts_are_in_order()
     ensures not_run { AreParts counters 2 (up_and_down ∷ up_and_away ∷ []) (Outcome.NotRun ∷ Outcome.NotRun ∷ []) [] }
     ensures no_job { AreParts counters 2 [] (Outcome.NotRun ∷ []) [] → ⊥ }
 {}
+
+/// A call that takes any amount is named with it. Its reply has the amount; where it has none, the event
+/// says the place alone.
+pub fn a_job_takes_any_amount()
+    ensures reply { IsReply purses 3 (0, codes "take:4") (EventKind.Op 3 0 (operation_at 2 (Some 4))) }
+    ensures no_amount { IsReply purses 3 (0, codes "take:4") (EventKind.Op 3 0 2) → ⊥ }
+    ensures busy { IsNoReply purses 3 (0, codes "take:4") (EventKind.Busy 2 3 0 1) }
+    ensures by_number { IsNoReply purses 3 (0, codes "take:4") (EventKind.Busy (operation_at 2 (Some 4)) 3 0 1) → ⊥ }
+    ensures too_much { call_fault purses (0, codes "take:10") ≡ Some Refusal.NoCall }
+{
+    names_at_the_purse();
+}
 
 /// A worker with one job of one call begins, calls and commits.
 pub fn a_job_takes_three_turns()

@@ -2,6 +2,7 @@
 use Rattle.std.proofs.Common.{◌≡◌, ◌⊎◌, ℕ, ◌+◌, ◌<◌, List, [], ◌∷◌, ◌++◌, length, Option, Some, None, slice_get, refl, sym, ap, subst, inl, inr}
 use Rattle.std.specs.List.{Contains}
 use Rattle.std.proofs.lemmas.List.Elements.{Contains-push_cases}
+use Rattle.type_table.specs.Operation.{place_of}
 use Rattle.object_trait.specs.declared.event.Event.{Event}
 use Rattle.object_trait.specs.declared.event.EventKind.{EventKind}
 use Rattle.object_trait.specs.declared.event.EventKind.TheVariants as kind
@@ -224,7 +225,7 @@ module _ (o : Start) (old : Stored) (w : ℕ) (p : Progress) (its : IsWorker o o
   calls-turned t done call going (inr (inl (e, none, is, same))) =
       made e _ is same (goes-noted o old w p its e (Breaking t done) (leads none.is) (λ u more r z. breaking_refusing t done u more r z))
     where
-      leads : ((u : ℕ) × (e ≡ Busy none.c t (call.0) u)) ⊎ (e ≡ kind.None t (call.0) none.c) → Leads e (open_of p.phase) (Some t)
+      leads : ((u : ℕ) × (e ≡ Busy (place_of none.c) t (call.0) u)) ⊎ (e ≡ kind.None t (call.0) (place_of none.c)) → Leads e (open_of p.phase) (Some t)
       leads (inl busy) = subst (λ k. Leads k (open_of p.phase) (Some t)) (sym (busy.1)) (going, refl)
       leads (inr nothing) = subst (λ k. Leads k (open_of p.phase) (Some t)) (sym nothing) (going, refl)
   calls-turned t done call going (inr (inr (inl (r, (is, reason), same)))) =

@@ -9,7 +9,7 @@
 //! one thread packs at a time. With locks for operations all who take may pack side by side, and so may all who
 //! give; who gives waits for those who take, as a piece that is taken may come back by an abort.
 
-use colock::{Error, Kind, Reply, Store, Transaction, TransactionId, Type};
+use colock::{Error, Kind, Operation, Reply, Store, Transaction, TransactionId, Type};
 use std::sync::atomic::{AtomicU64, Ordering};
 use std::sync::{Mutex, MutexGuard};
 use std::thread;
@@ -22,8 +22,8 @@ const PACKING: Duration = Duration::from_millis(1);
 /// A stock in a store, with a lock round each call.
 struct Shop {
     store: Mutex<Store>,
-    take: u8,
-    give: u8,
+    take: Operation,
+    give: Operation,
     busy: AtomicU64,
 }
 
@@ -32,7 +32,7 @@ impl Shop {
         let counter = Type::counter(2 * PIECES, &[1, PIECES], Kind::Undo)?;
         let store = Store::new([&counter], u32::MAX.into())?;
         let mut filling = store.begin()?;
-        assert_eq!(filling.call(0, &format!("inc:{PIECES}"))?, Reply::Operation(2));
+        assert_eq!(filling.call(0, &format!("inc:{PIECES}"))?, Reply::Operation(2.into()));
         filling.commit()?;
         let (take, give) = (store.call_number(0, "dec:1")?, store.call_number(0, "inc:1")?);
         Ok(Shop { store: Mutex::new(store), take, give, busy: AtomicU64::new(0) })
@@ -43,7 +43,7 @@ impl Shop {
     }
 
     /// One transaction of one operation, which is asked until nobody blocks it.
-    fn transact(&self, worker: u8, call: u8) -> Result<(), Error> {
+    fn transact(&self, worker: u8, call: Operation) -> Result<(), Error> {
         let id = self.lock().begin_as(worker)?.leave();
         while !self.try_call(id, call)? {
             self.busy.fetch_add(1, Ordering::Relaxed);
@@ -54,7 +54,7 @@ impl Shop {
     }
 
     /// Whether the call was executed. `would` asks without an event, so that waiting leaves no trace.
-    fn try_call(&self, id: TransactionId, call: u8) -> Result<bool, Error> {
+    fn try_call(&self, id: TransactionId, call: Operation) -> Result<bool, Error> {
         let store = self.lock();
         let mut transaction = store.resume(id)?;
         let done = matches!(transaction.would_op(0, call)?, Reply::Operation(_)) && matches!(transaction.call_op(0, call)?, Reply::Operation(_));

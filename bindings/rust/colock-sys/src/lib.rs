@@ -4,7 +4,7 @@
 use std::ffi::c_void;
 
 /// The version of these calls, which [`colock_version`] has to return too.
-pub const VERSION: u32 = 2;
+pub const VERSION: u32 = 3;
 
 /// The codes that a call returns.
 pub mod code {
@@ -81,10 +81,11 @@ pub struct Shape {
 pub struct Event {
     pub transaction: u64,
     pub other: u64,
+    pub op: u64,
     pub object: u32,
-    pub op: u32,
     pub kind: u32,
     pub worker: u32,
+    pub reserved: u32,
 }
 
 extern "C" {
@@ -110,10 +111,10 @@ extern "C" {
     pub fn colock_store_open(slot: *mut Handle, max_events: u64) -> u32;
     pub fn colock_begin(slot: *mut Handle, worker: u8, transaction: *mut u64) -> u32;
     pub fn colock_call(slot: *mut Handle, worker: u8, transaction: u64, object: u32, name: *const u8, name_count: usize, answer: *mut Answer) -> u32;
-    pub fn colock_call_op(slot: *mut Handle, worker: u8, transaction: u64, object: u32, call: u8, answer: *mut Answer) -> u32;
-    pub fn colock_call_number(slot: *mut Handle, object: u32, name: *const u8, name_count: usize, call: *mut u8) -> u32;
+    pub fn colock_call_op(slot: *mut Handle, worker: u8, transaction: u64, object: u32, call: u64, answer: *mut Answer) -> u32;
+    pub fn colock_call_number(slot: *mut Handle, object: u32, name: *const u8, name_count: usize, call: *mut u64) -> u32;
     pub fn colock_would(slot: *mut Handle, transaction: u64, object: u32, name: *const u8, name_count: usize, answer: *mut Answer) -> u32;
-    pub fn colock_would_op(slot: *mut Handle, transaction: u64, object: u32, call: u8, answer: *mut Answer) -> u32;
+    pub fn colock_would_op(slot: *mut Handle, transaction: u64, object: u32, call: u64, answer: *mut Answer) -> u32;
     pub fn colock_commit(slot: *mut Handle, worker: u8, transaction: u64) -> u32;
     pub fn colock_abort(slot: *mut Handle, worker: u8, transaction: u64) -> u32;
     pub fn colock_rollback(slot: *mut Handle, worker: u8, transaction: u64, operations: u64) -> u32;

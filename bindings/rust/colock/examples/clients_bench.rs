@@ -36,7 +36,7 @@ impl Plain {
         self.begun += 1;
         self.log.push(Event::Begin { worker: 0, transaction });
         self.count = if is_up { self.count + 1 } else { self.count - 1 };
-        self.log.push(Event::Operation { worker: 0, transaction, object: 0, operation: u32::from(!is_up) });
+        self.log.push(Event::Operation { worker: 0, transaction, object: 0, operation: u8::from(!is_up).into() });
     }
 
     fn commit(&mut self) {

@@ -282,7 +282,7 @@ impl SharedStore {
         }
         let served = guard.served()?;
         let since = served.moment;
-        let Some(both) = served.send_both(age, object, name)? else { return Ok(None) };
+        let Some(both) = served.send_both(age, object, &name)? else { return Ok(None) };
         drop(guard);
         // it is answered after the begin
         let told = behind.link.answered(&both.call);

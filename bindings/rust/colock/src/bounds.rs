@@ -1,6 +1,7 @@
 //! Between which states the operations of a numeric type are legal, and which of them may block one another.
 
 use crate::error::Error;
+use crate::operation::Operation;
 use crate::types::Type;
 
 /// An operation of a numeric type: it is legal from `low` to `high`, and moves each of these as far. All are below 2^33.
@@ -12,8 +13,9 @@ pub(crate) struct Bounds {
 }
 
 impl Bounds {
-    /// Those of an operation of a numeric type; `None` where it is legal nowhere.
-    pub(crate) fn of(of: &Type, operation: u64) -> Result<Option<Bounds>, Error> {
+    /// Those of an operation of a numeric type; `None` where it is legal nowhere. Of a number that is a value 0 or the
+    /// greatest one, or no value.
+    pub(crate) fn of(of: &Type, operation: Operation) -> Result<Option<Bounds>, Error> {
         let greatest = of.states() - 1;
         let Some((state, to)) = some_step(of, operation, greatest)? else { return Ok(None) };
         let (low, high) = (farthest(of, operation, state, 0)?, farthest(of, operation, state, greatest)?);
@@ -34,7 +36,7 @@ impl Bounds {
 
 /// A state in which an operation is legal, and the state to which it leads. Each operation of a number without a table is
 /// legal at 0 or at its greatest state, so only a table's states, of which there are few, are gone through.
-fn some_step(of: &Type, operation: u64, greatest: u64) -> Result<Option<(u64, u64)>, Error> {
+fn some_step(of: &Type, operation: Operation, greatest: u64) -> Result<Option<(u64, u64)>, Error> {
     for state in [0, greatest].into_iter().chain(1..greatest) {
         if let Some(to) = of.step(state, operation)? {
             return Ok(Some((state, to)));
@@ -44,7 +46,7 @@ fn some_step(of: &Type, operation: u64, greatest: u64) -> Result<Option<(u64, u6
 }
 
 /// The last state, from one in which an operation is legal towards an end, in which it is: all between two such are.
-fn farthest(of: &Type, operation: u64, legal: u64, end: u64) -> Result<u64, Error> {
+fn farthest(of: &Type, operation: Operation, legal: u64, end: u64) -> Result<u64, Error> {
     if of.step(end, operation)?.is_some() {
         return Ok(end);
     }
@@ -63,11 +65,14 @@ fn farthest(of: &Type, operation: u64, legal: u64, end: u64) -> Result<u64, Erro
 #[cfg(test)]
 mod tests {
     use super::Bounds;
-    use crate::{Kind, Type};
+    use crate::{Error, Kind, Operation, Type};
+
+    fn bounds_at(of: &Type, operation: Operation) -> Option<(i64, i64, i64)> {
+        Bounds::of(of, operation).unwrap().map(|bounds| (bounds.low, bounds.high, bounds.moves))
+    }
 
     fn bounds_of(of: &Type) -> Vec<Option<(i64, i64, i64)>> {
-        let of_operation = |k| Bounds::of(of, k).unwrap().map(|bounds| (bounds.low, bounds.high, bounds.moves));
-        (0..of.operations()).map(of_operation).collect()
+        (0..of.operations()).map(|place| bounds_at(of, Operation::listed(place))).collect()
     }
 
     #[test]
@@ -103,9 +108,19 @@ mod tests {
     }
 
     #[test]
+    fn operations_with_amounts_have_bounds() {
+        let purse = Type::read("number purse\nmax 4294967295\ninitial 0\ntake any\ngive any\nvalue\nend\n", Kind::Escrow).unwrap();
+        let (most, at) = (i64::from(u32::MAX), |place, amount| bounds_at(&purse, Operation::with(place, amount)));
+        assert_eq!((at(0, 17), at(1, 17)), (Some((17, most, -17)), Some((0, 16, 0))));
+        assert_eq!((at(2, 3), at(3, 3)), (Some((0, most - 3, 3)), Some((most - 2, most, 0))));
+        assert_eq!((at(4, 0), at(4, u32::MAX)), (Some((0, 0, 0)), Some((most, most, 0))));
+        assert_eq!(Bounds::of(&purse, Operation::listed(0)), Err(Error::NoOperation));
+    }
+
+    #[test]
     fn ups_block_ups_where_there_may_be_no_room() {
         let counter = Type::counter(5, &[1], Kind::Escrow).unwrap();
-        let [up, down] = [0, 1].map(|k| Bounds::of(&counter, k).unwrap().unwrap());
+        let [up, down] = [0, 1].map(|place| Bounds::of(&counter, Operation::listed(place)).unwrap().unwrap());
         assert_eq!((up.may_block(up), down.may_block(down)), (true, true));
         assert_eq!((up.may_block(down), down.may_block(up)), (false, false));
     }

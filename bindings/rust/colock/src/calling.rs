@@ -2,12 +2,14 @@
 
 use crate::child::ok;
 use crate::error::Error;
+use crate::operation::Operation;
 use crate::request::{answer, Answer, Id, Request};
 use crate::shared::{Behind, Guard, Lock, SharedStore};
 use crate::store::Store;
 use crate::store_state::{resumed, Held, State, Ticket};
 use crate::transaction::Reply;
 use crate::waiting::{Asker, Bed, Verdict};
+use std::borrow::Cow;
 use std::mem::ManuallyDrop;
 use std::sync::atomic::Ordering;
 use std::sync::PoisonError;
@@ -17,7 +19,7 @@ use std::time::{Duration, Instant};
 #[derive(Clone, Copy, Debug)]
 pub(crate) enum Call<'n> {
     Name(&'n str),
-    Number(u8),
+    Number(Operation),
 }
 
 /// Whether a call is to be executed, or asked for only.
@@ -119,10 +121,10 @@ impl SharedStore {
     }
 
     /// The number and the name of a call.
-    pub(crate) fn resolved<'n>(&'n self, object: u32, call: Call<'n>) -> Result<(u8, &'n str), Error> {
+    pub(crate) fn resolved<'n>(&'n self, object: u32, call: Call<'n>) -> Result<(Operation, Cow<'n, str>), Error> {
         let calls = self.calls_at(object)?;
         match call {
-            Call::Name(name) => calls.number(name).map(|number| (number, name)),
+            Call::Name(name) => calls.number(name).map(|number| (number, Cow::Borrowed(name))),
             Call::Number(number) => calls.name(number).map(|name| (number, name)),
         }
         .ok_or(Error::NoCall)
@@ -157,8 +159,8 @@ impl SharedStore {
             Err(error) => return (guard, Err(error)),
         };
         let request = match verb {
-            Verb::Call => Request::Call(id, object, name),
-            Verb::Would => Request::Would(id, object, name),
+            Verb::Call => Request::Call(id, object, &name),
+            Verb::Would => Request::Would(id, object, &name),
         };
         let (mut guard, text) = self.ask(guard, request, lock);
         let reply = text.and_then(|text| self.reply_of(&text, object, number));
@@ -171,7 +173,7 @@ impl SharedStore {
     }
 
     /// The reply of a line that answers a call.
-    pub(crate) fn reply_of(&self, text: &str, object: u32, call: u8) -> Result<Reply, Error> {
+    pub(crate) fn reply_of(&self, text: &str, object: u32, call: Operation) -> Result<Reply, Error> {
         let reply = match answer(text) {
             Some(Answer::Reply(name)) => self.calls_at(object)?.operation(call, name).map(Reply::Operation),
             Some(Answer::Busy(id)) => Some(Reply::Busy { blocker: id.number }),

@@ -2,32 +2,52 @@
 
 use crate::bounds::Bounds;
 use crate::error::Error;
+use crate::operation::Operation;
 use crate::types::{Kind, Type};
+use std::borrow::Cow;
 use std::sync::Arc;
 
-/// The calls of a type. A call has the number of the first operation that has its name.
+/// What ends the name of a line whose call may have any amount.
+const ANY: &str = "any";
+
+/// The calls of a type. A call is named by the first operation that has its name.
 #[derive(Debug)]
 pub(crate) struct Calls {
-    /// The call and the reply of each operation.
-    operations: Vec<(u8, String)>,
-    /// The name of each call, where a number is one.
-    names: Vec<Option<String>>,
-    /// For each call, as bits, the calls that are blocked while it is held.
+    /// What is at each place.
+    rows: Vec<Row>,
+    /// The greatest amount, and the greatest value.
+    greatest: u32,
+    /// For the first place of each call, as bits, those of the calls that are blocked while it is held.
     blocked: Vec<u64>,
+}
+
+/// What a type lists at a place.
+#[derive(Debug)]
+struct Row {
+    /// The first place of its call.
+    first: u8,
+    call: String,
+    reply: String,
+    amounts: Amounts,
+}
+
+/// Which amounts the operations at a place have.
+#[derive(Clone, Copy, Debug, PartialEq, Eq)]
+enum Amounts {
+    /// None: it is one operation.
+    Listed,
+    /// Those from 1 to the greatest that no other line lists. They are in the name of the call.
+    Any,
+    /// The values from 0 to the greatest, which are replies.
+    Values,
 }
 
 impl Calls {
     /// Those of a type.
     pub(crate) fn of(of: &Type) -> Result<Calls, Error> {
-        let count = of.operations();
-        let call_names = (0..count).map(|k| of.call_name(k)).collect::<Result<Vec<String>, Error>>()?;
-        let first = |name: &String| call_names.iter().position(|other| other == name).unwrap_or(0);
-        let numbers: Vec<usize> = call_names.iter().map(first).collect();
-        let replies = (0..count).map(|k| of.reply_name(k)).collect::<Result<Vec<String>, Error>>()?;
-        let blocked = blocked(of, &numbers)?;
-        let names = numbers.iter().enumerate().map(|(k, &number)| (number == k).then(|| call_names[k].clone())).collect();
-        let operations = numbers.iter().zip(replies).map(|(&number, reply)| (number as u8, reply)).collect();
-        Ok(Calls { operations, names, blocked })
+        let mut calls = Calls { rows: rows(of)?, greatest: u32::try_from(of.states() - 1).unwrap_or(u32::MAX), blocked: Vec::new() };
+        calls.blocked = blocked(of, &calls)?;
+        Ok(calls)
     }
 
     /// Those of the types of objects. What is one type has one.
@@ -48,86 +68,168 @@ impl Calls {
         Ok(calls)
     }
 
-    /// The number of the call of this name.
-    pub(crate) fn number(&self, name: &str) -> Option<u8> {
-        let place = self.names.iter().position(|other| other.as_deref() == Some(name))?;
-        u8::try_from(place).ok()
+    /// The call of this name.
+    pub(crate) fn number(&self, name: &str) -> Option<Operation> {
+        let listed = self.rows.iter().find(|row| row.call == name && row.amounts != Amounts::Any);
+        match listed {
+            Some(row) => Some(row.at_least()),
+            None => self.rows.iter().find_map(|row| self.with_amount(row, name)),
+        }
     }
 
-    /// The name of the call of this number.
-    pub(crate) fn name(&self, call: u8) -> Option<&str> {
-        self.names.get(usize::from(call))?.as_deref()
+    /// The call of this name, where it is one at a place for any amount.
+    fn with_amount(&self, row: &Row, name: &str) -> Option<Operation> {
+        let amount = number_of(name.strip_prefix(row.stem()?)?)?;
+        (1..=self.greatest).contains(&amount).then(|| Operation::with(row.first, amount))
+    }
+
+    /// The name of a call.
+    pub(crate) fn name(&self, call: Operation) -> Option<Cow<'_, str>> {
+        let row = self.rows.get(usize::from(call.place))?;
+        match (row.stem(), call.amount) {
+            (Some(stem), Some(amount)) => Some(Cow::Owned(format!("{stem}{amount}"))).filter(|name| self.number(name) == Some(call)),
+            (Some(_), None) => None,
+            (None, _) => (row.at_least() == call).then_some(Cow::Borrowed(&row.call)),
+        }
     }
 
     /// The operation of a call that has this reply.
-    pub(crate) fn operation(&self, call: u8, reply: &str) -> Option<u64> {
-        let place = self.operations.iter().position(|(of, name)| *of == call && name == reply)?;
-        u64::try_from(place).ok()
+    pub(crate) fn operation(&self, call: Operation, reply: &str) -> Option<Operation> {
+        let mut rows = (0..).zip(&self.rows).filter(|(_, row)| row.first == call.place);
+        rows.find_map(|(place, row)| match row.amounts {
+            Amounts::Values => number_of(reply).filter(|value| *value <= self.greatest).map(|value| Operation::with(place, value)),
+            Amounts::Listed | Amounts::Any => (row.reply == reply).then_some(Operation { place, amount: call.amount }),
+        })
     }
 
-    /// Whether some operation of a call that is held may be in the way of some operation of another one.
-    pub(crate) fn blocks(&self, held: u8, requested: u8) -> bool {
-        let bits = self.blocked.get(usize::from(held)).copied().unwrap_or(0);
-        requested < 64 && (bits >> requested) & 1 == 1
+    /// Whether some operation of a call that is held may be in the way of some operation of another one. Amounts are of no
+    /// account for that.
+    pub(crate) fn blocks(&self, held: Operation, requested: Operation) -> bool {
+        let bits = self.blocked.get(usize::from(held.place)).copied().unwrap_or(0);
+        requested.place < 64 && (bits >> requested.place) & 1 == 1
+    }
+
+    /// The bounds of operations at a place that stand for all of them: whether they block others doesn't depend on which
+    /// amount it is. A take blocks a value that is great enough, and a give one that is small enough.
+    fn bounds_at(&self, of: &Type, place: u8) -> Result<Vec<Bounds>, Error> {
+        let row = &self.rows[usize::from(place)];
+        let operations = match row.amounts {
+            Amounts::Listed => vec![Operation::listed(place)],
+            Amounts::Any => self.least_amount(row).map(|amount| Operation::with(place, amount)).into_iter().collect(),
+            Amounts::Values => vec![Operation::with(place, 0), Operation::with(place, self.greatest)],
+        };
+        let bounds = operations.into_iter().map(|operation| Bounds::of(of, operation)).collect::<Result<Vec<Option<Bounds>>, Error>>()?;
+        Ok(bounds.into_iter().flatten().collect())
+    }
+
+    /// The least amount at a place for any amount: there may be none that isn't listed.
+    fn least_amount(&self, row: &Row) -> Option<u32> {
+        (1..=self.greatest).find(|amount| self.name(Operation::with(row.first, *amount)).is_some())
     }
 }
 
-/// For each call, as bits, the calls that it blocks. `numbers` has the call of each operation: there are at most 64.
-fn blocked(of: &Type, numbers: &[usize]) -> Result<Vec<u64>, Error> {
-    let bounds = bounds(of)?;
-    let mut blocked = vec![0; numbers.len()];
-    let pairs = (0..numbers.len()).flat_map(|held| (0..numbers.len()).map(move |requested| (held, requested)));
-    for (held, requested) in pairs {
-        if of.conflicts(requested as u64, held as u64)? || may_block(&bounds, held, requested) {
-            blocked[numbers[held]] |= 1_u64 << numbers[requested];
+impl Row {
+    /// The first operation of its call, of the least amount where there are more.
+    fn at_least(&self) -> Operation {
+        match self.amounts {
+            Amounts::Listed => Operation::listed(self.first),
+            Amounts::Any => Operation::with(self.first, 1),
+            Amounts::Values => Operation::with(self.first, 0),
+        }
+    }
+
+    /// What comes before the amount in the name of a call, at a place for any amount.
+    fn stem(&self) -> Option<&str> {
+        self.call.strip_suffix(ANY).filter(|_| self.amounts == Amounts::Any)
+    }
+}
+
+/// A number as names have it: in digits, without a zero before others.
+fn number_of(word: &str) -> Option<u32> {
+    word.parse().ok().filter(|number: &u32| number.to_string() == word)
+}
+
+/// What a type lists at its places.
+fn rows(of: &Type) -> Result<Vec<Row>, Error> {
+    let calls = (0..of.operations()).map(|place| of.call_name(place)).collect::<Result<Vec<String>, Error>>()?;
+    let row = |place: u8| {
+        let call = calls[usize::from(place)].clone();
+        let first = (0..place).find(|other| calls[usize::from(*other)] == call).unwrap_or(place);
+        let amounts = match call.ends_with(ANY) {
+            _ if of.is_operation(Operation::listed(place)) => Amounts::Listed,
+            true => Amounts::Any,
+            false => Amounts::Values,
+        };
+        Ok(Row { first, call, reply: of.reply_name(place)?, amounts })
+    };
+    (0..of.operations()).map(row).collect()
+}
+
+/// For the first place of each call, as bits, those of the calls that it blocks: there are at most 64 places.
+fn blocked(of: &Type, calls: &Calls) -> Result<Vec<u64>, Error> {
+    let (count, bounds) = (of.operations(), bounds(of, calls)?);
+    let first = |place: u8| calls.rows[usize::from(place)].first;
+    let mut blocked = vec![0; calls.rows.len()];
+    for (held, requested) in (0..count).flat_map(|held| (0..count).map(move |requested| (held, requested))) {
+        if of.conflicts(requested, held)? || may_block(&bounds, held, requested) {
+            blocked[usize::from(first(held))] |= 1_u64 << first(requested);
         }
     }
     Ok(blocked)
 }
 
-/// Of a type for escrow, which has no conflict table, the bounds of each operation that is legal anywhere.
-fn bounds(of: &Type) -> Result<Vec<Option<Bounds>>, Error> {
+/// Of a type for escrow, which has no conflict table, the bounds at each place of operations that are legal anywhere.
+fn bounds(of: &Type, calls: &Calls) -> Result<Vec<Vec<Bounds>>, Error> {
     match of.kind() {
         Kind::Undo | Kind::Intentions => Ok(Vec::new()),
-        Kind::Escrow => (0..of.operations()).map(|k| Bounds::of(of, k)).collect(),
+        Kind::Escrow => (0..of.operations()).map(|place| calls.bounds_at(of, place)).collect(),
     }
 }
 
-/// Whether two operations may block one another by their bounds, where they have any.
-fn may_block(bounds: &[Option<Bounds>], one: usize, other: usize) -> bool {
-    let of = |k: usize| bounds.get(k).copied().flatten();
-    of(one).zip(of(other)).is_some_and(|(one, other)| one.may_block(other))
+/// Whether operations at two places may block one another by their bounds, where they have any.
+fn may_block(bounds: &[Vec<Bounds>], one: u8, other: u8) -> bool {
+    let of = |place: u8| bounds.get(usize::from(place)).map_or(&[][..], Vec::as_slice);
+    of(one).iter().any(|one| of(other).iter().any(|other| one.may_block(*other)))
 }
 
 #[cfg(test)]
 mod tests {
     use super::Calls;
-    use crate::{Kind, Type};
+    use crate::{Error, Kind, Operation, Type};
+
+    /// The call or the operation at a place.
+    const fn at(place: u8) -> Operation {
+        Operation::listed(place)
+    }
 
     #[test]
     fn calls_of_an_account_have_the_numbers_of_their_first_operations() {
         // deposit:1 ok 0, full 1; withdraw:1 ok 2, short 3; balance 0 to 2 from 4 on
         let account = Calls::of(&Type::account(2, &[1], Kind::Undo).unwrap()).unwrap();
-        assert_eq!((account.number("withdraw:1"), account.number("balance"), account.number("x")), (Some(2), Some(4), None));
-        assert_eq!((account.name(4), account.name(5), account.name(200)), (Some("balance"), None, None));
-        assert_eq!((account.operation(2, "short"), account.operation(4, "2"), account.operation(2, "full")), (Some(3), Some(6), None));
+        assert_eq!((account.number("withdraw:1"), account.number("balance"), account.number("x")), (Some(at(2)), Some(at(4)), None));
+        assert_eq!((account.name(at(4)).as_deref(), account.name(at(5)), account.name(at(200))), (Some("balance"), None, None));
+        assert_eq!((account.name(Operation::with(4, 0)), account.name(Operation::with(2, 1))), (None, None));
+        let done = |call, reply| account.operation(at(call), reply);
+        assert_eq!((done(2, "short"), done(4, "2"), done(2, "full")), (Some(at(3)), Some(at(6)), None));
         // a withdrawal that is held may come back, which a reading would have seen otherwise
-        assert!(account.blocks(2, 4));
-        assert!(account.blocks(4, 2));
-        assert!(!account.blocks(4, 4));
-        assert!(!account.blocks(200, 4) && !account.blocks(4, 200));
+        assert!(account.blocks(at(2), at(4)));
+        assert!(account.blocks(at(4), at(2)));
+        assert!(!account.blocks(at(4), at(4)));
+        assert!(!account.blocks(at(200), at(4)) && !account.blocks(at(4), at(200)));
     }
 
     #[test]
     fn ups_block_downs() {
         let counter = Calls::of(&Type::counter(5, &[1], Kind::Undo).unwrap()).unwrap();
-        assert_eq!((counter.blocks(0, 0), counter.blocks(0, 1), counter.blocks(1, 0), counter.blocks(1, 1)), (false, true, true, false));
+        let blocks = |held, requested| counter.blocks(at(held), at(requested));
+        assert_eq!((blocks(0, 0), blocks(0, 1), blocks(1, 0), blocks(1, 1)), (false, true, true, false));
     }
 
     /// Of numbers, two operations that can't be done one after the other are those that don't commute.
     #[test]
     fn in_escrow_calls_block_as_in_deferred_update() {
-        let all = |calls: &Calls| (0..64).flat_map(|held| (0..64).map(move |call| (held, call))).filter(|(held, call)| calls.blocks(*held, *call)).collect();
+        let all =
+            |calls: &Calls| (0..64).flat_map(|held| (0..64).map(move |call| (held, call))).filter(|(held, call)| calls.blocks(at(*held), at(*call))).collect();
         let blocks = |of: Type| -> Vec<(u8, u8)> { all(&Calls::of(&of).unwrap()) };
         let counter = |kind| blocks(Type::counter(7, &[1, 2, 5], kind).unwrap());
         assert_eq!(counter(Kind::Escrow), counter(Kind::Intentions));
@@ -137,7 +239,84 @@ mod tests {
         assert_eq!(items(Kind::Escrow), items(Kind::Intentions));
         // by reasoning: a withdrawal makes room for a deposit that was refused, and two balances block nobody
         let small = Calls::of(&Type::account(5, &[1], Kind::Escrow).unwrap()).unwrap();
-        assert!(small.blocks(0, 2) && small.blocks(2, 0) && small.blocks(4, 0) && !small.blocks(4, 4));
+        let blocks = |held, requested| small.blocks(at(held), at(requested));
+        assert!(blocks(0, 2) && blocks(2, 0) && blocks(4, 0) && !blocks(4, 4));
+    }
+
+    fn purse(lines: &str) -> (Type, Calls) {
+        let of = Type::read(format!("number purse\nmax 40\ninitial 7\n{lines}\nend\n"), Kind::Escrow).unwrap();
+        let calls = Calls::of(&of).unwrap();
+        (of, calls)
+    }
+
+    // take:3 ok 0, short 1; take:any ok 2, short 3; give:any ok 4, full 5; atleast:9 yes 6, no 7; value 8
+    const LINES: &str = "take 3\ntake any\ngive any\natleast 9\nvalue";
+
+    #[test]
+    fn calls_have_amounts() {
+        let calls = purse(LINES).1;
+        let numbers = ["take:17", "take:3", "take:40", "give:3", "value"].map(|name| calls.number(name));
+        assert_eq!(numbers, [Operation::with(2, 17), at(0), Operation::with(2, 40), Operation::with(4, 3), Operation::with(8, 0)].map(Some));
+        for none in ["take:0", "take:007", "take:41", "take:4294967313", "take:+7", "take:any", "take:", "take", "value:0", "give:any"] {
+            assert_eq!(calls.number(none), None, "{none}");
+        }
+        assert_eq!((calls.name(Operation::with(2, 17)).as_deref(), calls.name(Operation::with(8, 0)).as_deref()), (Some("take:17"), Some("value")));
+        let none = [at(2), at(8), Operation::with(2, 3), Operation::with(3, 17), Operation::with(2, 41), Operation::with(8, 1), Operation::with(0, 3)];
+        assert_eq!(none.map(|call| calls.name(call)), [const { None }; 7]);
+    }
+
+    #[test]
+    fn replies_have_amounts() {
+        let calls = purse(LINES).1;
+        let [take, give, value] = [Operation::with(2, 17), Operation::with(4, 3), Operation::with(8, 0)];
+        assert_eq!((calls.operation(take, "ok"), calls.operation(take, "short")), (Some(take), Some(Operation::with(3, 17))));
+        assert_eq!((calls.operation(give, "full"), calls.operation(give, "short")), (Some(Operation::with(5, 3)), None));
+        assert_eq!((calls.operation(value, "40"), calls.operation(value, "0")), (Some(Operation::with(8, 40)), Some(value)));
+        assert_eq!((calls.operation(value, "41"), calls.operation(value, "n"), calls.operation(value, "04")), (None, None, None));
+    }
+
+    /// What the client says of names is what the library does.
+    #[test]
+    fn names_are_those_of_the_library() {
+        for lines in [LINES, "take any\nvalue", "give 1\ngive 2\ngive any", "value"] {
+            let (of, calls) = purse(lines);
+            let amounts = || [None].into_iter().chain((0..50).map(Some));
+            for operation in (0..12).flat_map(|place| amounts().map(move |amount| Operation { place, amount })) {
+                let (call, reply) = (of.call_name(operation), of.reply_name(operation));
+                // at a place that has operations with amounts the names are those of its line
+                let Some(call) = call.ok().filter(|_| of.is_operation(operation)) else {
+                    assert_eq!(calls.name(operation), None, "{operation:?}");
+                    continue;
+                };
+                let (first, found) = (calls.number(&call).unwrap(), of.operation(&call, &reply.clone().unwrap()).unwrap());
+                assert_eq!((of.call_name(first), calls.name(first).as_deref()), (Ok(call.clone()), Some(call.as_str())));
+                assert_eq!(calls.operation(first, &reply.unwrap()), Some(found), "{operation:?}");
+                // an amount that another line lists is that line's
+                assert!(found == operation || (found.amount.is_none() && of.step(7, operation) == Ok(None)), "{operation:?}");
+            }
+            assert_eq!(of.operation("take:41", "ok").err(), Some(Error::NoOperation));
+        }
+    }
+
+    /// A take and a give are done side by side, and so are two that only look. A value blocks what moves the number.
+    #[test]
+    fn amounts_block_whatever_they_are() {
+        let calls = purse(LINES).1;
+        let of = |name: &str| calls.number(name).unwrap();
+        let blocks = |held: &str, requested: &str| calls.blocks(of(held), of(requested));
+        for take in ["take:1", "take:3", "take:40"] {
+            assert!(blocks(take, "take:1") && blocks("take:1", take) && blocks(take, "value") && blocks("value", take), "{take}");
+            assert!(blocks(take, "atleast:9") && blocks("atleast:9", take), "{take}");
+        }
+        // a take makes room for a give that was refused, and a give for a take
+        assert!(blocks("take:5", "give:5") && blocks("give:5", "take:5") && blocks("give:40", "value") && blocks("value", "give:1"));
+        assert!(!blocks("value", "value") && !blocks("value", "atleast:9") && !blocks("atleast:9", "atleast:9"));
+        // where each amount is listed, none is left for `any`
+        let all: String = (1..=31).map(|amount| format!("take {amount}\n")).collect();
+        let full = Type::read(format!("number small\nmax 31\ninitial 0\n{all}take any\nend\n"), Kind::Escrow).unwrap();
+        let calls = Calls::of(&full).unwrap();
+        assert_eq!((calls.number("take:31"), calls.number("take:32")), (Some(at(60)), None));
+        assert!(calls.blocks(at(0), at(60)) && !calls.blocks(at(0), at(62)) && !calls.blocks(at(62), at(62)));
     }
 
     #[test]

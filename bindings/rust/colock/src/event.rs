@@ -1,3 +1,4 @@
+use crate::operation::Operation;
 use colock_sys as sys;
 use std::fmt;
 
@@ -21,7 +22,7 @@ pub enum Event {
         /// The object.
         object: u32,
         /// The operation.
-        operation: u32,
+        operation: Operation,
     },
     /// What another transaction did was in the way of a call.
     Busy {
@@ -31,8 +32,8 @@ pub enum Event {
         transaction: u64,
         /// The object.
         object: u32,
-        /// The number of the call.
-        call: u32,
+        /// The place of the call, without its amount.
+        call: u8,
         /// The other transaction.
         blocker: u64,
     },
@@ -44,8 +45,8 @@ pub enum Event {
         transaction: u64,
         /// The object.
         object: u32,
-        /// The number of the call.
-        call: u32,
+        /// The place of the call, without its amount.
+        call: u8,
     },
     /// A transaction committed.
     Commit {
@@ -75,13 +76,15 @@ pub enum Event {
 impl Event {
     /// The event of these words, or the number that is unknown.
     pub(crate) fn of(words: &sys::Event) -> Result<Event, u64> {
-        let sys::Event { transaction, other, object, op, kind, worker } = *words;
+        let sys::Event { transaction, other, op, object, kind, worker, .. } = *words;
         let worker = u8::try_from(worker).map_err(|_| u64::from(worker))?;
+        let operation = || Operation::try_from(op).map_err(|_| op);
+        let call = || u8::try_from(op).map_err(|_| op);
         Ok(match kind {
             0 => Event::Begin { worker, transaction },
-            1 => Event::Operation { worker, transaction, object, operation: op },
-            2 => Event::Busy { worker, transaction, object, call: op, blocker: other },
-            3 => Event::None { worker, transaction, object, call: op },
+            1 => Event::Operation { worker, transaction, object, operation: operation()? },
+            2 => Event::Busy { worker, transaction, object, call: call()?, blocker: other },
+            3 => Event::None { worker, transaction, object, call: call()? },
             4 => Event::Commit { worker, transaction },
             5 => Event::Abort { worker, transaction },
             6 => Event::Rollback { worker, transaction, operations: other },
@@ -90,12 +93,12 @@ impl Event {
     }
 
     pub(crate) fn words(self) -> sys::Event {
-        let words = |kind, worker: u8, transaction, object, op, other| sys::Event { transaction, other, object, op, kind, worker: worker.into() };
+        let words = |kind, worker: u8, transaction, object, op, other| sys::Event { transaction, other, op, object, kind, worker: worker.into(), reserved: 0 };
         match self {
             Event::Begin { worker, transaction } => words(0, worker, transaction, 0, 0, 0),
-            Event::Operation { worker, transaction, object, operation } => words(1, worker, transaction, object, operation, 0),
-            Event::Busy { worker, transaction, object, call, blocker } => words(2, worker, transaction, object, call, blocker),
-            Event::None { worker, transaction, object, call } => words(3, worker, transaction, object, call, 0),
+            Event::Operation { worker, transaction, object, operation } => words(1, worker, transaction, object, operation.into(), 0),
+            Event::Busy { worker, transaction, object, call, blocker } => words(2, worker, transaction, object, call.into(), blocker),
+            Event::None { worker, transaction, object, call } => words(3, worker, transaction, object, call.into(), 0),
             Event::Commit { worker, transaction } => words(4, worker, transaction, 0, 0, 0),
             Event::Abort { worker, transaction } => words(5, worker, transaction, 0, 0, 0),
             Event::Rollback { worker, transaction, operations } => words(6, worker, transaction, 0, 0, operations),

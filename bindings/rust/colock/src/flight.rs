@@ -194,7 +194,7 @@ mod tests {
     /// A flight whose greeting is there.
     fn greeted() -> Flight {
         let mut flight = Flight::new(Pending { form: Form::Greeting, ..pending(0, false) });
-        flight.take(b"colock 2 1\n", &mut Vec::new()).unwrap();
+        flight.take(b"colock 3 1\n", &mut Vec::new()).unwrap();
         flight
     }
 

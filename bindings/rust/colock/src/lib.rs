@@ -13,11 +13,11 @@
 //! let store = Store::new([&counter], 1_000_000)?;
 //! let mut first = store.begin()?;
 //! let mut second = store.begin()?;
-//! assert_eq!(first.call(0, "inc:1")?, Reply::Operation(0));
-//! assert_eq!(second.call(0, "inc:1")?, Reply::Operation(0)); // beside the first
+//! assert_eq!(first.call(0, "inc:1")?, Reply::Operation(0.into()));
+//! assert_eq!(second.call(0, "inc:1")?, Reply::Operation(0.into())); // beside the first
 //! assert_eq!(second.call(0, "dec:1")?, Reply::Busy { blocker: 0 });
 //! drop(first); // aborts it, which takes its up out of the middle
-//! assert_eq!(second.call(0, "dec:1")?, Reply::Operation(1));
+//! assert_eq!(second.call(0, "dec:1")?, Reply::Operation(1.into()));
 //! second.commit()?;
 //! assert_eq!(store.kept(0)?, 0);
 //! # Ok::<(), colock::Error>(())
@@ -40,11 +40,29 @@
 //! })?;
 //! let store = Store::new([&stock], 1_000_000)?;
 //! let (mut first, mut second, mut third) = (store.begin()?, store.begin()?, store.begin()?);
-//! assert_eq!((first.call(0, "take")?, first.call(0, "take")?), (Reply::Operation(0), Reply::Operation(0)));
-//! assert_eq!(second.call(0, "give")?, Reply::Operation(1)); // beside the first
+//! assert_eq!((first.call(0, "take")?, first.call(0, "take")?), (Reply::Operation(0.into()), Reply::Operation(0.into())));
+//! assert_eq!(second.call(0, "give")?, Reply::Operation(1.into())); // beside the first
 //! assert_eq!(third.call(0, "take")?, Reply::Busy { blocker: 0 }); // the second may yet be aborted
 //! second.commit()?;
-//! assert_eq!((third.call(0, "take")?, store.kept(0)?), (Reply::Operation(0), 3));
+//! assert_eq!((third.call(0, "take")?, store.kept(0)?), (Reply::Operation(0.into()), 3));
+//! # Ok::<(), colock::Error>(())
+//! ```
+//!
+//! A number that has no table may take and give any amount, and answer what it is. Its [`Operation`]s have a place and an
+//! amount. Its value is read where no other open transaction may move it, and then nobody may until the reader has ended.
+//!
+//! ```
+//! use colock::{Kind, Operation, Reply, Store, Type};
+//!
+//! let purse = Type::read("number purse\nmax 10000\ninitial 500\ntake any\ngive any\nvalue\nend\n", Kind::Escrow)?;
+//! let store = Store::new([&purse], 1_000_000)?;
+//! let (mut first, mut second) = (store.begin()?, store.begin()?);
+//! assert_eq!(first.call(0, "take:17")?, Reply::Operation(Operation::with(0, 17)));
+//! assert_eq!(second.call(0, "give:3")?, Reply::Operation(Operation::with(2, 3))); // beside the first
+//! assert_eq!(first.call(0, "value")?, Reply::Busy { blocker: 1 }); // the give may yet be aborted
+//! second.commit()?;
+//! assert_eq!(first.call(0, "value")?.executed()?.amount, Some(486));
+//! assert_eq!(store.events(2)?[0].to_string(), "op 0 0 0 0 17");
 //! # Ok::<(), colock::Error>(())
 //! ```
 //!
@@ -159,6 +177,7 @@ mod gather;
 mod handle;
 mod locks;
 mod opening;
+mod operation;
 mod past;
 mod program;
 mod request;
@@ -179,6 +198,7 @@ mod waiting;
 pub use error::{CheckRefusal, Error, FaultKind, NotFollowed};
 pub use event::Event;
 pub use opening::OpenOptions;
+pub use operation::Operation;
 pub use retry::{Cause, Retry};
 pub use shared::SharedStore;
 pub use shared_transaction::SharedTransaction;

@@ -3,6 +3,7 @@ use crate::calls::Calls;
 use crate::child::{listed, Conversation, Link};
 use crate::creating;
 use crate::error::Error;
+use crate::operation::Operation;
 use crate::past::Past;
 use crate::program;
 use crate::request::Request;
@@ -18,7 +19,7 @@ use std::sync::Arc;
 use std::time::Duration;
 
 /// The version of what is spoken with a child.
-const VERSION: &str = "2";
+const VERSION: &str = "3";
 
 /// How a store in a file is opened. A child process serves it, the program `colock serve`, in a process group of its
 /// own.
@@ -271,12 +272,13 @@ impl Type {
         let name = |of: &Type, k| (of.call_name(k), of.reply_name(k));
         let mut pairs = (0..operations).flat_map(|requested| (0..operations).map(move |held| (requested, held)));
         shape(self) == shape(other)
-            && (0..operations).all(|k| name(self, k) == name(other, k) && self.has_steps_of(other, k))
+            && (0..operations).all(|k| name(self, k) == name(other, k) && self.has_steps_of(other, Operation::listed(k)))
             && pairs.all(|(requested, held)| self.conflicts(requested, held) == other.conflicts(requested, held))
     }
 
-    /// Whether an operation has the steps that it has in another type of as many states. Of a number its bounds say so.
-    fn has_steps_of(&self, other: &Type, operation: u64) -> bool {
+    /// Whether an operation has the steps that it has in another type of as many states. Of a number its bounds say so; and
+    /// where it has an amount its names do.
+    fn has_steps_of(&self, other: &Type, operation: Operation) -> bool {
         match self.kind() {
             Kind::Escrow => Bounds::of(self, operation) == Bounds::of(other, operation),
             Kind::Undo | Kind::Intentions => (0..self.states()).all(|state| self.step(state, operation) == other.step(state, operation)),
@@ -291,9 +293,12 @@ mod tests {
 
     #[test]
     fn greetings_are_read() {
-        assert_eq!(life_of("colock 2 12"), Ok(12));
-        assert_eq!(life_of("colock 1 12"), Err(Error::CannotOpen("the program speaks version 1, and this client version 2".to_string())));
-        for wrong in ["colock 2 x", "hello", "colock", "", "colock 2 1 1"] {
+        assert_eq!(life_of("colock 3 12"), Ok(12));
+        for other in ["1", "2", "4", "30"] {
+            let told = format!("the program speaks version {other}, and this client version 3");
+            assert_eq!(life_of(&format!("colock {other} 12")), Err(Error::CannotOpen(told)));
+        }
+        for wrong in ["colock 3 x", "hello", "colock", "", "colock 3 1 1"] {
             assert!(matches!(life_of(wrong), Err(Error::CannotOpen(_))), "{wrong}");
         }
     }
@@ -318,6 +323,9 @@ mod tests {
         assert!(are_same(&[&escrow], &[&another]) && !are_same(&[&escrow], &[&make(6, Kind::Escrow)]));
         let large = |take: u32| Type::read(format!("number large\nmax 4294967295\ninitial 7\ntake {take}\nend\n"), Kind::Escrow).unwrap();
         assert!(are_same(&[&large(5)], &[&large(5)]) && !are_same(&[&large(5)], &[&large(6)]));
+        let any = |lines: &str| Type::read(format!("number purse\nmax 100\ninitial 7\n{lines}\nend\n"), Kind::Escrow).unwrap();
+        assert!(are_same(&[&any("take any\nvalue")], &[&any("take any\nvalue")]) && !are_same(&[&any("take any")], &[&any("give any")]));
+        assert!(!are_same(&[&any("take 5\ntake any")], &[&any("take 6\ntake any")]) && !are_same(&[&any("value")], &[&any("take any")]));
         let moved = |step: &str| Type::read(format!("type c\nstates 3\ninitial 0\nop a b\nstep {step}\nend\n"), Kind::Escrow).unwrap();
         assert!(are_same(&[&moved("0 0 1")], &[&moved("0 0 1")]) && !are_same(&[&moved("0 0 1")], &[&moved("1 0 2")]));
         let all = "type c\nstates 2\ninitial 0\nop a b\nstep 0 0 1\nconflict undo 0 0\nend\n";

@@ -2,6 +2,7 @@
 
 use crate::error::Error;
 use crate::event::Event;
+use crate::operation::Operation;
 use std::fmt;
 use std::str::FromStr;
 
@@ -132,30 +133,43 @@ fn refusal(kind: &str) -> Option<Error> {
     })
 }
 
+/// The most numbers of a line of a history.
+const MOST_NUMBERS: usize = 5;
+
 /// The event of a line of a history; nothing where it is none.
 pub(crate) fn event(line: &str) -> Option<Event> {
-    let mut words = line.split(' ');
-    let kind = words.next()?;
-    let mut number = || words.next().and_then(|word| decimal(word).ok());
-    let (worker, transaction) = (u8::try_from(number()?).ok()?, number()?);
-    let small = |number: u64| u32::try_from(number).ok();
-    let event = match kind {
-        "begin" => Event::Begin { worker, transaction },
-        "op" => Event::Operation { worker, transaction, object: small(number()?)?, operation: small(number()?)? },
-        "busy" => Event::Busy { worker, transaction, object: small(number()?)?, call: small(number()?)?, blocker: number()? },
-        "none" => Event::None { worker, transaction, object: small(number()?)?, call: small(number()?)? },
-        "commit" => Event::Commit { worker, transaction },
-        "abort" => Event::Abort { worker, transaction },
-        "rollback" => Event::Rollback { worker, transaction, operations: number()? },
+    let (kind, rest) = line.split_once(' ')?;
+    let (mut numbers, mut count) = ([0; MOST_NUMBERS], 0);
+    for word in rest.split(' ') {
+        *numbers.get_mut(count)? = decimal(word).ok()?;
+        count += 1;
+    }
+    let (&worker, numbers) = numbers[..count].split_first()?;
+    let worker = small(worker)?;
+    Some(match (kind, numbers) {
+        ("begin", &[transaction]) => Event::Begin { worker, transaction },
+        ("op", &[transaction, object, place]) => Event::Operation { worker, transaction, object: small(object)?, operation: Operation::listed(small(place)?) },
+        ("op", &[transaction, object, place, amount]) => {
+            Event::Operation { worker, transaction, object: small(object)?, operation: Operation::with(small(place)?, small(amount)?) }
+        }
+        ("busy", &[transaction, object, call, blocker]) => Event::Busy { worker, transaction, object: small(object)?, call: small(call)?, blocker },
+        ("none", &[transaction, object, call]) => Event::None { worker, transaction, object: small(object)?, call: small(call)? },
+        ("commit", &[transaction]) => Event::Commit { worker, transaction },
+        ("abort", &[transaction]) => Event::Abort { worker, transaction },
+        ("rollback", &[transaction, operations]) => Event::Rollback { worker, transaction, operations },
         _ => return None,
-    };
-    words.next().is_none().then_some(event)
+    })
+}
+
+/// A number that has fewer bits.
+fn small<N: TryFrom<u64>>(number: u64) -> Option<N> {
+    number.try_into().ok()
 }
 
 #[cfg(test)]
 mod tests {
     use super::{answer, event, Answer, Id, Request};
-    use crate::{Error, Event};
+    use crate::{Error, Event, Operation};
 
     #[test]
     fn requests_are_spelled() {
@@ -199,7 +213,9 @@ mod tests {
     fn events_are_read_as_they_are_displayed() {
         let events = [
             Event::Begin { worker: 0, transaction: 7 },
-            Event::Operation { worker: 255, transaction: 7, object: 1, operation: 2 },
+            Event::Operation { worker: 255, transaction: 7, object: 1, operation: Operation::listed(2) },
+            Event::Operation { worker: 0, transaction: 7, object: 1, operation: Operation::with(2, 0) },
+            Event::Operation { worker: 0, transaction: 7, object: 255, operation: Operation::with(63, u32::MAX) },
             Event::Busy { worker: 0, transaction: 7, object: 1, call: 2, blocker: 3 },
             Event::None { worker: 0, transaction: 7, object: 1, call: 2 },
             Event::Commit { worker: 0, transaction: 7 },
@@ -209,7 +225,9 @@ mod tests {
         for wanted in events {
             assert_eq!(event(&wanted.to_string()), Some(wanted));
         }
-        for wrong in ["", "begin", "begin 0", "begin 256 0", "begin 0 0 0", "op 0 0 0", "other 0 0", "begin 0 x"] {
+        assert_eq!(event("op 0 7 1 2 17"), Some(Event::Operation { worker: 0, transaction: 7, object: 1, operation: Operation::with(2, 17) }));
+        let wrong_amounts = ["op 0 7 1 2 17 3", "op 0 7 1 2 x", "op 0 7 1 2 4294967296", "op 0 7 1 256", "none 0 7 1 2 17", "busy 0 7 1 2 17 3", "op 0 7 1 2 "];
+        for wrong in ["", "begin", "begin 0", "begin 256 0", "begin 0 0 0", "op 0 0 0", "other 0 0", "begin 0 x"].iter().chain(&wrong_amounts) {
             assert_eq!(event(wrong), None, "{wrong}");
         }
     }

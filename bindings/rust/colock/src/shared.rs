@@ -3,6 +3,7 @@ use crate::child::{listed, ok, Link};
 use crate::error::{Error, NotFollowed};
 use crate::event::Event;
 use crate::locks::locked;
+use crate::operation::Operation;
 use crate::past::Past;
 use crate::request::{self, Id, Request};
 use crate::shared_transaction::SharedTransaction;
@@ -234,12 +235,13 @@ impl SharedStore {
 
     // ---- what is read
 
-    /// The number of the call of this name at an object: that of the first operation that has it.
+    /// The call of this name at an object, for [`SharedTransaction::call_op`]: the first operation that has it, of `value`
+    /// that of the value 0.
     ///
     /// ```
     /// # use colock::{Error, Kind, SharedStore, Type};
     /// # let store = SharedStore::new([&Type::counter(5, &[1], Kind::Undo)?], 100)?;
-    /// assert_eq!(store.call_number(0, "dec:1"), Ok(1));
+    /// assert_eq!(store.call_number(0, "dec:1"), Ok(1.into()));
     /// assert_eq!(store.call_number(0, "dec:2"), Err(Error::NoCall));
     /// # Ok::<(), Error>(())
     /// ```
@@ -247,7 +249,7 @@ impl SharedStore {
     /// # Errors
     ///
     /// [`Error::NoObject`] or [`Error::NoCall`].
-    pub fn call_number(&self, object: u32, name: &str) -> Result<u8, Error> {
+    pub fn call_number(&self, object: u32, name: &str) -> Result<Operation, Error> {
         self.calls_at(object)?.number(name).ok_or(Error::NoCall)
     }
 

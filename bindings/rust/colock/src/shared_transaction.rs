@@ -2,6 +2,7 @@ use crate::beginning::FirstTold;
 use crate::calling::{abort_at_once, Call, InTheWay, Verb, When};
 use crate::error::Error;
 use crate::locks::locked;
+use crate::operation::Operation;
 use crate::request::Id;
 use crate::shared::{Lock, SharedStore};
 use crate::store_state::Ticket;
@@ -128,7 +129,7 @@ impl<'s> SharedTransaction<'s> {
     /// # let counter = Type::counter(5, &[1], Kind::Undo)?;
     /// let store = SharedStore::new([&counter], 100)?;
     /// let (mut first, mut second) = (store.begin()?, store.begin()?);
-    /// assert_eq!(first.call(0, "inc:1")?, Reply::Operation(0));
+    /// assert_eq!(first.call(0, "inc:1")?, Reply::Operation(0.into()));
     /// assert_eq!(second.call(0, "dec:1")?, Reply::Busy { blocker: 0 });
     /// # Ok::<(), colock::Error>(())
     /// ```
@@ -141,21 +142,21 @@ impl<'s> SharedTransaction<'s> {
         self.called(object, Call::Name(name))
     }
 
-    /// As [`SharedTransaction::call`], by the number that [`SharedStore::call_number`] gives.
+    /// As [`SharedTransaction::call`], of the call that [`SharedStore::call_number`] gave.
     ///
     /// ```
     /// # use colock::{Kind, Reply, SharedStore, Type};
     /// # let store = SharedStore::new([&Type::counter(5, &[1], Kind::Undo)?], 100)?;
     /// let up = store.call_number(0, "inc:1")?;
-    /// assert_eq!(store.begin()?.call_op(0, up)?, Reply::Operation(0));
+    /// assert_eq!(store.begin()?.call_op(0, up)?, Reply::Operation(0.into()));
     /// # Ok::<(), colock::Error>(())
     /// ```
     ///
     /// # Errors
     ///
     /// As of [`SharedTransaction::call`].
-    pub fn call_op(&mut self, object: u32, call: u8) -> Result<Reply, Error> {
-        self.called(object, Call::Number(call))
+    pub fn call_op(&mut self, object: u32, call: impl Into<Operation>) -> Result<Reply, Error> {
+        self.called(object, Call::Number(call.into()))
     }
 
     fn called(&mut self, object: u32, call: Call<'_>) -> Result<Reply, Error> {
@@ -213,7 +214,7 @@ impl<'s> SharedTransaction<'s> {
         self.waited(object, Call::Name(name), limit)
     }
 
-    /// As [`SharedTransaction::call_within`], by the number of the call.
+    /// As [`SharedTransaction::call_within`], of the call that [`SharedStore::call_number`] gave.
     ///
     /// ```
     /// # use colock::{Error, Kind, SharedStore, Type};
@@ -229,8 +230,8 @@ impl<'s> SharedTransaction<'s> {
     /// # Errors
     ///
     /// As of [`SharedTransaction::call_within`].
-    pub fn call_op_within(&mut self, object: u32, call: u8, limit: Duration) -> Result<Reply, Error> {
-        self.waited(object, Call::Number(call), limit)
+    pub fn call_op_within(&mut self, object: u32, call: impl Into<Operation>, limit: Duration) -> Result<Reply, Error> {
+        self.waited(object, Call::Number(call.into()), limit)
     }
 
     fn waited(&mut self, object: u32, call: Call<'_>, limit: Duration) -> Result<Reply, Error> {
@@ -269,15 +270,15 @@ impl<'s> SharedTransaction<'s> {
     /// ```
     /// # use colock::{Kind, Reply, SharedStore, Type};
     /// # let store = SharedStore::new([&Type::counter(5, &[1], Kind::Undo)?], 100)?;
-    /// assert_eq!(store.begin()?.would_op(0, 0)?, Reply::Operation(0));
+    /// assert_eq!(store.begin()?.would_op(0, 0)?, Reply::Operation(0.into()));
     /// # Ok::<(), colock::Error>(())
     /// ```
     ///
     /// # Errors
     ///
     /// As of [`SharedTransaction::call`].
-    pub fn would_op(&self, object: u32, call: u8) -> Result<Reply, Error> {
-        self.asked(object, Call::Number(call))
+    pub fn would_op(&self, object: u32, call: impl Into<Operation>) -> Result<Reply, Error> {
+        self.asked(object, Call::Number(call.into()))
     }
 
     fn asked(&self, object: u32, call: Call<'_>) -> Result<Reply, Error> {

@@ -160,7 +160,7 @@ impl fmt::Display for Type {
 impl Type {
     fn write_grid(&self, f: &mut fmt::Formatter<'_>) -> fmt::Result {
         let operations = self.operations();
-        let widest = operations.saturating_sub(1).to_string().len();
+        let widest = operations.saturating_sub(1).to_string().len(); // the type has a table, without amounts
         let rows = (0..operations).map(|requested| self.row_name(requested, widest)).collect::<Result<Vec<String>, fmt::Error>>()?;
         let wide = rows.iter().map(String::len).max().unwrap_or(0);
         let columns: String = (0..operations).map(|held| format!(" {held:>widest$}")).collect();
@@ -172,14 +172,14 @@ impl Type {
     }
 
     /// What comes before a row of the grid.
-    fn row_name(&self, requested: u64, widest: usize) -> Result<String, fmt::Error> {
+    fn row_name(&self, requested: u8, widest: usize) -> Result<String, fmt::Error> {
         let call = self.call_name(requested).map_err(|_| fmt::Error)?;
         let reply = self.reply_name(requested).map_err(|_| fmt::Error)?;
         Ok(format!("{requested:>widest$} {call} {reply}"))
     }
 
     /// The marks of a row of the grid.
-    fn marks(&self, requested: u64, operations: u64, widest: usize) -> Result<String, fmt::Error> {
+    fn marks(&self, requested: u8, operations: u8, widest: usize) -> Result<String, fmt::Error> {
         let mut marks = String::new();
         for held in 0..operations {
             let is_conflict = self.conflicts(requested, held).map_err(|_| fmt::Error)?;

@@ -1,6 +1,7 @@
 use crate::error::{Error, NotFollowed};
 use crate::event::Event;
 use crate::handle::{done, Handle};
+use crate::operation::Operation;
 use crate::transaction::{Transaction, TransactionId};
 use crate::types::Type;
 use colock_sys as sys;
@@ -121,12 +122,13 @@ impl Store {
         Ok(Transaction::of(self, id.worker, id.number))
     }
 
-    /// The number of the call of this name at an object: that of the first operation that has it.
+    /// The call of this name at an object, for [`Transaction::call_op`]: the first operation that has it, of `value` that of
+    /// the value 0.
     ///
     /// ```
     /// # use colock::{Error, Kind, Store, Type};
     /// # let store = Store::new([&Type::counter(5, &[1], Kind::Undo)?], 100)?;
-    /// assert_eq!(store.call_number(0, "dec:1")?, 1);
+    /// assert_eq!(store.call_number(0, "dec:1")?, 1.into());
     /// assert_eq!(store.call_number(0, "dec:2"), Err(Error::NoCall));
     /// # Ok::<(), Error>(())
     /// ```
@@ -134,11 +136,11 @@ impl Store {
     /// # Errors
     ///
     /// [`Error::NoObject`] or [`Error::NoCall`].
-    pub fn call_number(&self, object: u32, name: &str) -> Result<u8, Error> {
+    pub fn call_number(&self, object: u32, name: &str) -> Result<Operation, Error> {
         let mut call = 0;
         // SAFETY: as in `new`; the name is one slice.
         done(unsafe { sys::colock_call_number(self.handle.at(), object, name.as_ptr(), name.len(), &mut call) })?;
-        Ok(call)
+        Operation::try_from(call).map_err(|_| Error::Unknown(call))
     }
 
     /// The state that is kept of an object: of [`Kind::Undo`](crate::Kind::Undo) with what open transactions did, else

@@ -1,5 +1,6 @@
 use crate::error::Error;
 use crate::handle::done;
+use crate::operation::Operation;
 use crate::store::Store;
 use colock_sys as sys;
 use std::mem;
@@ -9,7 +10,7 @@ use std::mem;
 #[must_use = "a call that was busy was not executed"]
 pub enum Reply {
     /// This operation was executed. [`Type::reply_name`](crate::Type::reply_name) gives its reply.
-    Operation(u64),
+    Operation(Operation),
     /// What another transaction did is in its way, and nothing was executed.
     Busy {
         /// The other transaction: ask again when it has ended, or abort.
@@ -27,7 +28,7 @@ impl Reply {
     /// # let counter = Type::counter(5, &[1], Kind::Undo)?;
     /// # let store = Store::new([&counter], 100)?;
     /// let mut transaction = store.begin()?;
-    /// assert_eq!(transaction.call(0, "inc:1")?.executed(), Ok(0));
+    /// assert_eq!(transaction.call(0, "inc:1")?.executed(), Ok(0.into()));
     /// assert_eq!(store.begin()?.call(0, "dec:1")?.executed(), Err(Error::Busy { blocker: 0 }));
     /// # Ok::<(), Error>(())
     /// ```
@@ -36,7 +37,7 @@ impl Reply {
     ///
     /// [`Error::Busy`] or [`Error::Illegal`] where nothing was executed.
     #[inline]
-    pub fn executed(self) -> Result<u64, Error> {
+    pub fn executed(self) -> Result<Operation, Error> {
         match self {
             Reply::Operation(operation) => Ok(operation),
             Reply::Busy { blocker } => Err(Error::Busy { blocker }),
@@ -101,7 +102,7 @@ impl<'s> Transaction<'s> {
     /// let store = Store::new([&account], 100)?;
     /// let mut transaction = store.begin()?;
     /// let reply = transaction.call(0, "withdraw:2")?;
-    /// assert_eq!(reply, Reply::Operation(7));
+    /// assert_eq!(reply, Reply::Operation(7.into()));
     /// assert_eq!(account.reply_name(7)?, "short");
     /// # Ok::<(), colock::Error>(())
     /// ```
@@ -117,14 +118,14 @@ impl<'s> Transaction<'s> {
         answered(|answer| unsafe { sys::colock_call(store.handle().at(), worker, number, object, name.as_ptr(), name.len(), answer) })
     }
 
-    /// Calls the call of this number, for which [`Store::call_number`] is asked once.
+    /// Calls the call that [`Store::call_number`] gave.
     ///
     /// ```
     /// # use colock::{Kind, Reply, Store, Type};
     /// # let counter = Type::counter(5, &[1], Kind::Undo)?;
     /// # let store = Store::new([&counter], 100)?;
     /// let up = store.call_number(0, "inc:1")?;
-    /// assert_eq!(store.begin()?.call_op(0, up)?, Reply::Operation(0));
+    /// assert_eq!(store.begin()?.call_op(0, up)?, Reply::Operation(0.into()));
     /// # Ok::<(), colock::Error>(())
     /// ```
     ///
@@ -132,10 +133,10 @@ impl<'s> Transaction<'s> {
     ///
     /// As of [`Transaction::call`].
     #[inline]
-    pub fn call_op(&mut self, object: u32, call: u8) -> Result<Reply, Error> {
-        let Transaction { store, worker, number } = *self;
+    pub fn call_op(&mut self, object: u32, call: impl Into<Operation>) -> Result<Reply, Error> {
+        let (Transaction { store, worker, number }, call) = (&*self, u64::from(call.into()));
         // SAFETY: as in `call`.
-        answered(|answer| unsafe { sys::colock_call_op(store.handle().at(), worker, number, object, call, answer) })
+        answered(|answer| unsafe { sys::colock_call_op(store.handle().at(), *worker, *number, object, call, answer) })
     }
 
     /// What [`Transaction::call`] would be answered now. Nothing is executed, and it is no event.
@@ -162,14 +163,15 @@ impl<'s> Transaction<'s> {
     /// # use colock::{Kind, Reply, Store, Type};
     /// # let counter = Type::counter(5, &[1], Kind::Undo)?;
     /// # let store = Store::new([&counter], 100)?;
-    /// assert_eq!(store.begin()?.would_op(0, 0)?, Reply::Operation(0));
+    /// assert_eq!(store.begin()?.would_op(0, 0)?, Reply::Operation(0.into()));
     /// # Ok::<(), colock::Error>(())
     /// ```
     ///
     /// # Errors
     ///
     /// As of [`Transaction::call`].
-    pub fn would_op(&self, object: u32, call: u8) -> Result<Reply, Error> {
+    pub fn would_op(&self, object: u32, call: impl Into<Operation>) -> Result<Reply, Error> {
+        let call = u64::from(call.into());
         // SAFETY: as in `call`.
         answered(|answer| unsafe { sys::colock_would_op(self.store.handle().at(), self.number, object, call, answer) })
     }
@@ -290,7 +292,7 @@ fn answered(call: impl FnOnce(*mut sys::Answer) -> u32) -> Result<Reply, Error> 
     let mut answer = sys::Answer::default();
     done(call(&mut answer))?;
     match answer.kind {
-        0 => Ok(Reply::Operation(answer.number)),
+        0 => Operation::try_from(answer.number).map(Reply::Operation).map_err(|_| Error::Unknown(answer.number)),
         1 => Ok(Reply::Busy { blocker: answer.number }),
         2 => Ok(Reply::None),
         kind => Err(Error::Unknown(kind)),

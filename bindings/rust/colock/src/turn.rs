@@ -1,5 +1,6 @@
 use crate::calling::{abort_at_once, in_memory, Call, Verb, When};
 use crate::error::Error;
+use crate::operation::Operation;
 use crate::shared::{Guard, Lock, SharedStore};
 use crate::store_state::{Held, State, Ticket};
 use crate::transaction::Reply;
@@ -136,7 +137,7 @@ impl<'s> Turn<'s> {
     /// ```
     /// # use colock::{Error, Kind, Reply, SharedStore, Type};
     /// # let store = SharedStore::new([&Type::counter(5, &[1], Kind::Undo)?], 100)?;
-    /// assert_eq!(store.transact(|turn| turn.call(0, "inc:1")), Ok(Reply::Operation(0)));
+    /// assert_eq!(store.transact(|turn| turn.call(0, "inc:1")), Ok(Reply::Operation(0.into())));
     /// # Ok::<(), Error>(())
     /// ```
     ///
@@ -154,7 +155,7 @@ impl<'s> Turn<'s> {
     /// # use colock::{Error, Kind, Reply, SharedStore, Type};
     /// # let store = SharedStore::new([&Type::counter(5, &[1], Kind::Undo)?], 100)?;
     /// let up = store.call_number(0, "inc:1")?;
-    /// assert_eq!(store.transact(|turn| turn.call_op(0, up)), Ok(Reply::Operation(0)));
+    /// assert_eq!(store.transact(|turn| turn.call_op(0, up)), Ok(Reply::Operation(0.into())));
     /// # Ok::<(), Error>(())
     /// ```
     ///
@@ -162,8 +163,8 @@ impl<'s> Turn<'s> {
     ///
     /// As of [`SharedTransaction::call`](crate::SharedTransaction::call).
     #[inline]
-    pub fn call_op(&mut self, object: u32, call: u8) -> Result<Reply, Error> {
-        self.called(object, Call::Number(call))
+    pub fn call_op(&mut self, object: u32, call: impl Into<Operation>) -> Result<Reply, Error> {
+        self.called(object, Call::Number(call.into()))
     }
 
     /// As [`SharedTransaction::would`](crate::SharedTransaction::would).
@@ -187,15 +188,15 @@ impl<'s> Turn<'s> {
     /// ```
     /// # use colock::{Error, Kind, Reply, SharedStore, Type};
     /// # let store = SharedStore::new([&Type::counter(5, &[1], Kind::Undo)?], 100)?;
-    /// assert_eq!(store.transact(|turn| turn.would_op(0, 0)), Ok(Reply::Operation(0)));
+    /// assert_eq!(store.transact(|turn| turn.would_op(0, 0)), Ok(Reply::Operation(0.into())));
     /// # Ok::<(), Error>(())
     /// ```
     ///
     /// # Errors
     ///
     /// As of [`SharedTransaction::call`](crate::SharedTransaction::call).
-    pub fn would_op(&mut self, object: u32, call: u8) -> Result<Reply, Error> {
-        self.asked(object, Call::Number(call))
+    pub fn would_op(&mut self, object: u32, call: impl Into<Operation>) -> Result<Reply, Error> {
+        self.asked(object, Call::Number(call.into()))
     }
 
     /// As [`SharedTransaction::rollback`](crate::SharedTransaction::rollback).

@@ -1,5 +1,6 @@
 use crate::error::Error;
 use crate::handle::{done, Handle};
+use crate::operation::Operation;
 use crate::source::Source;
 use colock_sys as sys;
 use std::fmt;
@@ -52,8 +53,9 @@ pub struct Type {
 
 impl Type {
     /// The type of a text, with its own conflicts, which for [`Kind::Escrow`] aren't looked at. A text whose first word is
-    /// `number` is of a number up to 4,294,967,295 with listed amounts, which has no table and is for [`Kind::Escrow`]
-    /// alone.
+    /// `number` is of a number up to 4,294,967,295, which has no table and is for [`Kind::Escrow`] alone. It lists amounts,
+    /// or with `take any` and `give any` takes and gives each one from 1 to the greatest number, as `take:17`; with `value`
+    /// it answers what it is.
     ///
     /// ```
     /// use colock::{Error, FaultKind, Kind, Type};
@@ -294,15 +296,15 @@ impl Type {
         self.shape().initial
     }
 
-    /// How many operations there are: they are the numbers below.
+    /// How many places of operations there are: they are the numbers below.
     ///
     /// ```
     /// # let counter = colock::Type::counter(5, &[1], colock::Kind::Undo)?;
     /// assert_eq!(counter.operations(), 2);
     /// # Ok::<(), colock::Error>(())
     /// ```
-    pub fn operations(&self) -> u64 {
-        self.shape().ops
+    pub fn operations(&self) -> u8 {
+        self.shape().ops as u8 // of a table at most 64, and of a number two for each of its 32 lines
     }
 
     /// The kind of recovery for which it was checked.
@@ -334,18 +336,21 @@ impl Type {
             .expect("the handle holds a type, and the room has place for the longest name")
     }
 
-    /// The call of an operation.
+    /// The call of an operation. At a place that has operations with amounts alone it is that of its line.
     ///
     /// ```
-    /// # let counter = colock::Type::counter(5, &[1], colock::Kind::Undo)?;
-    /// assert_eq!(counter.call_name(1)?, "dec:1");
+    /// use colock::{Kind, Operation, Type};
+    ///
+    /// let purse = Type::read("number purse\nmax 10000\ninitial 0\ntake any\nend\n", Kind::Escrow)?;
+    /// assert_eq!((purse.call_name(1)?, purse.call_name(Operation::with(1, 17))?), ("take:any".into(), "take:17".into()));
     /// # Ok::<(), colock::Error>(())
     /// ```
     ///
     /// # Errors
     ///
     /// [`Error::NoOperation`].
-    pub fn call_name(&self, operation: u64) -> Result<String, Error> {
+    pub fn call_name(&self, operation: impl Into<Operation>) -> Result<String, Error> {
+        let operation = u64::from(operation.into());
         // SAFETY: as in `name`.
         told(|room, count| unsafe { sys::colock_type_call(self.handle.at(), operation, room.as_mut_ptr(), room.len(), count) })
     }
@@ -361,7 +366,8 @@ impl Type {
     /// # Errors
     ///
     /// [`Error::NoOperation`].
-    pub fn reply_name(&self, operation: u64) -> Result<String, Error> {
+    pub fn reply_name(&self, operation: impl Into<Operation>) -> Result<String, Error> {
+        let operation = u64::from(operation.into());
         // SAFETY: as in `name`.
         told(|room, count| unsafe { sys::colock_type_reply(self.handle.at(), operation, room.as_mut_ptr(), room.len(), count) })
     }
@@ -378,8 +384,8 @@ impl Type {
     /// # Errors
     ///
     /// [`Error::NoState`] or [`Error::NoOperation`].
-    pub fn step(&self, state: u64, operation: u64) -> Result<Option<u64>, Error> {
-        let mut to = 0;
+    pub fn step(&self, state: u64, operation: impl Into<Operation>) -> Result<Option<u64>, Error> {
+        let (operation, mut to) = (u64::from(operation.into()), 0);
         // SAFETY: as in `name`.
         match unsafe { sys::colock_type_step(self.handle.at(), state, operation, &mut to) } {
             sys::code::NOT_LEGAL => Ok(None),
@@ -387,8 +393,8 @@ impl Type {
         }
     }
 
-    /// Whether an operation that is requested conflicts with one that another transaction holds. Of [`Kind::Escrow`] none
-    /// do, since it has no conflict table.
+    /// Whether an operation that is requested conflicts with one that another transaction holds, both by their places. Of
+    /// [`Kind::Escrow`] none do, since it has no conflict table.
     ///
     /// ```
     /// # let counter = colock::Type::counter(5, &[1], colock::Kind::Undo)?;
@@ -399,8 +405,9 @@ impl Type {
     ///
     /// # Errors
     ///
-    /// [`Error::NoOperation`].
-    pub fn conflicts(&self, requested: u64, held: u64) -> Result<bool, Error> {
+    /// [`Error::NoOperation`], also of one with an amount.
+    pub fn conflicts(&self, requested: impl Into<Operation>, held: impl Into<Operation>) -> Result<bool, Error> {
+        let (requested, held) = (u64::from(requested.into()), u64::from(held.into()));
         let mut told = 0;
         // SAFETY: as in `name`.
         done(unsafe { sys::colock_type_conflict(self.handle.at(), requested, held, &mut told) })?;
@@ -412,7 +419,7 @@ impl Type {
     /// ```
     /// # use colock::{Error, Kind, Type};
     /// # let counter = Type::counter(5, &[1], Kind::Undo)?;
-    /// assert_eq!(counter.operation("dec:1", "ok"), Ok(1));
+    /// assert_eq!(counter.operation("dec:1", "ok"), Ok(1.into()));
     /// assert_eq!(counter.operation("dec:1", "short"), Err(Error::NoOperation));
     /// # Ok::<(), Error>(())
     /// ```
@@ -420,13 +427,20 @@ impl Type {
     /// # Errors
     ///
     /// [`Error::NoOperation`].
-    pub fn operation(&self, call: &str, reply: &str) -> Result<u64, Error> {
-        for operation in 0..self.operations() {
-            if self.call_name(operation)? == call && self.reply_name(operation)? == reply {
-                return Ok(operation);
-            }
+    pub fn operation(&self, call: &str, reply: &str) -> Result<Operation, Error> {
+        let has_names = |k: &Operation| self.call_name(*k).as_deref() == Ok(call) && self.reply_name(*k).as_deref() == Ok(reply);
+        let mut listed = (0..self.operations()).map(Operation::listed);
+        if let Some(found) = listed.find(|k| has_names(k) && self.is_operation(*k)) {
+            return Ok(found);
         }
-        Err(Error::NoOperation)
+        // an amount is in the name of its call, and a value is a reply
+        let amount = call.rsplit(':').next().and_then(|word| word.parse().ok()).or_else(|| reply.parse().ok()).ok_or(Error::NoOperation)?;
+        (0..self.operations()).map(|place| Operation::with(place, amount)).find(has_names).ok_or(Error::NoOperation)
+    }
+
+    /// Whether there is such an operation. At a place that has those with amounts alone the place is none.
+    pub(crate) fn is_operation(&self, operation: Operation) -> bool {
+        self.step(0, operation) != Err(Error::NoOperation)
     }
 
     /// As [`Type::conflicts`], of operations by their calls and replies.

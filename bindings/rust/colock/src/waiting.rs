@@ -3,6 +3,7 @@
 //! The graph never has a circle while it is walked: one that a new edge makes is broken before the lock is given up.
 
 use crate::calls::Calls;
+use crate::operation::Operation;
 use std::collections::BTreeMap;
 use std::sync::{Arc, Condvar, OnceLock};
 
@@ -42,7 +43,7 @@ pub(crate) struct Asker {
     pub(crate) number: u64,
     pub(crate) age: u64,
     pub(crate) object: u32,
-    pub(crate) call: u8,
+    pub(crate) call: Operation,
 }
 
 /// For whom a transaction waits.
@@ -237,13 +238,13 @@ impl Waiting {
 mod tests {
     use super::{Asker, Verdict, Waiting};
     use crate::calls::Calls;
-    use crate::{Kind, Type};
+    use crate::{Kind, Operation, Type};
 
-    const UP: u8 = 0;
-    const DOWN: u8 = 1;
+    const UP: Operation = Operation::listed(0);
+    const DOWN: Operation = Operation::listed(1);
 
     /// A transaction whose number is ten times its age.
-    fn asker(age: u64, call: u8) -> Asker {
+    fn asker(age: u64, call: Operation) -> Asker {
         Asker { number: age * 10, age, object: 0, call }
     }
 

@@ -1,6 +1,6 @@
 //! Each error that a caller can meet, what a drop does, and what may go to another thread.
 
-use colock::{CheckRefusal, Error, Event, FaultKind, Kind, Reply, Store, Type};
+use colock::{CheckRefusal, Error, Event, FaultKind, Kind, Operation, Reply, Store, Type};
 
 const CTR2: &str = "type counter\nstates 3\ninitial 0\nop inc:1 ok\nop dec:1 ok\nstep 0 0 1\nstep 1 0 2\nstep 1 1 0\nstep 2 1 1\n\
     conflict undo 0 1\nconflict undo 1 0\nconflict intentions 0 0\nconflict intentions 1 1\nend\n";
@@ -84,7 +84,7 @@ fn numbers_are_accepted_for_escrow() {
     for made in types {
         let made = made.unwrap();
         let count = made.operations();
-        assert!((0..count * count).all(|pair| made.conflicts(pair / count, pair % count) == Ok(false)));
+        assert!((0..count).all(|requested| (0..count).all(|held| made.conflicts(requested, held) == Ok(false))));
         assert_eq!((made.kind(), made.conflicts(0, count)), (Kind::Escrow, Err(Error::NoOperation)));
     }
     let five = Type::read(FIVE, Kind::Escrow).unwrap();
@@ -119,11 +119,11 @@ fn a_number_in_escrow_is_used() {
     let five = Type::read(FIVE, Kind::Escrow).unwrap();
     let mut store = Store::new([&five], 100).unwrap();
     let (mut t, mut u, mut v) = (store.begin().unwrap(), store.begin().unwrap(), store.begin().unwrap());
-    assert_eq!((t.call(0, "take:2"), u.call(0, "give:1"), store.kept(0)), (Ok(Reply::Operation(1)), Ok(Reply::Operation(0)), Ok(3)));
+    assert_eq!((t.call(0, "take:2"), u.call(0, "give:1"), store.kept(0)), (Ok(Reply::Operation(1.into())), Ok(Reply::Operation(0.into())), Ok(3)));
     // there may be one left for a second take
     assert_eq!((v.would(0, "take:2"), v.call(0, "take:2")), (Ok(Reply::Busy { blocker: 0 }), Ok(Reply::Busy { blocker: 0 })));
     t.abort().unwrap();
-    assert_eq!(v.call(0, "take:2"), Ok(Reply::Operation(1)));
+    assert_eq!(v.call(0, "take:2"), Ok(Reply::Operation(1.into())));
     u.commit().unwrap();
     assert_eq!(store.kept(0), Ok(4));
     v.commit().unwrap();
@@ -132,7 +132,7 @@ fn a_number_in_escrow_is_used() {
     assert_eq!((store.kept(0), other.kept(0)), (Ok(2), Ok(2)));
     store.renew().unwrap();
     let mut t = store.begin().unwrap();
-    assert_eq!((t.call(0, "take:2"), t.call(0, "take:2"), store.kept(0)), (Ok(Reply::Operation(1)), Ok(Reply::Operation(2)), Ok(2)));
+    assert_eq!((t.call(0, "take:2"), t.call(0, "take:2"), store.kept(0)), (Ok(Reply::Operation(1.into())), Ok(Reply::Operation(2.into())), Ok(2)));
 }
 
 #[test]
@@ -183,7 +183,7 @@ fn a_type_is_read() {
     assert_eq!((account.name().as_str(), account.states(), account.initial(), account.operations()), ("account", 6, 0, 14));
     assert_eq!(account.kind(), Kind::Intentions);
     assert_eq!((account.call_name(3).unwrap().as_str(), account.reply_name(3).unwrap().as_str()), ("withdraw:1", "short"));
-    assert_eq!((account.call_name(14), account.reply_name(1 << 32)), (Err(Error::NoOperation), Err(Error::NoOperation)));
+    assert_eq!((account.call_name(14), account.reply_name(Operation::with(0, 1))), (Err(Error::NoOperation), Err(Error::NoOperation)));
     assert_eq!((account.step(1, 4), account.step(0, 2)), (Ok(Some(3)), Ok(None)));
     assert_eq!((account.step(6, 0), account.step(0, 14)), (Err(Error::NoState), Err(Error::NoOperation)));
     assert_eq!((account.conflicts(2, 2), account.conflicts(3, 3)), (Ok(true), Ok(false)));
@@ -208,8 +208,8 @@ fn calls_are_answered() {
     let store = counters(2, 100);
     let mut t = store.begin_as(3).unwrap();
     let mut u = store.begin_as(4).unwrap();
-    assert_eq!(t.would(0, "inc:1"), Ok(Reply::Operation(0)));
-    assert_eq!(t.call(0, "inc:1"), Ok(Reply::Operation(0)));
+    assert_eq!(t.would(0, "inc:1"), Ok(Reply::Operation(0.into())));
+    assert_eq!(t.call(0, "inc:1"), Ok(Reply::Operation(0.into())));
     assert_eq!((u.would_op(0, 1), u.call(0, "dec:1")), (Ok(Reply::Busy { blocker: 0 }), Ok(Reply::Busy { blocker: 0 })));
     assert_eq!(u.call_op(1, 1), Ok(Reply::None));
     assert_eq!((t.call(2, "inc:1"), t.would(2, "inc:1")), (Err(Error::NoObject), Err(Error::NoObject)));
@@ -217,7 +217,10 @@ fn calls_are_answered() {
         (t.call(0, "inc"), t.would(0, ""), t.call_op(0, 2), t.would_op(0, 255)),
         (Err(Error::NoCall), Err(Error::NoCall), Err(Error::NoCall), Err(Error::NoCall))
     );
-    assert_eq!((store.call_number(0, "dec:1"), store.call_number(0, "x"), store.call_number(2, "dec:1")), (Ok(1), Err(Error::NoCall), Err(Error::NoObject)));
+    assert_eq!(
+        (store.call_number(0, "dec:1"), store.call_number(0, "x"), store.call_number(2, "dec:1")),
+        (Ok(1.into()), Err(Error::NoCall), Err(Error::NoObject))
+    );
     assert_eq!(
         (t.rollback(0), t.rollback(2), t.rollback(u64::MAX), t.rollback(1)),
         (Err(Error::BadRollback), Err(Error::BadRollback), Err(Error::BadRollback), Ok(()))
@@ -259,7 +262,7 @@ fn a_drop_aborts_also_where_a_panic_unwinds() {
     let panicked = std::panic::catch_unwind(|| {
         let store = store.lock().unwrap();
         let mut t = store.begin().unwrap();
-        assert_eq!(t.call(0, "inc:1"), Ok(Reply::Operation(0)));
+        assert_eq!(t.call(0, "inc:1"), Ok(Reply::Operation(0.into())));
         panic!("in the middle of a transaction");
     });
     assert!(panicked.is_err());
@@ -276,8 +279,8 @@ fn limits() {
     assert_eq!((store.open_count(), store.event_count()), (0, 2048));
     let full = counters(1, 4);
     let mut t = full.begin().unwrap();
-    assert_eq!(t.call(0, "inc:1"), Ok(Reply::Operation(0)));
-    assert_eq!(t.call(0, "inc:1"), Ok(Reply::Operation(0)));
+    assert_eq!(t.call(0, "inc:1"), Ok(Reply::Operation(0.into())));
+    assert_eq!(t.call(0, "inc:1"), Ok(Reply::Operation(0.into())));
     assert_eq!((t.call(0, "dec:1"), t.rollback(1)), (Err(Error::HistoryFull), Err(Error::HistoryFull)));
     assert_eq!(full.begin().err(), Some(Error::HistoryFull));
     t.commit().unwrap();
@@ -299,8 +302,10 @@ fn events_are_forgotten_and_followed() {
     let stopped = other.follow(&wrong).unwrap_err();
     assert_eq!((stopped.made, stopped.error), (3, Error::NotMade));
     assert_eq!(other.open_count(), 1);
-    let beyond = [Event::Operation { worker: 0, transaction: 1, object: 0, operation: 256 }];
-    assert_eq!(other.follow(&beyond).unwrap_err().error, Error::NotMade);
+    for operation in [Operation::listed(255), Operation::with(0, 0), Operation::with(255, u32::MAX)] {
+        let beyond = [Event::Operation { worker: 0, transaction: 1, object: 0, operation }];
+        assert_eq!(other.follow(&beyond).unwrap_err().error, Error::NotMade);
+    }
     assert_eq!(other.follow(&[]), Ok(()));
 }
 

@@ -83,17 +83,18 @@ fn types_of_each_source_are_made() {
         Type::read(texts, Kind::Escrow).unwrap(),
         Type::from_steps("box", 2, &[("put", "ok"), ("get", "ok")], Kind::Escrow, step_of_a_box).unwrap(),
         Type::number(1_000_000, &[250]).unwrap(),
+        Type::read("number purse\nmax 10000\ninitial 500\ntake any\ngive any\nvalue\nend\n", Kind::Escrow).unwrap(),
     ];
     let objects: Vec<&Type> = types.iter().chain([&types[0], &types[3]]).collect();
     let store = OpenOptions::new().objects(&objects).create(true).program(program()).open(folder.file("a.db")).unwrap();
     let mut t = store.begin().unwrap();
-    let calls = ["raise", "raise", "deposit:2", "insert:-a", "enq:mail", "tick", "deposit:1", "raise", "put", "give:250", "raise", "member:b"];
+    let calls = ["raise", "raise", "deposit:2", "insert:-a", "enq:mail", "tick", "deposit:1", "raise", "put", "give:250", "take:17", "raise", "member:b"];
     for (object, call) in calls.into_iter().enumerate() {
         assert!(matches!(t.call(object as u32, call), Ok(Reply::Operation(_))), "{call}");
     }
     assert_eq!(t.call(3, "member:-a"), Ok(Reply::Operation(types[3].operation("member:-a", "true").unwrap())));
     t.commit().unwrap();
-    assert_eq!((store.kept(6), store.kept(7), store.kept(8), store.kept(9)), (Ok(1), Ok(1), Ok(3), Ok(250)));
+    assert_eq!([6, 7, 8, 9, 10].map(|object| store.kept(object)), [1, 1, 3, 250, 483].map(Ok));
     store.close().unwrap();
 }
 
@@ -110,7 +111,7 @@ fn a_number_in_escrow_is_opened_again() {
     let (folder, five) = (Folder::new(), kept(Type::counter(5, &[1, 2], Kind::Escrow).unwrap()));
     let store = options(&[five]).open(folder.file("a.db")).unwrap();
     let (mut t, mut u) = (store.begin().unwrap(), store.begin().unwrap());
-    assert_eq!((t.call(0, "inc:2"), u.call(0, "inc:1")), (Ok(Reply::Operation(2)), Ok(Reply::Operation(0))));
+    assert_eq!((t.call(0, "inc:2"), u.call(0, "inc:1")), (Ok(Reply::Operation(2.into())), Ok(Reply::Operation(0.into()))));
     assert_eq!(store.kept(0), Ok(0));
     t.commit().unwrap();
     assert_eq!(store.kept(0), Ok(2));
@@ -118,7 +119,7 @@ fn a_number_in_escrow_is_opened_again() {
     drop(u);
     drop(store);
     let again = options(&[five]).open(folder.file("a.db")).unwrap();
-    assert_eq!((again.kept(0), again.begin().unwrap().call(0, "dec:2")), (Ok(2), Ok(Reply::Operation(3))));
+    assert_eq!((again.kept(0), again.begin().unwrap().call(0, "dec:2")), (Ok(2), Ok(Reply::Operation(3.into()))));
 }
 
 #[test]
@@ -183,7 +184,7 @@ fn a_child_that_is_killed_is_lost() {
     assert!(matches!(store.begin(), Err(Error::ConnectionLost(_))));
     assert!(matches!(store.kept(0), Err(Error::ConnectionLost(_))));
     assert!(matches!(store.transact(|turn| turn.call(0, "inc:1")?.executed()), Err(Error::ConnectionLost(_))));
-    assert_eq!(store.call_number(0, "dec:1"), Ok(1)); // which the client knows
+    assert_eq!(store.call_number(0, "dec:1"), Ok(1.into())); // which the client knows
     assert!(matches!(store.close(), Err(Error::ConnectionLost(_))));
 }
 
@@ -287,7 +288,7 @@ fn an_archive_tells_of_epochs_that_ended() {
     assert!(archive.join("1.history").exists());
     let store = options.clone().open(folder.file("a.db")).unwrap();
     let mut t = store.begin().unwrap();
-    assert_eq!((t.call(0, "tick"), t.id().as_str()), (Ok(Reply::Operation(0)), "3.0"));
+    assert_eq!((t.call(0, "tick"), t.id().as_str()), (Ok(Reply::Operation(0.into())), "3.0"));
     t.commit().unwrap();
     assert_eq!((store.committed("1.0"), store.committed("1.1"), store.committed("1.2")), (Ok(Some(true)), Ok(Some(false)), Ok(None)));
     assert_eq!((store.committed("3.0"), store.committed("2.0"), store.committed("4.0")), (Ok(Some(true)), Ok(Some(false)), Ok(None)));
@@ -343,7 +344,7 @@ fn many_begin_and_one_too_many_is_told_so() {
     }
     assert_eq!((all.len(), store.begin().err(), store.open_count()), (1024, Some(Error::TooManyOpen), Ok(1024)));
     for (number, t) in all.iter_mut().enumerate() {
-        assert_eq!((t.call(0, "tick"), t.number()), (Ok(Reply::Operation(0)), number as u64));
+        assert_eq!((t.call(0, "tick"), t.number()), (Ok(Reply::Operation(0.into())), number as u64));
     }
     drop(all.pop());
     assert_eq!(store.begin().unwrap().number(), 1024);

@@ -2,7 +2,7 @@
 
 mod common;
 
-use colock::{Error, OpenOptions, Reply, SharedStore, SharedTransaction};
+use colock::{Error, Event, OpenOptions, Operation, Reply, SharedStore, SharedTransaction};
 use common::{until_asleep, write_program, Folder, COUNTER_ARMS, LONG};
 use std::fs;
 use std::os::unix::fs::PermissionsExt;
@@ -18,7 +18,7 @@ const SOON: Duration = Duration::from_secs(5);
 
 /// A program that greets, and serves one counter from 0 to 2, with more arms of its `case`.
 fn served(arms: &str) -> String {
-    format!("#!/bin/sh\necho \"colock 2 1\"\nwhile read -r tag verb rest; do\n    case \"$verb\" in\n{COUNTER_ARMS}\n    {arms}\n    esac\ndone\n")
+    format!("#!/bin/sh\necho \"colock 3 1\"\nwhile read -r tag verb rest; do\n    case \"$verb\" in\n{COUNTER_ARMS}\n    {arms}\n    esac\ndone\n")
 }
 
 /// A folder with a program. One test at a time, since they have half a second for an answer.
@@ -80,14 +80,16 @@ fn lost<T: std::fmt::Debug>(act: impl FnOnce() -> Result<T, Error>) -> String {
 #[test]
 fn greetings_are_looked_at() {
     let rows = [
-        ("#!/bin/sh\necho 'colock 1 1'\nexec sleep 60\n", "version 1"),
+        ("#!/bin/sh\necho 'colock 1 1'\nexec sleep 60\n", "the program speaks version 1, and this client version 3"),
+        ("#!/bin/sh\necho 'colock 2 1'\nexec sleep 60\n", "the program speaks version 2, and this client version 3"),
+        ("#!/bin/sh\necho 'colock 4 1'\nexec sleep 60\n", "the program speaks version 4, and this client version 3"),
         ("#!/bin/sh\necho hello\nexec sleep 60\n", "no greeting: hello"),
         ("#!/bin/sh\necho 'colock: a.db: cannot open' >&2\nexit 3\n", "colock: a.db: cannot open"),
         ("#!/bin/sh\nexec sleep 60\n", "no answer within"),
-        ("#!/bin/sh\nprintf 'colock 2 1'\n", "no whole line"),
+        ("#!/bin/sh\nprintf 'colock 3 1'\n", "no whole line"),
         ("#!/bin/sh\nprintf '\\377\\n'\nexec sleep 60\n", "no whole line"),
         ("#!/bin/sh\nhead -c 1000000 /dev/zero\nexec sleep 60\n", "no whole line"),
-        ("#!/bin/sh\necho 'colock 2 1'\necho '1 object redo 0'\necho '1 ok'\nexec sleep 60\n", ""),
+        ("#!/bin/sh\necho 'colock 3 1'\necho '1 object redo 0'\necho '1 ok'\nexec sleep 60\n", ""),
         ("#!/bin/sh\nexit 0\n", "the program ended"),
     ];
     for (text, words) in rows {
@@ -97,6 +99,50 @@ fn greetings_are_looked_at() {
     let nothing = Fake::of("not a program\n");
     fs::set_permissions(nothing.folder.file("fake"), fs::Permissions::from_mode(0o644)).unwrap();
     assert!(nothing.refused().contains("ermission denied"));
+}
+
+/// A program that serves a purse with 500, of which any amount is taken and given, and the value is told.
+fn serving_a_purse(arms: &str) -> Fake {
+    let lines = ["number purse", "max 10000", "initial 500", "take any", "give any", "value", "end", ""].map(|line| format!("echo \"$tag {line}\"; ")).concat();
+    Fake::of(&format!(
+        "#!/bin/sh\necho \"colock 3 1\"\nwhile read -r tag verb rest; do\n    case \"$verb $rest\" in\n    objects*) echo \"$tag object escrow 0\"; echo \"$tag ok\" ;;\n    \
+         types*) {lines} echo \"$tag ok\" ;;\n    begin*) echo \"$tag ok 1.0\" ;;\n    {arms}\n    *) echo \"$tag refused NoCall\" ;;\n    esac\ndone\n"
+    ))
+}
+
+/// Names go over as they are, and replies and events come with their amounts.
+#[test]
+fn amounts_are_asked_and_told() {
+    let fake = serving_a_purse(
+        "call*' 0 take:17') echo \"$tag reply ok\" ;;\n    call*' 0 take:501') echo \"$tag reply short\" ;;\n    call*' 0 value') echo \"$tag reply 483\" ;;\n    \
+         would*' 0 give:3') echo \"$tag busy 1.7\" ;;\n    \
+         events*) echo \"$tag op 0 0 0 0 17\"; echo \"$tag op 0 0 0 4 483\"; echo \"$tag busy 0 1 0 4 0\"; echo \"$tag ok\" ;;",
+    );
+    let store = fake.open().unwrap();
+    let mut t = store.begin().unwrap();
+    let done = |place, amount| Ok(Reply::Operation(Operation::with(place, amount)));
+    assert_eq!((t.call(0, "take:17"), t.call_op(0, Operation::with(0, 501)), t.call(0, "value")), (done(0, 17), done(1, 501), done(4, 483)));
+    assert_eq!(t.would(0, "give:3"), Ok(Reply::Busy { blocker: 7 }));
+    // these aren't asked at all, nor is what is refused there
+    assert_eq!((t.call(0, "take:0"), t.call(0, "take:007"), t.call(0, "take:10001")), (Err(Error::NoCall), Err(Error::NoCall), Err(Error::NoCall)));
+    assert_eq!(t.call(0, "take:18"), Err(Error::NoCall));
+    let events = store.events(0).unwrap();
+    let told = |place, amount| Event::Operation { worker: 0, transaction: 0, object: 0, operation: Operation::with(place, amount) };
+    assert_eq!(events, [told(0, 17), told(4, 483), Event::Busy { worker: 0, transaction: 1, object: 0, call: 4, blocker: 0 }]);
+}
+
+#[test]
+fn wrong_amounts_are_no_answers() {
+    for (call, answer) in [("value", "reply 10001"), ("value", "reply n"), ("value", "reply 007"), ("take:17", "reply 17"), ("take:17", "reply full")] {
+        let fake = serving_a_purse(&format!("call*' 0 {call}') echo \"$tag {answer}\" ;;"));
+        let store = fake.open().unwrap();
+        assert!(matches!(store.begin().unwrap().call(0, call), Err(Error::ConnectionLost(_))), "{answer}");
+    }
+    for line in ["op 0 0 0 0 17 3", "op 0 0 0 0 4294967296", "op 0 0 0 256", "busy 0 1 0 4 17 0", "none 0 1 0 4 17"] {
+        let fake = serving_a_purse(&format!("events*) echo \"$tag {line}\"; echo \"$tag ok\" ;;"));
+        let store = fake.open().unwrap();
+        assert!(matches!(store.events(0), Err(Error::ConnectionLost(_))), "{line}");
+    }
 }
 
 #[test]
@@ -173,7 +219,7 @@ fn a_silent_child_is_lost_to_all() {
     let fake = Fake::serving(SILENT);
     let store = fake.open().unwrap();
     let (mut first, mut second) = (store.begin().unwrap(), store.begin().unwrap());
-    assert_eq!(first.call(0, "inc:1"), Ok(Reply::Operation(0)));
+    assert_eq!(first.call(0, "inc:1"), Ok(Reply::Operation(0.into())));
     thread::scope(|scope| {
         let asleep = scope.spawn(move || second.call_within(0, "dec:1", LONG));
         until_asleep(&store, 1);
@@ -198,13 +244,13 @@ fn a_commit_wakes_before_it_is_answered() {
     let fake = Fake::serving(body);
     let store = fake.open().unwrap();
     let (mut first, mut second) = (store.begin().unwrap(), store.begin().unwrap());
-    assert_eq!(first.call(0, "inc:1"), Ok(Reply::Operation(0)));
+    assert_eq!(first.call(0, "inc:1"), Ok(Reply::Operation(0.into())));
     thread::scope(|scope| {
         let waiter = scope.spawn(move || second.call_within(0, "dec:1", LONG).and_then(|reply| second.commit().map(|()| reply)));
         until_asleep(&store, 1);
         // answered late, when the second one has asked, which it does since this one was asked for
         assert_eq!(first.commit(), Ok(()));
-        assert_eq!(waiter.join().unwrap(), Ok(Reply::Operation(1)));
+        assert_eq!(waiter.join().unwrap(), Ok(Reply::Operation(1.into())));
     });
     assert_eq!(store.stats().commits, 2);
 }
@@ -233,12 +279,12 @@ fn a_blocker_that_let_go_meanwhile_isnt_waited_for() {
         let fake = Fake::serving(BELATED);
         let store = fake.open().unwrap();
         let (mut first, mut second) = (store.begin().unwrap(), store.begin().unwrap());
-        assert_eq!(first.call(0, "inc:1"), Ok(Reply::Operation(0)));
+        assert_eq!(first.call(0, "inc:1"), Ok(Reply::Operation(0.into())));
         thread::scope(|scope| {
             let waiter = scope.spawn(move || second.call_within(0, "dec:1", SOON));
             common::until(|| fake.folder.file("fake.called").exists());
             let_go(first);
-            assert_eq!(waiter.join().unwrap(), Ok(Reply::Operation(1)));
+            assert_eq!(waiter.join().unwrap(), Ok(Reply::Operation(1.into())));
         });
         assert_eq!(store.stats().waits, 0);
         assert_eq!(store.close(), Ok(()));
@@ -256,7 +302,7 @@ fn transactions_of_an_epoch_that_ended_are_told_so() {
     let fake = Fake::serving(RENEWED);
     let store = fake.open().unwrap();
     let (mut first, mut second) = (store.begin().unwrap(), store.begin().unwrap());
-    assert_eq!(first.call(0, "inc:1"), Ok(Reply::Operation(0)));
+    assert_eq!(first.call(0, "inc:1"), Ok(Reply::Operation(0.into())));
     thread::scope(|scope| {
         let asleep = scope.spawn(move || (second.call_within(0, "dec:1", LONG), second.commit()));
         until_asleep(&store, 1);

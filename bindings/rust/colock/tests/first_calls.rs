@@ -14,7 +14,7 @@ use std::time::Duration;
 /// 1.1; a test says what is answered after them: the third begin, the call after it, and so on, a line each.
 fn told() -> String {
     [
-        "#!/bin/sh\necho \"colock 2 1\"\nexec 3< \"$0.answers\"\nwhile read -r tag verb rest; do",
+        "#!/bin/sh\necho \"colock 3 1\"\nexec 3< \"$0.answers\"\nwhile read -r tag verb rest; do",
         "    echo \"$verb $rest\" >> \"$0.asked\"\n    case \"$verb\" in",
         COUNTER_ARMS,
         "    end) echo \"$tag ok\"; exit 0 ;;\n    *) read -r answer <&3; echo \"$tag $answer\" ;;\n    esac\ndone\n",
@@ -62,7 +62,7 @@ fn first_call(answers: &[&str]) -> (Result<Reply, Error>, String, Vec<String>) {
 #[test]
 fn a_begin_goes_with_the_first_call() {
     let (told, id, asked) = first_call(&["ok 1.1", "reply ok", "ok"]);
-    assert_eq!((told, id.as_str()), (Ok(Reply::Operation(0)), "1.1"));
+    assert_eq!((told, id.as_str()), (Ok(Reply::Operation(0.into())), "1.1"));
     assert_eq!(asked, ["begin", "call 1.1 0 inc:1", "abort 1.1", "end"]);
 }
 
@@ -71,7 +71,7 @@ fn another_name_than_the_foretold_one_is_called_by() {
     // another life, and a life in which one that the client doesn't know was refused
     for name in ["2.0", "1.0"] {
         let (told, id, asked) = first_call(&[&format!("ok {name}"), "refused NotOpen", "reply ok", "ok"]);
-        assert_eq!((told, id.as_str()), (Ok(Reply::Operation(0)), name));
+        assert_eq!((told, id.as_str()), (Ok(Reply::Operation(0.into())), name));
         assert_eq!(asked, ["begin", "call 1.1 0 inc:1", &format!("call {name} 0 inc:1"), &format!("abort {name}"), "end"]);
     }
 }
@@ -91,7 +91,7 @@ fn a_begin_that_is_refused_is_told_by_the_call() {
 #[test]
 fn a_full_epoch_is_waited_for_by_the_first_call() {
     let (told, id, asked) = first_call(&["busy drain", "refused NotOpen", "busy drain", "ok 2.0", "reply ok", "ok"]);
-    assert_eq!((told, id.as_str()), (Ok(Reply::Operation(0)), "2.0"));
+    assert_eq!((told, id.as_str()), (Ok(Reply::Operation(0.into())), "2.0"));
     assert_eq!(asked, ["begin", "call 1.1 0 inc:1", "begin", "begin", "call 2.0 0 inc:1", "abort 2.0", "end"]);
 }
 
@@ -121,7 +121,7 @@ fn behind_a_refused_begin_names_are_foretold_again() {
     store.begin().unwrap().commit().unwrap();
     assert_eq!(store.begin().unwrap().call(0, "inc:1"), Err(Error::NoMemory)); // and its drop begins it, and aborts it
     let mut t = store.begin().unwrap();
-    assert_eq!((t.call(0, "inc:1"), t.number()), (Ok(Reply::Operation(0)), 2));
+    assert_eq!((t.call(0, "inc:1"), t.number()), (Ok(Reply::Operation(0.into())), 2));
     assert_eq!(t.commit(), Ok(()));
     drop(store);
     let asked = teller.asked();
@@ -173,7 +173,7 @@ fn a_begin_is_asked_once() {
             let told: Vec<u64> = asking.into_iter().map(|one| one.join().unwrap()).collect();
             assert_eq!(told, [1, round + 1, round + 1, round + 1]);
         });
-        assert_eq!(t.call_within(0, "inc:1", LONG), Ok(Reply::Operation(0)));
+        assert_eq!(t.call_within(0, "inc:1", LONG), Ok(Reply::Operation(0.into())));
         t.commit().unwrap();
     }
     assert_eq!((store.event_count(), store.kept(0)), (Ok(2 + 3 * 50), Ok(50)));

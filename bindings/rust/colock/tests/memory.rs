@@ -14,7 +14,7 @@ fn memory_comes_back() {
         for _ in 0..200 {
             let account = Type::account(20, &[1, 2, 3, 4, 5], Kind::Undo).unwrap();
             let store = Store::new([&account; 50], 1_000_000).unwrap();
-            assert_eq!(store.begin().unwrap().call(0, "deposit:1"), Ok(Reply::Operation(0)));
+            assert_eq!(store.begin().unwrap().call(0, "deposit:1"), Ok(Reply::Operation(0.into())));
         }
     };
     use_some();

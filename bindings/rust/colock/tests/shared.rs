@@ -3,7 +3,7 @@
 #[macro_use]
 mod common;
 
-use colock::{Error, Event, Kind, Reply, Retry, SharedStore, Type};
+use colock::{Error, Event, Kind, Operation, Reply, Retry, SharedStore, Type};
 use common::{counter, filled, lines, Make};
 use std::panic::{catch_unwind, AssertUnwindSafe};
 use std::thread;
@@ -29,9 +29,9 @@ fn calls_are_answered(make: Make) {
     let (up, down) = (store.call_number(0, "inc:1").unwrap(), store.call_number(1, "dec:1").unwrap());
     let (mut first, mut second) = (store.begin().unwrap(), store.begin().unwrap());
     assert_eq!((first.number(), second.number()), (0, 1));
-    assert_eq!(first.would(0, "inc:1"), Ok(Reply::Operation(0)));
-    assert_eq!(first.call(0, "inc:1"), Ok(Reply::Operation(0)));
-    assert_eq!(second.call_op(0, up), Ok(Reply::Operation(0))); // beside the first
+    assert_eq!(first.would(0, "inc:1"), Ok(Reply::Operation(0.into())));
+    assert_eq!(first.call(0, "inc:1"), Ok(Reply::Operation(0.into())));
+    assert_eq!(second.call_op(0, up), Ok(Reply::Operation(0.into()))); // beside the first
     assert_eq!((second.would(0, "dec:1"), second.would_op(0, down)), (Ok(Reply::Busy { blocker: 0 }), Ok(Reply::Busy { blocker: 0 })));
     assert_eq!(second.call(0, "dec:1"), Ok(Reply::Busy { blocker: 0 }));
     assert_eq!(second.call(1, "dec:1"), Ok(Reply::None));
@@ -63,7 +63,7 @@ fn what_is_wrong_is_told(make: Make) {
 fn a_drop_aborts(make: Make) {
     let store = make(&[&counter()]);
     let mut t = store.begin().unwrap();
-    assert_eq!(t.call(0, "inc:1"), Ok(Reply::Operation(0)));
+    assert_eq!(t.call(0, "inc:1"), Ok(Reply::Operation(0.into())));
     drop(t);
     assert_eq!((store.kept(0), store.open_count()), (Ok(0), Ok(0)));
     assert_eq!(lines(&store, 2), ["abort 0 0"]);
@@ -145,7 +145,7 @@ fn a_turn_asks_and_rolls_back(make: Make) {
     let store = filled(make, 1);
     store
         .transact(|turn| {
-            assert_eq!((turn.would(0, "inc:1")?, turn.would_op(0, 0)?), (Reply::Operation(0), Reply::Operation(0)));
+            assert_eq!((turn.would(0, "inc:1")?, turn.would_op(0, 0)?), (Reply::Operation(0.into()), Reply::Operation(0.into())));
             turn.call(0, "inc:1")?.executed()?;
             turn.rollback(1)?;
             assert_eq!(turn.rollback(1), Err(Error::BadRollback));
@@ -158,7 +158,7 @@ fn a_turn_asks_and_rolls_back(make: Make) {
 fn a_retry_commits(make: Make) {
     let store = filled(make, 1);
     let told = store.retry(&Retry::default(), |t| t.call(0, "inc:1")?.executed());
-    assert_eq!((told, store.kept(0)), (Ok(0), Ok(501)));
+    assert_eq!((told, store.kept(0)), (Ok(0.into()), Ok(501)));
 }
 
 fn errors_of_callers_are_handed_on(make: Make) {
@@ -170,7 +170,7 @@ fn errors_of_callers_are_handed_on(make: Make) {
         Err("sold out".into())
     });
     assert_eq!((told.unwrap_err().to_string(), tries), ("sold out".to_string(), 1));
-    let told: Result<u64, Box<dyn std::error::Error + Send + Sync>> = store.retry(&Retry::default(), |t| {
+    let told: Result<Operation, Box<dyn std::error::Error + Send + Sync>> = store.retry(&Retry::default(), |t| {
         tries += 1;
         let _reply = t.call(0, "inc:1")?;
         Ok(t.call(0, "inc:500")?.executed()?)
@@ -215,7 +215,7 @@ fn stores_are_closed(make: Make) {
 fn what_only_a_store_in_memory_does() {
     let store = common::in_memory(&[&counter()]);
     let mut t = store.begin_as(7).unwrap();
-    assert_eq!(t.call(0, "inc:1"), Ok(Reply::Operation(0)));
+    assert_eq!(t.call(0, "inc:1"), Ok(Reply::Operation(0.into())));
     assert_eq!(store.renew(), Err(Error::StillOpen));
     store.abort_all().unwrap();
     assert_eq!((t.call(0, "inc:1"), t.rollback(1)), (Err(Error::NotOpen), Err(Error::NotOpen)));
@@ -227,7 +227,7 @@ fn what_only_a_store_in_memory_does() {
     assert_eq!((again.number(), again.id().as_str()), (0, "1.0"));
     // the number is another one's now
     assert_eq!((t.call(0, "inc:1"), t.commit()), (Err(Error::NotOpen), Err(Error::NotOpen)));
-    assert_eq!(again.call(0, "inc:1"), Ok(Reply::Operation(0)));
+    assert_eq!(again.call(0, "inc:1"), Ok(Reply::Operation(0.into())));
     again.commit().unwrap();
     let other = common::in_memory(&[&counter()]);
     other.follow(&store.events(0).unwrap()).unwrap();
@@ -255,7 +255,7 @@ fn limits_of_a_store_in_memory() {
     assert_eq!(SharedStore::new([&counter], 1).err(), Some(Error::BadMax));
     let store = SharedStore::new([&counter], 3).unwrap();
     let mut t = store.begin().unwrap();
-    assert_eq!(t.call(0, "inc:1"), Ok(Reply::Operation(0)));
+    assert_eq!(t.call(0, "inc:1"), Ok(Reply::Operation(0.into())));
     assert_eq!((t.call(0, "inc:1"), t.call_within(0, "inc:1", common::LONG)), (Err(Error::HistoryFull), Err(Error::HistoryFull)));
     assert_eq!(store.begin().err(), Some(Error::HistoryFull));
     t.commit().unwrap();
@@ -280,12 +280,12 @@ fn types_are_made_of_steps() {
     let stock = Type::from_steps("stock", 2, &operations, Kind::Undo, step).unwrap();
     // found from two pieces on, an operation after another: 2 pieces, 1, 0
     assert_eq!((stock.name().as_str(), stock.states(), stock.initial(), stock.operations()), ("stock", 3, 0, 3));
-    let steps: Vec<Option<u64>> = (0..9).map(|cell| stock.step(cell / 3, cell % 3).unwrap()).collect();
+    let steps: Vec<Option<u64>> = (0..9_u8).map(|cell| stock.step(u64::from(cell / 3), cell % 3).unwrap()).collect();
     assert_eq!(steps, [Some(1), None, None, Some(2), None, Some(0), None, Some(2), Some(1)]);
     assert_eq!(stock.conflicts_named(("take:1", "ok"), ("give:1", "ok")), Ok(true));
     assert_eq!(stock.conflicts_named(("take:1", "ok"), ("take:1", "ok")), Ok(false));
     assert_eq!(stock.conflicts_named(("take:1", "ok"), ("give:1", "full")), Err(Error::NoOperation));
-    assert_eq!(stock.operation("give:1", "ok"), Ok(2));
+    assert_eq!(stock.operation("give:1", "ok"), Ok(2.into()));
 }
 
 #[test]
@@ -330,7 +330,7 @@ fn types_are_displayed_as_grids() {
     for (requested, row) in rows[2..].iter().enumerate() {
         let marks: Vec<&str> = row.split(' ').rev().take(6).collect();
         for (held, mark) in marks.iter().rev().enumerate() {
-            let wanted = if account.conflicts(requested as u64, held as u64).unwrap() { "x" } else { "." };
+            let wanted = if account.conflicts(requested as u8, held as u8).unwrap() { "x" } else { "." };
             assert_eq!(*mark, wanted, "{grid}");
         }
     }

@@ -46,7 +46,7 @@ over_both![
 /// A transaction that counts an object up, by 1.
 fn holder(store: &SharedStore, object: u32) -> SharedTransaction<'_> {
     let mut holder = store.begin().unwrap();
-    assert_eq!(holder.call(object, "inc:1"), Ok(Reply::Operation(0)));
+    assert_eq!(holder.call(object, "inc:1"), Ok(Reply::Operation(0.into())));
     holder
 }
 
@@ -65,7 +65,7 @@ fn waits_until(make: Make, end: impl FnOnce(&mut Option<SharedTransaction<'_>>))
         thread::sleep(SHORT);
         assert!(!waiter.is_finished());
         end(&mut blocker);
-        assert_eq!(waiter.join().unwrap(), Ok(Reply::Operation(1)));
+        assert_eq!(waiter.join().unwrap(), Ok(Reply::Operation(1.into())));
     });
     drop(blocker);
     let told = lines(&store, start);
@@ -95,8 +95,8 @@ fn a_call_that_is_free_doesnt_wait(make: Make) {
     let store = filled(make, 1);
     let _holder = holder(&store, 0);
     let mut t = store.begin().unwrap();
-    assert_eq!(t.call_within(0, "inc:1", LONG), Ok(Reply::Operation(0)));
-    assert_eq!(t.call_op_within(0, 0, Duration::ZERO), Ok(Reply::Operation(0)));
+    assert_eq!(t.call_within(0, "inc:1", LONG), Ok(Reply::Operation(0.into())));
+    assert_eq!(t.call_op_within(0, 0, Duration::ZERO), Ok(Reply::Operation(0.into())));
     assert_eq!(t.call_within(0, "inc:500", LONG), Ok(Reply::None)); // 503 and 500 are too many
     assert_eq!(store.stats().waits, 0);
 }
@@ -110,7 +110,7 @@ fn a_call_waits_for_one_after_another(make: Make) {
         first.commit().unwrap();
         until_asleep(&store, 2); // after the second now
         second.commit().unwrap();
-        assert_eq!(waiter.join().unwrap(), Ok(Reply::Operation(1)));
+        assert_eq!(waiter.join().unwrap(), Ok(Reply::Operation(1.into())));
     });
     // what is asked again leaves no event
     assert_eq!(lines(&store, 0).iter().filter(|line| line.starts_with("busy ")).count(), 1);
@@ -126,7 +126,7 @@ fn a_limit_ends_a_wait(make: Make) {
     // nothing was executed, and it is open
     assert_eq!((store.kept(0), store.open_count(), store.stats().timeouts), (Ok(501), Ok(2), 1));
     blocker.commit().unwrap();
-    assert_eq!(t.call_within(0, "dec:1", SHORT), Ok(Reply::Operation(1)));
+    assert_eq!(t.call_within(0, "dec:1", SHORT), Ok(Reply::Operation(1.into())));
     t.commit().unwrap();
 }
 
@@ -159,7 +159,7 @@ fn the_younger_of_two_is_the_victim(make: Make) {
         let victim = scope.spawn(|| waiting(younger, 0));
         until_asleep(&store, 1);
         let start = Instant::now();
-        assert_eq!(waiting(older, 1).0, Ok(Reply::Operation(1)));
+        assert_eq!(waiting(older, 1).0, Ok(Reply::Operation(1.into())));
         assert!(start.elapsed() < AT_ONCE, "{:?}", start.elapsed());
         assert_eq!(victim.join().unwrap().0, Err(Error::Deadlock { waited_for: blocker }));
     });
@@ -177,7 +177,7 @@ fn who_closes_the_circle_is_the_victim(make: Make) {
         let (reply, took) = waiting(younger, 0);
         assert_eq!(reply, Err(Error::Deadlock { waited_for: blocker }));
         assert!(took < AT_ONCE, "{took:?}");
-        assert_eq!(survivor.join().unwrap().0, Ok(Reply::Operation(1)));
+        assert_eq!(survivor.join().unwrap().0, Ok(Reply::Operation(1.into())));
     });
     assert_eq!((store.kept(0), store.kept(1), store.stats().deadlocks), (Ok(501), Ok(499), 1));
 }
@@ -192,10 +192,10 @@ fn the_youngest_of_three_is_the_victim(make: Make) {
         let middle = scope.spawn(|| waiting(second, 2)); // for the third
         until_asleep(&store, 2);
         let start = Instant::now();
-        assert_eq!(waiting(first, 1).0, Ok(Reply::Operation(1))); // for the second, which goes on as the third is gone
+        assert_eq!(waiting(first, 1).0, Ok(Reply::Operation(1.into()))); // for the second, which goes on as the third is gone
         assert!(start.elapsed() < AT_ONCE, "{:?}", start.elapsed());
         assert_eq!(victim.join().unwrap().0, Err(Error::Deadlock { waited_for: blocker }));
-        assert_eq!(middle.join().unwrap().0, Ok(Reply::Operation(1)));
+        assert_eq!(middle.join().unwrap().0, Ok(Reply::Operation(1.into())));
     });
     // up by the first; up by the second and down by the first; down by the second
     assert_eq!((store.kept(0), store.kept(1), store.kept(2)), (Ok(501), Ok(500), Ok(499)));
@@ -218,11 +218,11 @@ fn the_gate_lets_the_older_go_first(make: Make) {
         assert_eq!(younger.call_within(0, "inc:1", Duration::ZERO), Err(Error::TimedOut));
         assert_eq!(store.event_count().unwrap(), start); // the gate answers without an event
         assert_eq!(younger.call(0, "dec:1"), Ok(Reply::Busy { blocker: first.number() })); // which doesn't block a down
-        assert_eq!(younger.call(1, "inc:1"), Ok(Reply::Operation(0))); // at another object
+        assert_eq!(younger.call(1, "inc:1"), Ok(Reply::Operation(0.into()))); // at another object
         first.commit().unwrap();
-        assert_eq!(waiter.join().unwrap().0, Ok(Reply::Operation(1)));
+        assert_eq!(waiter.join().unwrap().0, Ok(Reply::Operation(1.into())));
     });
-    assert_eq!(younger.call(0, "inc:1"), Ok(Reply::Operation(0)));
+    assert_eq!(younger.call(0, "inc:1"), Ok(Reply::Operation(0.into())));
     younger.commit().unwrap();
     assert_eq!(store.kept(0), Ok(501));
 }
@@ -241,8 +241,8 @@ fn the_gate_is_waited_at(make: Make) {
         });
         until_asleep(&store, 2);
         first.commit().unwrap();
-        assert_eq!(waiter.join().unwrap().0, Ok(Reply::Operation(1)));
-        assert_eq!(behind.join().unwrap(), Ok(Reply::Operation(0)));
+        assert_eq!(waiter.join().unwrap().0, Ok(Reply::Operation(1.into())));
+        assert_eq!(behind.join().unwrap(), Ok(Reply::Operation(0.into())));
         let told = lines(&store, start);
         let at = |end: &str| told.iter().position(|line| line.starts_with("op ") && line.ends_with(end)).unwrap();
         assert!(at(" 0 1") < at(" 0 0"), "the down comes before the up: {told:?}");
@@ -259,7 +259,7 @@ fn who_leaves_the_gate_lets_others_go(make: Make) {
         until_asleep(&store, 1);
         let start = Instant::now();
         // beside the first, which is still open
-        assert_eq!(younger.call_within(0, "inc:1", LONG), Ok(Reply::Operation(0)));
+        assert_eq!(younger.call_within(0, "inc:1", LONG), Ok(Reply::Operation(0.into())));
         assert!(start.elapsed() < AT_ONCE, "{:?}", start.elapsed());
         assert_eq!(waiter.join().unwrap(), Err(Error::TimedOut));
     });
@@ -274,11 +274,11 @@ fn who_is_waited_for_passes_the_gate(make: Make) {
     thread::scope(|scope| {
         let waiter = scope.spawn(|| waiting(older, 0));
         until_asleep(&store, 1);
-        assert_eq!(younger.would(0, "inc:1"), Ok(Reply::Operation(0)));
-        assert_eq!(younger.call(0, "inc:1"), Ok(Reply::Operation(0)));
-        assert_eq!(younger.call_within(0, "inc:1", LONG), Ok(Reply::Operation(0)));
+        assert_eq!(younger.would(0, "inc:1"), Ok(Reply::Operation(0.into())));
+        assert_eq!(younger.call(0, "inc:1"), Ok(Reply::Operation(0.into())));
+        assert_eq!(younger.call_within(0, "inc:1", LONG), Ok(Reply::Operation(0.into())));
         younger.commit().unwrap();
-        assert_eq!(waiter.join().unwrap().0, Ok(Reply::Operation(1)));
+        assert_eq!(waiter.join().unwrap().0, Ok(Reply::Operation(1.into())));
     });
     assert_eq!((store.kept(0), store.stats().deadlocks), (Ok(502), 0));
 }
@@ -299,10 +299,10 @@ fn a_circle_by_the_gate_has_no_victim(make: Make) {
         });
         until_asleep(&store, 2);
         let start = Instant::now();
-        assert_eq!(waiting(first, 1).0, Ok(Reply::Operation(1)));
+        assert_eq!(waiting(first, 1).0, Ok(Reply::Operation(1.into())));
         assert!(start.elapsed() < AT_ONCE, "{:?}", start.elapsed());
-        assert_eq!(passing.join().unwrap(), Ok(Reply::Operation(0)));
-        assert_eq!(waiter.join().unwrap().0, Ok(Reply::Operation(1)));
+        assert_eq!(passing.join().unwrap(), Ok(Reply::Operation(0.into())));
+        assert_eq!(waiter.join().unwrap().0, Ok(Reply::Operation(1.into())));
     });
     // two ups and a down; an up and a down
     assert_eq!((store.kept(0), store.kept(1), store.stats().deadlocks), (Ok(501), Ok(500), 0));
@@ -315,7 +315,7 @@ const GRACE: Duration = Duration::from_millis(250);
 /// then, so that there are always some pieces.
 fn take(store: &SharedStore, holding: &AtomicU64) {
     let mut take = store.begin().unwrap();
-    assert_eq!(take.call_within(0, "dec:1", LONG), Ok(Reply::Operation(1)));
+    assert_eq!(take.call_within(0, "dec:1", LONG), Ok(Reply::Operation(1.into())));
     holding.fetch_add(1, Ordering::SeqCst);
     let start = Instant::now();
     let may_end = || holding.fetch_update(Ordering::SeqCst, Ordering::SeqCst, |count| (count > 1).then(|| count - 1)).is_ok();
@@ -349,7 +349,7 @@ fn give_among_takes(store: &SharedStore, limit: Duration) -> Result<Reply, Error
 
 fn a_stream_of_takes_lets_a_give_through(make: Make) {
     let limit = Duration::from_secs(1);
-    assert_eq!(give_among_takes(&filled(make, 1), limit), Ok(Reply::Operation(0)));
+    assert_eq!(give_among_takes(&filled(make, 1), limit), Ok(Reply::Operation(0.into())));
     assert_eq!(give_among_takes(&filled(make, 1).without_gate(), limit), Err(Error::TimedOut));
 }
 
@@ -422,7 +422,7 @@ fn a_retry_keeps_its_age(make: Make) {
             until_asleep(store, 1);
             t.call_within(1, "dec:1", LONG)?.executed()
         });
-        assert_eq!((told, tries), (Ok(1), 2));
+        assert_eq!((told, tries), (Ok(1.into()), 2));
         assert_eq!(victim.unwrap().join().unwrap().0, Err(Error::Deadlock { waited_for: blocker }));
     });
     assert_eq!((store.kept(0), store.kept(1)), (Ok(501), Ok(499)));
@@ -481,7 +481,7 @@ fn pieces(make: Make, objects: u32, count: u64) -> Fixture {
 /// A transaction that takes this many pieces.
 fn taker(store: &SharedStore, object: u32, count: u64) -> SharedTransaction<'_> {
     let mut taker = store.begin().unwrap();
-    assert!((0..count).all(|_| taker.call(object, "dec:1") == Ok(Reply::Operation(1))));
+    assert!((0..count).all(|_| taker.call(object, "dec:1") == Ok(Reply::Operation(1.into()))));
     taker
 }
 
@@ -493,7 +493,7 @@ fn a_take_in_escrow_waits_for_a_take(make: Make) {
         until_asleep(&store, 1);
         assert_eq!(store.kept(0), Ok(1)); // without what is open
         first.abort().unwrap();
-        assert_eq!(waiter.join().unwrap().0, Ok(Reply::Operation(1)));
+        assert_eq!(waiter.join().unwrap().0, Ok(Reply::Operation(1.into())));
     });
     assert_eq!(store.kept(0), Ok(0));
 }
@@ -507,11 +507,11 @@ fn the_gate_of_a_number_lets_gives_pass(make: Make) {
         until_asleep(&store, 1);
         // a take goes after the one that waits; a give blocks no take
         assert_eq!((younger.call(0, "dec:1"), younger.would(0, "dec:1")), (Ok(Reply::Busy { blocker: name }), Ok(Reply::Busy { blocker: name })));
-        assert_eq!(younger.call(0, "inc:1"), Ok(Reply::Operation(0)));
+        assert_eq!(younger.call(0, "inc:1"), Ok(Reply::Operation(0.into())));
         first.abort().unwrap();
-        assert_eq!(waiter.join().unwrap().0, Ok(Reply::Operation(1)));
+        assert_eq!(waiter.join().unwrap().0, Ok(Reply::Operation(1.into())));
     });
-    assert_eq!((younger.call(0, "dec:1"), store.kept(0)), (Ok(Reply::Operation(1)), Ok(1)));
+    assert_eq!((younger.call(0, "dec:1"), store.kept(0)), (Ok(Reply::Operation(1.into())), Ok(1)));
     younger.commit().unwrap();
     assert_eq!(store.kept(0), Ok(1));
 }
@@ -523,7 +523,7 @@ fn takes_in_escrow_deadlock(make: Make) {
     thread::scope(|scope| {
         let victim = scope.spawn(|| waiting(younger, 0));
         until_asleep(&store, 1);
-        assert_eq!(waiting(older, 1).0, Ok(Reply::Operation(1)));
+        assert_eq!(waiting(older, 1).0, Ok(Reply::Operation(1.into())));
         assert_eq!(victim.join().unwrap().0, Err(Error::Deadlock { waited_for: blocker }));
     });
     assert_eq!((store.kept(0), store.kept(1), store.stats().deadlocks), (Ok(0), Ok(0), 1));

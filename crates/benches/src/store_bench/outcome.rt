@@ -43,12 +43,12 @@ impl Outcome {
 
     fn note_all(&mut self, events: &[Event]) {
         for event in events {
-            self.note(*event);
+            self.note(event);
         }
     }
 
     /// Takes an event in: which kind it is of, and its numbers.
-    fn note(&mut self, event: Event) {
+    fn note(&mut self, event: &Event) {
         match event.kind {
             EventKind::Op { .. } => self.ops = self.ops.saturating_add(1),
             EventKind::Busy { .. } => self.busy = self.busy.saturating_add(1),
@@ -56,7 +56,7 @@ impl Outcome {
             EventKind::Commit { .. } => self.commits = self.commits.saturating_add(1),
             _ => {}
         }
-        for word in words_of(event.kind) {
+        for word in words_of(event) {
             self.history = folded(self.history, word);
         }
         self.history = folded(self.history, u32::from(event.worker));
@@ -74,10 +74,10 @@ fn folded(sum: u64, number: u32) -> u64 {
 }
 
 /// The kind of an event and its numbers.
-fn words_of(kind: EventKind) -> [u32; 5] {
-    match kind {
+fn words_of(event: &Event) -> [u32; 5] {
+    match event.kind {
         EventKind::Begin { t } => [0, t, 0, 0, 0],
-        EventKind::Op { t, x, k } => [1, t, x, u32::from(k), 0],
+        EventKind::Op { t, x, k } => [1, t, x, u32::from(k.place()), k.amount().unwrap_or(0)],
         EventKind::Busy { t, x, c, u } => [2, t, x, u32::from(c), u],
         EventKind::None { t, x, c } => [3, t, x, u32::from(c), 0],
         EventKind::Commit { t } => [4, t, 0, 0, 0],

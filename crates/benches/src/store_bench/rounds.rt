@@ -13,7 +13,7 @@ use std::sync::Arc;
 use std::time::Instant;
 use store::{Store, replay};
 use table_checker::CheckedType;
-use type_table::Op;
+use type_table::{Op, Operation};
 
 /// The most events of a history.
 const MOST_EVENTS: u32 = 1_000_000;
@@ -123,9 +123,9 @@ fn commands_at<M: Fresh>(
 }
 
 /// The numbers of the calls of a type, as a store of it gives them.
-fn numbers_of<M: Fresh>(alloc: Global, checked: &Arc<CheckedType>) -> Result<Vec<u8>> {
+fn numbers_of<M: Fresh>(alloc: Global, checked: &Arc<CheckedType>) -> Result<Vec<Operation>> {
     let store = store_of::<M>(alloc, checked, 1, MOST_EVENTS)?;
-    let numbers = numbers_in(alloc, &store, checked.ops());
+    let numbers = numbers_in(alloc, &store, checked.declared().rows());
     let _ = store.close();
     Ok(numbers?)
 }
@@ -135,7 +135,7 @@ fn numbers_in<M: Recovery>(
     alloc: Global,
     store: &Store<M>,
     ops: &[Op],
-) -> Result<Vec<u8>, AllocError> {
+) -> Result<Vec<Operation>, AllocError> {
     let mut numbers = Vec::new(alloc);
     for op in ops {
         let name = str::from_utf8(op.call.as_bytes()).unwrap_or("");

@@ -1,6 +1,7 @@
 //! The commands of a run, which are the same in each program.
 
 use std::alloc::{AllocError, Global};
+use type_table::Operation;
 
 /// One of how many transactions aborts.
 const ONE_ABORTS: u32 = 8;
@@ -13,7 +14,7 @@ const SEED: u32 = 2_463_534_242;
 #[derive(Clone, Copy)]
 pub enum Command {
     Begin,
-    Call { t: u32, x: u32, c: u8 },
+    Call { t: u32, x: u32, c: Operation },
     Commit { t: u32 },
     Abort { t: u32 },
     Rollback { t: u32, n: u32 },
@@ -81,14 +82,14 @@ struct Running {
 struct Script<'a> {
     workload: Workload,
     // the numbers of the calls
-    numbers: &'a [u8],
+    numbers: &'a [Operation],
     random: Random,
     begun: u32,
     commands: Vec<Command>,
 }
 
 impl<'a> Script<'a> {
-    fn new(alloc: Global, workload: Workload, numbers: &'a [u8]) -> Script<'a> {
+    fn new(alloc: Global, workload: Workload, numbers: &'a [Operation]) -> Script<'a> {
         Script {
             workload,
             numbers,
@@ -115,8 +116,9 @@ impl<'a> Script<'a> {
     fn call(&mut self, t: u32) -> Result<(), AllocError> {
         let x = self.random.below(self.workload.objects);
         let place = self.random.below(self.numbers.len().min(64) as u32);
-        let c = self.numbers.get(place as usize).copied().unwrap_or(0);
-        self.commands.push(Command::Call { t, x, c })?;
+        if let Some(c) = self.numbers.get(place as usize).copied() {
+            self.commands.push(Command::Call { t, x, c })?;
+        }
         Ok(())
     }
 
@@ -197,7 +199,7 @@ impl<'a> Script<'a> {
 pub fn commands_of(
     alloc: Global,
     workload: Workload,
-    numbers: &[u8],
+    numbers: &[Operation],
 ) -> Result<Vec<Command>, AllocError> {
     let mut script = Script::new(alloc, workload, numbers);
     let mut open = Vec::new(alloc);

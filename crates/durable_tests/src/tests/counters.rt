@@ -13,7 +13,7 @@ use sqlite_trees::store::{Alter, Reopen};
 use std::process::Abort;
 use store_text::ObjectLine;
 use test_support::type_texts::COUNTER;
-use type_table::Kind;
+use type_table::{Kind, Operation};
 
 /// A new file of objects of one type that begin at this state.
 pub fn contents(
@@ -33,7 +33,7 @@ pub fn contents(
         .expect(rt, "no states");
     FileContents {
         header: Header {
-            format: 2,
+            format: 3,
             id: [7; 16],
             life: 0,
         },
@@ -116,7 +116,7 @@ pub fn counted<S: Alter>(rt: &impl Abort, store: &mut Durable<S>, t: u32, x: u32
     ensures { IsDurable S.Store store.new }
 {
     let told = store.call(t, x, b"inc:1").expect(rt, "the file failed");
-    assert!(rt; told == Ok(Answer::Reply(0)));
+    assert!(rt; told == Ok(Answer::Reply(Operation::listed(0))));
 }
 
 /// Commits t.

@@ -221,7 +221,7 @@ fn is_served<S: Alter + Drop>(
     let said = client.into_out().into_inner().into_inner().held;
     let life = store.life();
     has(rt, store, 0, 1);
-    let answers = said.strip_prefix(b"colock 2 1\n".as_slice());
+    let answers = said.strip_prefix(b"colock 3 1\n".as_slice());
     let answers = answers.and_then(|rest| rest.strip_suffix(end));
     let is_told = answers == Some(ANSWERED.as_bytes());
     assert!(rt; (is_told, served, life) == (true, Ok(()), 2));

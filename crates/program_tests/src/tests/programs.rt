@@ -3,6 +3,7 @@
 ghost use Rattle.std.specs.Prelude.{◌≡◌, None};
 ghost use Rattle.outputs.specs.Out.{sink_fault};
 
+mod amounts;
 mod audits;
 mod checks;
 mod database_processes;

@@ -12,26 +12,41 @@ use object_trait::{
 };
 use std::test::Fail;
 use test_support::printed::are_debugged;
+use type_table::Operation;
 
-const EVENT: Event = Event {
-    worker: 3,
-    kind: EventKind::Op { t: 1, x: 0, k: 2 },
-};
+/// That transaction 1 executed an operation at object 0, as worker 3.
+fn event(k: Operation) -> Event {
+    Event {
+        worker: 3,
+        kind: EventKind::Op { t: 1, x: 0, k },
+    }
+}
 
 #[test]
 fn events_are_compared(rt: HostRuntime) {
-    let other = Event { worker: 4, ..EVENT };
-    let ended = Event {
-        kind: EventKind::Commit { t: 1 },
-        ..EVENT
-    };
-    assert!(rt; (EVENT == EVENT) & (EVENT != other) & (EVENT != ended));
+    let listed = event(Operation::listed(2));
+    let others = [
+        Event {
+            worker: 4,
+            ..event(Operation::listed(2))
+        },
+        Event {
+            worker: 3,
+            kind: EventKind::Commit { t: 1 },
+        },
+        event(Operation::with(2, 0)),
+    ];
+    assert!(rt; listed == event(Operation::listed(2)));
+    for other in &others {
+        assert!(rt; listed != *other);
+    }
 }
 
 #[test]
 fn events_are_printed(rt: HostRuntime) -> Result<(), Fail> {
-    let text = "Event { worker: 3, kind: Op { t: 1, x: 0, k: 2 } }";
-    are_debugged(rt.alloc(), &[(EVENT, text)])
+    let text =
+        "Event { worker: 3, kind: Op { t: 1, x: 0, k: Operation { place: 2, counted: true, amount: 7 } } }";
+    are_debugged(rt.alloc(), &[(event(Operation::with(2, 7)), text)])
 }
 
 #[test]

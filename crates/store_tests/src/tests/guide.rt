@@ -9,7 +9,7 @@ use std::sync::Arc;
 use std::test::Fail;
 use store::Store;
 use table_checker::check;
-use type_table::Kind;
+use type_table::{Kind, Operation};
 use type_text::read_type;
 
 static COUNTER: &str = "type counter
@@ -57,7 +57,8 @@ fn the_example_of_the_guide(rt: HostRuntime) -> Result<(), Fail> {
     let answers = run(&mut store).ok();
     let kept = store.kept(0);
     let events = store.close().0.len();
-    let expected = [Answer::Reply(0), Answer::Reply(0), Answer::Busy(0)];
+    let up = Operation::listed(0);
+    let expected = [Answer::Reply(up), Answer::Reply(up), Answer::Busy(0)];
     assert!(&rt; (answers, kept, events) == (Some(expected), Some(1), 7));
     Ok(())
 }

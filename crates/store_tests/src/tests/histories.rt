@@ -11,29 +11,41 @@ use serial_order::{
 use std::process::Abort;
 use std::test::Fail;
 use test_support::printed::{are_debugged, are_printed};
+use type_table::Operation;
 
-const ENTRY: Entry = Entry {
-    by: 1,
-    at: 0,
-    op: 2,
-};
+/// That transaction 1 executed operation 2 at object 0.
+fn entry() -> Entry {
+    Entry {
+        by: 1,
+        at: 0,
+        op: Operation::listed(2),
+    }
+}
 
 #[test]
 fn entries_are_compared(rt: HostRuntime) {
     let others = [
-        Entry { by: 3, ..ENTRY },
-        Entry { at: 3, ..ENTRY },
-        Entry { op: 3, ..ENTRY },
+        Entry { by: 3, ..entry() },
+        Entry { at: 3, ..entry() },
+        Entry {
+            op: Operation::listed(3),
+            ..entry()
+        },
+        Entry {
+            op: Operation::with(2, 0),
+            ..entry()
+        },
     ];
-    assert!(rt; ENTRY == ENTRY);
-    for other in others {
-        assert!(rt; ENTRY != other);
+    assert!(rt; entry() == entry());
+    for other in &others {
+        assert!(rt; entry() != *other);
     }
 }
 
 #[test]
 fn entries_are_printed(rt: HostRuntime) -> Result<(), Fail> {
-    are_debugged(rt.alloc(), &[(ENTRY, "Entry { by: 1, at: 0, op: 2 }")])
+    let text = "Entry { by: 1, at: 0, op: Operation { place: 2, counted: false, amount: 0 } }";
+    are_debugged(rt.alloc(), &[(entry(), text)])
 }
 
 static REFUSALS: [(Refusal, &str); 7] = [

@@ -5,15 +5,17 @@ mod scenes;
 
 use self::driven::apply_next;
 use self::scenes::{DEFERRED, IN_PLACE, plays};
+use escrow_manager::EscrowManager;
 use intentions_manager::IntentionsManager;
+use object_calls::call_unreplied;
 use object_trait::{Recovery, Renew};
 use reference_store::checked_types::checked_of;
 use std::alloc::AllocError;
 use std::process::Abort;
 use std::test::Fail;
 use test_support::printed::are_printed;
-use test_support::type_texts::COUNTER;
-use type_table::Kind;
+use test_support::type_texts::{COUNTER, PURSE};
+use type_table::{Kind, Operation};
 use undo_manager::UndoManager;
 
 /// A new object with update in place.
@@ -28,6 +30,14 @@ pub fn in_place(rt: &(impl Abort + AllocGlobal), text: &str) -> UndoManager {
 pub fn deferred(rt: &(impl Abort + AllocGlobal), text: &str) -> IntentionsManager {
     let checked = checked_of(rt.alloc(), text, Kind::Intentions).expect(rt, "no type");
     IntentionsManager::new(rt.alloc(), checked)
+        .ok()
+        .expect(rt, "wrong kind")
+}
+
+/// A new number in escrow.
+fn in_escrow(rt: &(impl Abort + AllocGlobal), text: &str) -> EscrowManager {
+    let checked = checked_of(rt.alloc(), text, Kind::Escrow).expect(rt, "no type");
+    EscrowManager::new(rt.alloc(), checked)
         .ok()
         .expect(rt, "wrong kind")
 }
@@ -99,7 +109,7 @@ fn apply_alone(
     rt: &(impl Abort + AllocGlobal),
     object: &mut UndoManager,
     t: u32,
-    k: u8,
+    k: Operation,
 ) -> Result<(), AllocError> {
     assert!(rt; object.log_len() == 0);
     let mut log = Vec::new(rt.alloc());
@@ -110,8 +120,8 @@ fn apply_alone(
 fn apply_two(rt: &(impl Abort + AllocGlobal), object: &mut UndoManager) -> Result<(), AllocError> {
     assert!(rt; object.log_len() == 0);
     let mut log = Vec::new(rt.alloc());
-    apply_next(rt, object, &mut log, 0, 0)?;
-    apply_next(rt, object, &mut log, 1, 0)
+    apply_next(rt, object, &mut log, 0, Operation::listed(0))?;
+    apply_next(rt, object, &mut log, 1, Operation::listed(0))
 }
 
 /// The log's length in place: a done entry after an open one stays until that ends.
@@ -129,6 +139,27 @@ fn a_done_entry_waits_for_an_open_one(rt: HostRuntime) {
     log_is_told(&rt, &mut object);
 }
 
+/// Transaction 0 gives nine to a purse of 20, up to 100, and 1 asks. From 21 to 29 a take is short now, and isn't after
+/// the gift; from 72 to 80 a gift has room now, and hasn't after it.
+fn asks_beside_a_gift<R: Recovery>(rt: &(impl Abort + AllocGlobal), purse: &mut R) {
+    assert!(rt; purse.is_fresh());
+    let mut log = Vec::new(rt.alloc());
+    apply_next(rt, purse, &mut log, 0, Operation::with(4, 9)).expect(rt, "no memory");
+    assert!(rt; (purse.view(0), purse.view(1), purse.state()) == (29, 20, 20));
+    assert!(rt; matches!(purse.amount_kept(1, 0, 0), Some(21..=29)));
+    assert!(rt; matches!(purse.amount_kept(1, 4, 0), Some(72..=80)));
+    assert!(rt; purse.amount_kept(1, 8, 0) == Some(20));
+    assert!(rt; purse.amount_kept(1, 2, 0).is_none() & purse.amount_kept(1, 0, 2).is_none());
+    let value = call_unreplied(purse, 1, 8, Some(0));
+    assert!(rt; value == Some(Operation::with(8, 0)));
+}
+
+#[test]
+fn an_amount_is_kept(rt: HostRuntime) {
+    let mut purse = in_escrow(&rt, PURSE);
+    asks_beside_a_gift(&rt, &mut purse);
+}
+
 /// How many transactions come one after another.
 const MANY: u32 = 10_000;
 
@@ -136,7 +167,7 @@ const MANY: u32 = 10_000;
 fn count_up_and_down(rt: &(impl Abort + AllocGlobal), object: &mut UndoManager) {
     for t in 0..MANY {
         let k = (t % 2) as u8;
-        apply_alone(rt, object, t, k).expect(rt, "no memory");
+        apply_alone(rt, object, t, Operation::listed(k)).expect(rt, "no memory");
         assert!(rt; object.log_len() == 1);
         object.commit(t);
         assert!(rt; (object.log_len(), object.state()) == (0, 1 - u32::from(k)));

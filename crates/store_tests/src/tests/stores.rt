@@ -1,5 +1,6 @@
 //! Stores: what they answer, what they keep, and how they end.
 
+mod amounts;
 mod boxed;
 mod calls;
 mod closed;

@@ -1,5 +1,6 @@
 //! What `check` and `check_parallel` hand back besides their verdict, and how faults are printed.
 
+use crate::tests::checked_numbers::bounds_of;
 use crate::tests::type_files::{file_of, is_written};
 use escrow_laws::Bounded;
 use std::process::Abort;
@@ -11,7 +12,7 @@ use table_maker::MakeError;
 use test_support::printed::are_printed;
 use test_support::texts::changed;
 use test_support::type_texts::{COUNTER, IDLE, NUMBER_OF_FIVE, ONE_WAY};
-use type_table::{ConflictTable, Kind};
+use type_table::{ConflictTable, Kind, Operation};
 use type_text::TypeFile;
 
 /// Whether these are the conflicts of two operations, of which each conflicts with itself alone.
@@ -107,8 +108,8 @@ fn up_to(high: u32) -> Bounded {
 fn is_numeric(rt: &(impl Abort + AllocGlobal), text: &[u8], count: usize, first: Bounded) {
     let checked = accepted(rt, text, Kind::Escrow);
     assert!(rt; checked.kind() == Kind::Escrow && checked.is_strong());
-    let bounds = checked.bounds().as_slice();
-    assert!(rt; bounds.len() == count && bounds.first() == Some(&first));
+    assert!(rt; checked.declared().rows().len() == count);
+    assert!(rt; bounds_of(&checked, Operation::listed(0)) == Some(first));
 }
 
 #[test]

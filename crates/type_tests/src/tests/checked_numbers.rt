@@ -1,17 +1,32 @@
 //! Types that are numbers: they are accepted for escrow without a table.
 
-use number_text::read_number;
+use crate::tests::number_files::number_of;
+use escrow_laws::Bounded;
 use std::process::Abort;
 use table_checker::{CheckedType, Declaration, DeclaredType, check_number};
-use test_support::type_texts::CREDIT;
-use type_table::Kind;
+use test_support::type_texts::{CREDIT, PURSE};
+use type_table::{Kind, Operation};
 
-/// The credit, accepted.
-fn credit(rt: &(impl Abort + AllocGlobal)) -> CheckedType {
-    let number = read_number(rt.alloc(), CREDIT.as_bytes()).ok();
-    let number = number.expect(rt, "no number");
-    assert!(rt; number.is_listed());
-    check_number(number)
+/// The number of a text, accepted.
+fn accepted(rt: &(impl Abort + AllocGlobal), text: &str) -> CheckedType {
+    check_number(number_of(rt, text.as_bytes()))
+}
+
+/// The bounds of an operation of a type that is accepted for escrow, where it has it.
+pub fn bounds_of(checked: &CheckedType, k: Operation) -> Option<Bounded> {
+    let _op = checked.op(k)?;
+    match checked.kind() {
+        Kind::Escrow => Some(checked.bounded(k)),
+        Kind::Undo | Kind::Intentions => None,
+    }
+}
+
+/// Whether these are the bounds of an operation, and what it gives and takes.
+fn is_bounded(checked: &CheckedType, k: Operation, row: (u32, u32, u32, u32)) -> bool {
+    match bounds_of(checked, k) {
+        Some(bounds) => (bounds.low, bounds.high, bounds.gives, bounds.takes) == row,
+        None => false,
+    }
 }
 
 /// The least and the greatest number at which each operation of the credit is legal, and what it gives and
@@ -29,18 +44,40 @@ static BOUNDS: [(u32, u32, u32, u32); 8] = [
 
 #[test]
 fn a_number_is_accepted(rt: HostRuntime) {
-    let credit = credit(&rt);
+    let credit = accepted(&rt, CREDIT);
     assert!(rt; credit.kind() == Kind::Escrow && credit.is_strong());
     assert!(rt; credit.initial() == 4_294_967_290 && credit.greatest() == u32::MAX);
-    assert!(rt; credit.ops().len() == 8 && credit.bounds().as_slice().len() == 8);
-    for (bounds, row) in credit.bounds().as_slice().iter().zip(BOUNDS.iter()) {
-        assert!(rt; (bounds.low, bounds.high, bounds.gives, bounds.takes) == *row);
+    assert!(rt; credit.declared().rows().len() == 8 && credit.op(Operation::listed(8)).is_none());
+    for (place, row) in BOUNDS.iter().enumerate() {
+        assert!(rt; is_bounded(&credit, Operation::listed(place as u8), *row));
+    }
+}
+
+/// Operations of the purse, which lists to give 7 beside any amount; their bounds, and what they give and take.
+static OF_ANY: [(u8, u32, (u32, u32, u32, u32)); 7] = [
+    (0, 1, (1, 100, 0, 1)),
+    (0, 100, (100, 100, 0, 100)),
+    (1, 100, (0, 99, 0, 0)),
+    (4, 8, (0, 92, 8, 0)),
+    (5, 8, (93, 100, 0, 0)),
+    (4, 7, (1, 0, 0, 0)),
+    (8, 20, (20, 20, 0, 0)),
+];
+
+#[test]
+fn a_number_of_any_amounts_is_accepted(rt: HostRuntime) {
+    let purse = accepted(&rt, PURSE);
+    assert!(rt; purse.is_strong() && purse.initial() == 20 && purse.greatest() == 100);
+    assert!(rt; purse.declared().rows().len() == 9 && purse.op(Operation::listed(0)).is_none());
+    for (place, amount, row) in &OF_ANY {
+        assert!(rt; is_bounded(&purse, Operation::with(*place, *amount), *row));
     }
 }
 
 /// The next number of one of the numbers under one of the operations, where it is legal there.
-fn next_of(declared: &DeclaredType, s: u32, k: u8) -> Option<u32> {
-    if declared.greatest() < s || declared.op_count() <= k {
+fn next_of(declared: &DeclaredType, s: u32, k: Operation) -> Option<u32> {
+    let _op = declared.op(k)?;
+    if declared.greatest() < s {
         return None;
     }
     declared.next(s, k)
@@ -61,18 +98,39 @@ static STEPS: [(u32, u8, Option<u32>); 9] = [
 
 #[test]
 fn a_number_steps_as_its_bounds_say(rt: HostRuntime) {
-    let credit = credit(&rt);
+    let credit = accepted(&rt, CREDIT);
     let declared = credit.declared();
     assert!(rt; matches!(declared.declaration(), Declaration::Number(_)));
-    assert!(rt; declared.op_count() == 8 && declared.name().as_bytes() == b"credit".as_slice());
+    assert!(rt; declared.name().as_bytes() == b"credit".as_slice());
     for (s, k, next) in &STEPS {
-        assert!(rt; next_of(declared, *s, *k) == *next);
+        assert!(rt; next_of(declared, *s, Operation::listed(*k)) == *next);
+    }
+}
+
+/// A number, an operation of the purse, and the next number.
+static STEPS_OF_ANY: [(u32, u8, u32, Option<u32>); 8] = [
+    (20, 0, 20, Some(0)),
+    (20, 0, 21, None),
+    (20, 1, 21, Some(20)),
+    (92, 4, 8, Some(100)),
+    (93, 4, 8, None),
+    (20, 4, 7, None),
+    (20, 8, 20, Some(20)),
+    (20, 8, 21, None),
+];
+
+#[test]
+fn a_number_steps_by_any_amount(rt: HostRuntime) {
+    let purse = accepted(&rt, PURSE);
+    for (s, place, amount, next) in &STEPS_OF_ANY {
+        let k = Operation::with(*place, *amount);
+        assert!(rt; next_of(purse.declared(), *s, k) == *next);
     }
 }
 
 #[test]
 fn a_number_begins_at_another_value(rt: HostRuntime) {
-    let credit = credit(&rt);
+    let credit = accepted(&rt, CREDIT);
     let begun = credit.at(rt.alloc(), 70_000).expect(&rt, "no memory");
     let begun = begun.expect(&rt, "no value");
     assert!(rt; begun.initial() == 70_000 && begun.is_at(&credit, 70_000));

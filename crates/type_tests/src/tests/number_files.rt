@@ -1,12 +1,10 @@
-//! The reader and the writer of number files, and the operations and bounds that they list: a credit in
-//! cents with other lines.
+//! The reader and the writer of number files: a credit in cents with other lines.
 
 use number_text::*;
-use std::alloc::Global;
 use std::fmt::Write;
 use std::process::Abort;
-use std::test::Fail;
 use test_support::sinks::{AtEnd, narrow_sink};
+use test_support::type_texts::PURSE;
 use type_table::Name;
 use type_text::{OutFault, Sink};
 
@@ -65,16 +63,31 @@ static FAULTS: [(usize, &[u8], usize, FaultKind); 34] = [
     (7, b"atleast 7\natleast 7\n", 8, FaultKind::OutOfOrder),
 ];
 
-/// The same of calls that list no amount: they are out of range wherever their section may be.
-static FREE: [(usize, &[u8], usize, FaultKind); 8] = [
-    (6, b"take any\n", 6, FaultKind::OutOfRange),
-    (7, b"give any\n", 7, FaultKind::OutOfRange),
-    (8, b"value\nend\n", 8, FaultKind::OutOfRange),
-    (4, b"take any\ntake any\n", 4, FaultKind::OutOfRange),
+/// The same of calls that list no amount: their lines have their places among the others, and there is one of each at
+/// most.
+static FREE: [(usize, &[u8], usize, FaultKind); 18] = [
+    // Words.
+    (4, b"take any any\n", 4, FaultKind::UnknownWord),
+    (7, b"value any\n", 7, FaultKind::UnknownWord),
+    (4, b"take Any\n", 4, FaultKind::BadNumber),
+    (2, b"max any\n", 2, FaultKind::BadNumber),
+    // A second one.
+    (6, b"take any\ntake any\n", 7, FaultKind::OutOfOrder),
+    (6, b"give any\ngive any\n", 7, FaultKind::OutOfOrder),
+    (7, b"value\nvalue\n", 8, FaultKind::OutOfOrder),
+    // The order of the sections.
+    (4, b"take any\n", 5, FaultKind::OutOfOrder),
     (7, b"take any\n", 7, FaultKind::OutOfOrder),
+    (4, b"give any\n", 5, FaultKind::OutOfOrder),
+    (6, b"give any\ntake any\n", 7, FaultKind::OutOfOrder),
+    (6, b"give any\ngive 5\n", 7, FaultKind::OutOfOrder),
     (8, b"give any\nend\n", 8, FaultKind::OutOfOrder),
+    (6, b"value\n", 7, FaultKind::OutOfOrder),
+    (8, b"value\ntake any\nend\n", 9, FaultKind::OutOfOrder),
+    (2, b"take any\n", 2, FaultKind::Missing),
     (3, b"value\n", 3, FaultKind::Missing),
-    (2, b"max 1\ninitial 0\nvalue\n", 4, FaultKind::OutOfRange),
+    // The ranges of the other lines.
+    (5, b"take any\ngive 0\n", 6, FaultKind::OutOfRange),
 ];
 
 /// The credit's text with other bytes in place of a line, which counts from 1.
@@ -88,7 +101,7 @@ fn credit_with(rt: &(impl Abort + AllocGlobal), line: usize, bytes: &[u8]) -> Ve
 }
 
 /// The number of a text that has no fault.
-fn number_of(rt: &(impl Abort + AllocGlobal), text: &[u8]) -> NumberFile {
+pub fn number_of(rt: &(impl Abort + AllocGlobal), text: &[u8]) -> NumberFile {
     read_number(rt.alloc(), text).expect(rt, "a fault")
 }
 
@@ -111,37 +124,65 @@ fn names_each_fault_of_a_number(rt: HostRuntime) {
 }
 
 #[test]
-fn a_call_lists_its_amount(rt: HostRuntime) {
+fn calls_of_any_amount_have_their_places(rt: HostRuntime) {
     have_faults(&rt, &FREE);
 }
 
-/// A text of a number of 100 with this many amounts to take.
-fn amounts_text(rt: &(impl Abort + AllocGlobal), amounts: u32) -> String {
+/// A text of a number of 100 with this many amounts to take, and with more lines.
+fn amounts_text(rt: &(impl Abort + AllocGlobal), amounts: u32, more: &str) -> String {
     let mut text = String::new(rt.alloc());
     text.push_str("number p\nmax 100\ninitial 100\n")
         .expect(rt, "no memory");
     for k in 0..amounts {
         write!(text, "take {}\n", k.wrapping_add(1)).expect(rt, "no memory");
     }
+    text.push_str(more).expect(rt, "no memory");
     text.push_str("end\n").expect(rt, "no memory");
     text
 }
 
-#[test]
-fn a_number_has_1_to_32_calls(rt: HostRuntime) {
-    has_fault(&rt, amounts_text(&rt, 0).as_bytes(), 4, FaultKind::Missing);
-    assert!(rt;
-        number_of(&rt, amounts_text(&rt, 32).as_bytes())
-            .calls()
-            .len()
-            == 32
-    );
-    has_fault(
-        &rt,
-        amounts_text(&rt, 33).as_bytes(),
+/// How many amounts a text of 32 calls lists to take, and its other calls.
+static FULL: [(u32, &str); 4] = [
+    (32, ""),
+    (31, "take any\n"),
+    (28, "take any\ngive any\natleast 1\nvalue\n"),
+    (
+        0,
+        "take any\ngive 1\ngive 2\ngive 3\ngive 4\ngive 5\ngive 6\ngive 7\ngive 8\ngive 9\ngive 10\ngive 11\ngive 12\ngive 13\ngive 14\ngive 15\ngive 16\ngive 17\ngive 18\ngive 19\ngive 20\ngive 21\ngive 22\ngive 23\ngive 24\ngive 25\ngive 26\ngive 27\ngive 28\ngive 29\ngive 30\nvalue\n",
+    ),
+];
+
+/// The same of texts with another number of calls, or with two lines of one call, and their faults.
+static MISCOUNTED: [(u32, &str, usize, FaultKind); 7] = [
+    (0, "", 4, FaultKind::Missing),
+    (33, "", 36, FaultKind::OutOfRange),
+    (32, "take any\n", 36, FaultKind::OutOfRange),
+    (32, "give any\n", 36, FaultKind::OutOfRange),
+    (32, "value\n", 36, FaultKind::OutOfRange),
+    (
+        29,
+        "take any\ngive any\natleast 1\nvalue\n",
         36,
         FaultKind::OutOfRange,
-    );
+    ),
+    // The section's order comes before the range.
+    (31, "take any\ntake any\n", 36, FaultKind::OutOfOrder),
+];
+
+#[test]
+fn a_number_has_up_to_32_calls(rt: HostRuntime) {
+    for (amounts, more) in &FULL {
+        let text = amounts_text(&rt, *amounts, more);
+        assert!(rt; number_of(&rt, text.as_bytes()).calls().len() == 32);
+    }
+}
+
+#[test]
+fn other_counts_of_calls_are_refused(rt: HostRuntime) {
+    for (amounts, more, line, kind) in &MISCOUNTED {
+        let text = amounts_text(&rt, *amounts, more);
+        has_fault(&rt, text.as_bytes(), *line, *kind);
+    }
 }
 
 /// That a number is written so.
@@ -167,71 +208,42 @@ fn a_fault_stops_the_text_of_a_number(rt: HostRuntime) {
     assert!(rt; out.into_inner().held.as_slice() == b"number credit\n".as_slice());
 }
 
-/// The call and the reply of each operation of the credit, in order.
-static OPS: [(&str, &str); 8] = [
-    ("take:5", "ok"),
-    ("take:5", "short"),
-    ("take:4294967295", "ok"),
-    ("take:4294967295", "short"),
-    ("give:5", "ok"),
-    ("give:5", "full"),
-    ("atleast:1000000000", "yes"),
-    ("atleast:1000000000", "no"),
+/// Texts of numbers, as they are written. Any one call is enough.
+static WRITTEN: [&str; 5] = [
+    PURSE,
+    "number p\nmax 1\ninitial 0\ntake any\nend\n",
+    "number p\nmax 1\ninitial 1\ngive any\nend\n",
+    "number p\nmax 4294967295\ninitial 4294967295\nvalue\nend\n",
+    "number p\nmax 9\ninitial 4\ntake 3\ntake 9\ntake any\ngive 3\ngive any\natleast 1\natleast 9\nvalue\nend\n",
 ];
 
-/// The least and the greatest number at which each operation of the credit is legal, and what it gives
-/// and takes.
-static BOUNDS: [(u32, u32, u32, u32); 8] = [
-    (5, 4_294_967_295, 0, 5),
-    (0, 4, 0, 0),
-    (4_294_967_295, 4_294_967_295, 0, 4_294_967_295),
-    (0, 4_294_967_294, 0, 0),
-    (0, 4_294_967_290, 5, 0),
-    (4_294_967_291, 4_294_967_295, 0, 0),
-    (1_000_000_000, 4_294_967_295, 0, 0),
-    (0, 999_999_999, 0, 0),
-];
-
-/// The operations of a number, a line for each.
-fn ops_text(alloc: Global, file: &NumberFile) -> Result<Vec<u8>, Fail> {
-    let mut text = Vec::new(alloc);
-    for op in file.ops() {
-        text.extend_from_slice(op.call.as_bytes())?;
-        text.extend_from_slice(b" ")?;
-        text.extend_from_slice(op.reply.as_bytes())?;
-        text.extend_from_slice(b"\n")?;
+/// What is read of what is written is the same number.
+#[test]
+fn numbers_of_any_amounts_are_written(rt: HostRuntime) {
+    for text in &WRITTEN {
+        let file = number_of(&rt, text.as_bytes());
+        is_written(&rt, &file, text.as_bytes());
+        is_read_again(&rt, &file);
     }
-    Ok(text)
 }
 
-/// The same of rows.
-fn rows_text(alloc: Global, rows: &[(&str, &str)]) -> Result<Vec<u8>, Fail> {
-    let mut text = Vec::new(alloc);
-    for (call, reply) in rows {
-        text.extend_from_slice(call.as_bytes())?;
-        text.extend_from_slice(b" ")?;
-        text.extend_from_slice(reply.as_bytes())?;
-        text.extend_from_slice(b"\n")?;
-    }
-    Ok(text)
+/// That what is read of a number's text is this number.
+fn is_read_again(rt: &(impl Abort + AllocGlobal), file: &NumberFile) {
+    let mut out = Sink::new(Vec::new(rt.alloc()));
+    write_number(file, &mut out).expect(rt, "not written");
+    let again = number_of(rt, out.into_inner().as_slice());
+    assert!(rt; again.is_at(file, file.initial()) && again.initial() == file.initial());
 }
 
 #[test]
-fn operations_are_numbered_in_order(rt: HostRuntime) -> Result<(), Fail> {
-    let file = number_of(&rt, &credit_with(&rt, 0, b""));
-    let ops = ops_text(rt.alloc(), &file)?;
-    assert!(rt; ops == rows_text(rt.alloc(), &OPS)?);
-    Ok(())
-}
-
-#[test]
-fn listed_amounts_have_bounds(rt: HostRuntime) {
-    let file = number_of(&rt, &credit_with(&rt, 0, b""));
-    let bounds = file.bounds();
-    assert!(rt; bounds.as_slice().len() == BOUNDS.len() && file.is_listed());
-    for (bound, row) in bounds.as_slice().iter().zip(BOUNDS.iter()) {
-        assert!(rt; (bound.low, bound.high, bound.gives, bound.takes) == *row);
-    }
+fn loose_texts_of_any_amounts_are_written(rt: HostRuntime) {
+    let loose = b"number p\n# A note.\nmax  9\ninitial 4\n  take  any \n\n value\nend\n# take 3\n";
+    let file = number_of(&rt, loose);
+    is_written(
+        &rt,
+        &file,
+        b"number p\nmax 9\ninitial 4\ntake any\nvalue\nend\n",
+    );
 }
 
 #[test]
@@ -249,16 +261,22 @@ static FIVE: &[u8] = b"number five
 max 5
 initial 3
 take 2
+take any
 give 1
+give any
 atleast 5
+value
 end
 ";
 
 /// The calls of the stock.
-static CALLS: [NumberCall; 3] = [
+static CALLS: [NumberCall; 6] = [
     NumberCall::Take(2),
+    NumberCall::TakeAny,
     NumberCall::Give(1),
+    NumberCall::GiveAny,
     NumberCall::AtLeast(5),
+    NumberCall::Value,
 ];
 
 #[test]
@@ -273,11 +291,15 @@ fn a_number_is_made_of_its_parts(rt: HostRuntime) {
 #[test]
 fn number_files_are_refused_memory(rt: HostRuntime) {
     if let Err(fault) = read_number(rt.alloc(), FIVE) {
-        assert!(rt; fault.kind == FaultKind::NoMemory && 1 <= fault.line && fault.line <= 7);
+        assert!(rt; fault.kind == FaultKind::NoMemory && 1 <= fault.line && fault.line <= 10);
     }
 }
 
 #[test]
 fn laws_are_called() {
-    numbers_are_listed();
+    canonical_is_read();
+    written_is_read();
+    number_has_table();
+    number_tells_bounds();
+    numbers_answer();
 }

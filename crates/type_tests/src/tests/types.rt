@@ -201,7 +201,7 @@ static FIRSTS: [(&str, Option<u8>); 3] = [("enq", Some(0)), ("deq", Some(1)), ("
 /// That each of these calls has this first operation.
 fn have_first(rt: &impl Abort, table: &TypeTable, rows: &[(&str, Option<u8>)]) {
     for (name, first) in rows {
-        assert!(rt; table.first_op(name) == *first);
+        assert!(rt; table.first_op(name.as_bytes()) == *first);
     }
 }
 

@@ -8,11 +8,11 @@ use Rattle.colock_c.proofs.declared.hold_declared.Goals as goal
 pub returns-in-Table : goal.returns-in-Table
 returns-in-Table c =
     subst (λ (d : Declaration). IsMade (IsFileFor c.args.kind d) (IsNotFor c.args.kind d c.args.fault.now) c.args.kind c.args.fault.now (number c.hold_table.result) c.hold_table.new.fault c.hold_table.new.slot.handle.held)
-    (sym c.in-Table.is ∙ c.declaration.ensures.exact)
+    (sym c.in-Table.is ∙ c.declaration.ensures)
     (of_table c.in-Table.file c.args.kind c.args.fault.now (number c.hold_table.result) c.hold_table.new.fault c.hold_table.new.slot.handle.held c.hold_table.ensures)
 
 pub returns-in-Number : goal.returns-in-Number
 returns-in-Number c =
     subst (λ (d : Declaration). IsMade (IsFileFor c.args.kind d) (IsNotFor c.args.kind d c.args.fault.now) c.args.kind c.args.fault.now (number c.hold_in_escrow.result) c.args.fault.now c.hold_in_escrow.new.slot.handle.held)
-    (sym c.in-Number.is ∙ c.declaration.ensures.exact)
+    (sym c.in-Number.is ∙ c.declaration.ensures)
     (c.hold_in_escrow.ensures c.args.fault.now)

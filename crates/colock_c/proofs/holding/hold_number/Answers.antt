@@ -10,7 +10,7 @@ pub returns-in-Ok : goal.returns-in-Ok
 returns-in-Ok c = λ was.
     elim c.hold.ensures [
       | inl done ↦ accepted (number_file c.args.file) c.in-Ok.checked.value refl
-          (record { is = c.in-Ok.ensures.ok ∙ c.check_number-checked.ensures.exact; checked = subst IsChecked c.check_number-checked.ensures.exact c.ops-ops.ensures.checked })
+          (record { is = c.in-Ok.ensures.ok ∙ c.check_number-checked.ensures.exact; checked = subst IsChecked c.check_number-checked.ensures.exact c.declared-declared.ensures.checked })
           (ap number done.0) refl (ap type_at done.1)
       | inr none ↦ memory_refused (ap number none.0) refl none.1
     ]

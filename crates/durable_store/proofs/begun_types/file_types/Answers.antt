@@ -3,7 +3,6 @@ use Rattle.std.proofs.lemmas.List.{length-map}
 use Rattle.object_types.specs.Types.{AreTypesOf, value_of}
 use Rattle.journal.specs.Said.{contents}
 use Rattle.durable_store.specs.Begun.{AreAlike, AreAt, AreRead}
-use Rattle.durable_store.specs.Types.{HasTypes}
 use Rattle.durable_store.proofs.Begun.{alike, are-types}
 use Rattle.durable_store.proofs.begun_types.file_types.Goals as goal
 

@@ -4,7 +4,7 @@ use Rattle.escrow_laws.proofs.Searching.{nowhere-bounded, stretch-bounded}
 use Rattle.escrow_laws.proofs.bounds.bounds_at.Goals as goal
 
 pub returns-in-None : goal.returns-in-None
-returns-in-None c = nowhere-bounded c.args.table.now c.args.k c.in-None.ensures
+returns-in-None c = subst (λ b. IsBounded c.args.table.now c.args.k b) (sym c.nowhere.ensures) (nowhere-bounded c.args.table.now c.args.k c.in-None.ensures)
 
 pub returns-in-Some : goal.returns-in-Some
 returns-in-Some c =

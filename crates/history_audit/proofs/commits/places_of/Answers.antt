@@ -1,4 +1,4 @@
-use Rattle.std.proofs.Common.{◌<◌, length, get_or, option_map, Some, ap, ◌∙◌, arith}
+use Rattle.std.proofs.Common.{◌<◌, get_or, option_map, Some, ap, ◌∙◌, arith}
 use Rattle.std.proofs.lemmas.List.{length-set}
 use Rattle.std.proofs.lemmas.Option.{slice_get-get_or, slice_get-map}
 use Rattle.type_table.proofs.Elements.{each-found}

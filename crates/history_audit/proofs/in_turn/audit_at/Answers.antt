@@ -1,4 +1,4 @@
-use Rattle.std.proofs.Common.{◌≡◌, List, map, sym, ap, subst, ◌∙◌, IfOk}
+use Rattle.std.proofs.Common.{map, ap, subst, ◌∙◌, IfOk}
 use Rattle.table_checker.specs.Declarations.{table_of}
 use Rattle.history_audit.specs.Audit.{Audits}
 use Rattle.history_audit.specs.Replay.{AreStates}

@@ -1,12 +1,12 @@
-use Rattle.std.proofs.Common.{◌≡◌, ◌<◌, ℕ, List, length, map, take, set, get_or, slice_get, Some, sym, ap, ◌∙◌, arith}
+use Rattle.std.proofs.Common.{◌≡◌, ◌<◌, ℕ, List, length, map, take, set, get_or, slice_get, Some, refl, sym, ap, ◌∙◌, arith}
 use Rattle.std.specs.Option.{option_map}
 use Rattle.std.proofs.Math.Numerals.{add-one}
 use Rattle.std.proofs.lemmas.List.{length-map, map-set}
 use Rattle.std.proofs.lemmas.Option.{slice_get-get_or, slice_get-map}
-use Rattle.type_table.specs.Table.{Table, table_at}
-use Rattle.type_text.specs.declared.type_file.TypeFile.{TypeFile}
-use Rattle.table_checker.specs.Declarations.{table_of}
+use Rattle.type_table.specs.Table.{Table as TableValue, table_at}
+use Rattle.table_checker.specs.Declarations.{declared_at, table_of}
 use Rattle.table_checker.specs.declared.declared_type.Declaration.{Declaration}
+use Rattle.table_checker.specs.declared.declared_type.Declaration.TheVariants.{Table, Number as Numbers}
 use Rattle.history_audit.specs.Epochs.{tables_at}
 use Rattle.history_audit.proofs.EpochTables.{none-begun, begun-as_many, not_yet-begun, one-begun}
 use Rattle.history_audit.proofs.in_turn.begin_at.Goals as goal
@@ -32,6 +32,11 @@ index_mut-requires c =
     let low = below c.args.types.now.items c.loop-x.types.items c.args.states.now c.loop-x.x c.loop-x.invariant c.requires.as_many c.loop-x-test.true in
     omega (arith, low)
 
+-- the table of a type that begins at another state
+table-begun : (one : Declaration) (s : ℕ) → table_of (declared_at one s) ≡ table_at (table_of one) s
+table-begun (Table file) s = refl
+table-begun (Numbers number) s = refl
+
 pub begin_at-requires : goal.begin_at-requires
 begin_at-requires c =
     let x = c.loop-x.x in
@@ -53,7 +58,7 @@ loop-x-preserved c =
     let s = get_or states x 0 in
     let low = below types now states x c.loop-x.invariant c.requires.as_many c.loop-x-test.true in
     map-set table_of now x c.begin_at.new.self
-    ∙ ap (λ (T : Table). set (map table_of now) x T) (ap (λ (f : TypeFile). f.table) c.begin_at.ensures.exact)
+    ∙ ap (λ (T : TableValue). set (map table_of now) x T) (ap table_of c.begin_at.ensures ∙ table-begun one s)
     ∙ ap (λ Ts. set Ts x (table_at (table_of one) s)) c.loop-x.invariant
     ∙ one-begun (map table_of types) states x (table_of one) s (there types now states x one c.loop-x.invariant (slice_get-get_or now x one low ∙ ap Some (sym c.index_mut.ensures.value)))
     (slice_get-get_or states x 0 c.loop-x-test.true)

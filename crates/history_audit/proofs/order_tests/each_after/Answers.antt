@@ -1,6 +1,6 @@
-use Rattle.std.proofs.Common.{◌≡◌, ◌<◌, ◌≤◌, ℕ, List, Bool, length, get_or, take, set, true, false, map, Some, slice_get, subst, sym, ap, ◌∙◌, inl, inr, arith}
+use Rattle.std.proofs.Common.{◌≡◌, ◌<◌, ℕ, List, Bool, length, get_or, take, true, subst, sym, ap, arith}
 use borrow.Author.Count.{below_more}
-use Rattle.std.proofs.lemmas.List.{get_or_read, length-set, length-take, take-map}
+use Rattle.std.proofs.lemmas.List.{length-set, length-take, take-map}
 use Rattle.std.proofs.lemmas.Option.{slice_get-get_or}
 use Rattle.std.specs.List.{AllByRecursion}
 use Rattle.type_table.proofs.Elements.{each-take}
@@ -8,7 +8,7 @@ use Rattle.serial_order.specs.Operations.{is_among}
 use Rattle.history_audit.specs.Commits.{numbers}
 use Rattle.history_audit.specs.OrderTests.{AllMarked, IsLeastUnmarked, KeepsDatesAt}
 use Rattle.history_audit.specs.declared.committed.Committed.{Committed}
-use Rattle.history_audit.proofs.Ordered.{dates-front, dates-kept, marked-more, none-unmarked, number-below, out-of-order}
+use Rattle.history_audit.proofs.Ordered.{dates-front, dates-kept, marked-more, number-below, out-of-order}
 use Rattle.history_audit.proofs.order_tests.each_after.Goals.{then-date-front+in_default, else-date-front}
 use Rattle.history_audit.proofs.order_tests.each_after.Goals as goal
 

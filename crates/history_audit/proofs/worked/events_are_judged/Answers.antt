@@ -14,7 +14,7 @@ agree : MovedRowsAgree → AreRows [] (summary []) → AreRows two_ups_rows (sum
 agree law start =
     let begun : AreRows (Some [] ∷ []) (summary (take 1 two_ups)) = law two_counters [] (record { worker = 0; kind = Begin 0 }) [] (Some [] ∷ []) start refl refl in
     let one : AreRows (Some (operation 1 0 ∷ []) ∷ []) (summary (take 2 two_ups)) =
-    law two_counters (take 1 two_ups) (record { worker = 0; kind = Op 0 1 0 }) (Some [] ∷ []) (Some (operation 1 0 ∷ []) ∷ []) begun (refl, omega arith)
+    law two_counters (take 1 two_ups) (record { worker = 0; kind = Op 0 1 0 }) (Some [] ∷ []) (Some (operation 1 0 ∷ []) ∷ []) begun (refl, refl)
     record { its = []; was = refl; becomes = refl }
     in
     let both : AreRows (Some (operation 1 0 ∷ []) ∷ Some [] ∷ []) (summary (take 3 two_ups)) =
@@ -22,7 +22,7 @@ agree law start =
     in
     let two : AreRows (Some (operation 1 0 ∷ operation 0 0 ∷ []) ∷ Some [] ∷ []) (summary (take 4 two_ups)) =
     law two_counters (take 3 two_ups) (record { worker = 0; kind = Op 0 0 0 }) (Some (operation 1 0 ∷ []) ∷ Some [] ∷ []) (Some (operation 1 0 ∷ operation 0 0 ∷ []) ∷ Some [] ∷ []) both
-    (refl, omega arith)
+    (refl, refl)
     record { its = operation 1 0 ∷ []; was = refl; becomes = refl }
     in
     law two_counters (take 4 two_ups) (record { worker = 0; kind = Commit 1 }) (Some (operation 1 0 ∷ operation 0 0 ∷ []) ∷ Some [] ∷ []) two_ups_rows two refl

@@ -13,35 +13,35 @@ is_of-requires c =
     let h = c.loop-i.invariant.cut in
     let long = h.long in
     let within : c.loop-i.i < length c.loop-i.log.items = search rules in
-    each_there (λ e. e.done ≡ false) c.args.log.now.items c.loop-i.log.items c.loop-i.i c.index-entry.result.now c.requires.open h.rest (omega (arith, within, long)) c.index-entry.ensures
+    each_there (λ e. e.done ≡ false) c.args.log.now.items c.loop-i.log.items c.loop-i.i c.index.result.now c.requires.open h.rest (omega (arith, within, long)) c.index.ensures
 
 pub step_views-requires-clause-operation : goal.step_views-requires-clause-operation
 step_views-requires-clause-operation c =
     let h = c.loop-i.invariant.cut in
     let long = h.long in
     let within : c.loop-i.i < length c.loop-i.log.items = search rules in
-    each_there (λ e. e.op < length c.args.table.now.ops) c.args.log.now.items c.loop-i.log.items c.loop-i.i c.index-entry.result.now c.requires.operations h.rest (omega (arith, within, long)) c.index-entry.ensures
+    each_there (λ e. e.op < length c.args.table.now.ops) c.args.log.now.items c.loop-i.log.items c.loop-i.i c.index.result.now c.requires.operations h.rest (omega (arith, within, long)) c.index.ensures
 
 pub step_views-requires-clause-open : goal.step_views-requires-clause-open
 step_views-requires-clause-open c =
     let h = c.loop-i.invariant.cut in
     let long = h.long in
     let within : c.loop-i.i < length c.loop-i.log.items = search rules in
-    each_there (λ e. e.done ≡ false) c.args.log.now.items c.loop-i.log.items c.loop-i.i c.index-entry.result.now c.requires.open h.rest (omega (arith, within, long)) c.index-entry.ensures
+    each_there (λ e. e.done ≡ false) c.args.log.now.items c.loop-i.log.items c.loop-i.i c.index.result.now c.requires.open h.rest (omega (arith, within, long)) c.index.ensures
 
 pub loop-i-preserved : goal.loop-i-preserved
 loop-i-preserved c =
     let T = c.args.table.now in
     let t = c.args.t in
     let old = c.args.log.now.items in
-    let entry : LogEntry = c.index-entry.result.now in
+    let entry : LogEntry = c.index.result.now in
     let h = c.loop-i.invariant.cut in
     let long = h.long in
     let within : c.loop-i.i < length c.loop-i.log.items = search rules in
-    let next : drop c.loop-i.i old ≡ entry ∷ drop (c.loop-i.i + 1) old = next_there old c.loop-i.log.items c.loop-i.i entry h.rest (omega (arith, within, long)) c.index-entry.ensures in
+    let next : drop c.loop-i.i old ≡ entry ∷ drop (c.loop-i.i + 1) old = next_there old c.loop-i.log.items c.loop-i.i entry h.rest (omega (arith, within, long)) c.index.ensures in
     record {
       cut =
-          cut_more (is_open_of t) c.args.from old c.loop-i.log.items c.loop-i.kept c.loop-i.i c.from-kept.result entry h within c.index-entry.ensures
+          cut_more (is_open_of t) c.args.from old c.loop-i.log.items c.loop-i.kept c.loop-i.i c.from-kept.result entry h within c.index.ensures
           (c.from-kept.ensures ∙ ap (λ b. bool_byte (not b)) c.is_of.ensures);
       fit = c.step_views.ensures.states;
       rest =

@@ -10,9 +10,9 @@ is_of-requires c =
     let h = c.loop-i.invariant in
     let long = h.long in
     let within : c.loop-i.i < length c.loop-i.log.items = search rules in
-    each_there (λ e. e.done ≡ false) c.args.log.now.items c.loop-i.log.items c.loop-i.i c.index-entry.result.now c.requires.open h.rest (omega (arith, within, long)) c.index-entry.ensures
+    each_there (λ e. e.done ≡ false) c.args.log.now.items c.loop-i.log.items c.loop-i.i c.index.result.now c.requires.open h.rest (omega (arith, within, long)) c.index.ensures
 
 pub loop-i-preserved : goal.loop-i-preserved
 loop-i-preserved c =
-    cut_more (is_open_of c.args.t) c.args.from c.args.log.now.items c.loop-i.log.items c.loop-i.kept c.loop-i.i c.from-kept.result c.index-entry.result.now c.loop-i.invariant
-    (search rules) c.index-entry.ensures (c.from-kept.ensures ∙ ap (λ b. bool_byte (not b)) c.is_of.ensures)
+    cut_more (is_open_of c.args.t) c.args.from c.args.log.now.items c.loop-i.log.items c.loop-i.kept c.loop-i.i c.from-kept.result c.index.result.now c.loop-i.invariant
+    (search rules) c.index.ensures (c.from-kept.ensures ∙ ap (λ b. bool_byte (not b)) c.is_of.ensures)

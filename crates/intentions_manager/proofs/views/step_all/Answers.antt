@@ -21,7 +21,7 @@ loop-i-preserved c =
     let inside : view.state < T.states = h.fit c.loop-i.i _ within in
     let place : c.from.result * c.from-ops.result + c.from-in-loop-i.result ≡ view.state * length T.ops + c.args.k =
     ap (λ n. n * c.from-ops.result + c.from-in-loop-i.result) c.from.ensures ∙ ap (λ n. view.state * n + c.from-in-loop-i.result) (c.from-ops.ensures ∙ c.op_count.ensures.exact)
-    ∙ ap (λ n. view.state * length T.ops + n) c.from-in-loop-i.ensures in
+    ∙ ap (λ n. view.state * length T.ops + n) (c.from-in-loop-i.ensures ∙ c.column-column.ensures) in
     let entry : slice_index_or c.steps-steps.result.now (c.from.result * c.from-ops.result + c.from-in-loop-i.result) None ≡ next T view.state c.args.k =
     ap (λ n. slice_index_or c.steps-steps.result.now n None) place
     ∙ get_or_from_slice_get c.steps-steps.result.now (view.state * length T.ops + c.args.k) (next T view.state c.args.k) None (c.steps-steps.ensures.next view.state c.args.k inside c.requires.operation) in

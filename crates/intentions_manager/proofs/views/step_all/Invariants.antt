@@ -7,5 +7,5 @@ abbrev pub invariant-loop-i : goal.invariant-loop-i
 invariant-loop-i l = record {
   fit : All (FitsTable l.table) l.views;
   long : length l.views ≡ length l.initial.views;
-  exact : l.views ≡ map (moved l.table l.k) (take l.i l.initial.views) ++ drop l.i l.initial.views;
+  exact : l.views ≡ map (moved l.table l.fn.k) (take l.i l.initial.views) ++ drop l.i l.initial.views;
 }

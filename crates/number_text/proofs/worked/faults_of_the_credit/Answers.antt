@@ -3,7 +3,7 @@ use Rattle.type_table.specs.Name.{is_name}
 use Rattle.line_text.specs.Shapes.{is_key, exactly, name_at}
 use Rattle.line_text.specs.LineTests.{line_fault, words_fault, item_fault}
 use Rattle.line_text.specs.Outcome.{outcome_of, first_fault}
-use Rattle.number_text.specs.Digits.{long_number_at}
+use Rattle.line_text.specs.LongNumbers.{long_number_at}
 use Rattle.number_text.specs.NumberLines.{line_of, called_of, numbered_of, says_any, any_or_numbered, bare_of}
 use Rattle.number_text.proofs.worked.faults_of_the_credit.Goals as goal
 
@@ -18,8 +18,7 @@ returns c = record {
   initial_past = refl;
   no_amount = refl;
   same_amount = refl;
-  any_amount = refl;
-  the_value = refl;
+  second_any = refl;
   late_amount = refl;
   no_initial = refl;
   no_call = refl;

@@ -1,11 +1,11 @@
-use Rattle.object_calls.proofs.Examples.{read_call, flip_call, read_missing, flip_in_read, past_all}
+use Rattle.object_calls.proofs.Examples.{bit_few, read_call, flip_call, read_missing, flip_in_read, past_all}
 use Rattle.object_calls.proofs.worked.words_have_the_operations_of_a_call.Goals as goal
 
 pub returns-clause-first : goal.returns-clause-first
-returns-clause-first c = read_call.operations
+returns-clause-first c = read_call.operations bit_few
 
 pub returns-clause-second : goal.returns-clause-second
-returns-clause-second c = flip_call.operations
+returns-clause-second c = flip_call.operations bit_few
 
 pub returns-clause-missing : goal.returns-clause-missing
 returns-clause-missing c = read_missing

@@ -334,7 +334,7 @@ fn numbers_are_for_escrow(rt: HostRuntime) {
 }
 
 /// Texts with each fault that one may have, and what is said of them.
-static FAULTS: [(&str, &str); 19] = [
+static FAULTS: [(&str, &str); 24] = [
     ("number p\nmax \u{e9}\n", "line 2: NotAscii"),
     (
         "number p\n#aaaaaaaaaaaaaaaaaaaaaaaaaaaaaaaaaaaaaaaaaaaaaaaaaaaaaaaaaaaaaaaaaaaaaaaaaaaaaaaaaaaaaaaaaaaaaaaaaaaaaaaaaaaaaaaaaaaaaaaaaaaaaaaaaaaaaaaaaaaaaaaaaaaaaaaaaaaaaaaaaaaaaaaaaaaaaaaaaaaaaaaaaaaaaaaaaaaaaaaa\n",
@@ -353,14 +353,37 @@ static FAULTS: [(&str, &str); 19] = [
     ("number p\nmax 1\ninitial 2\n", "line 3: OutOfRange"),
     ("number p\nmax 1\ninitial 1\ntake 2\n", "line 4: OutOfRange"),
     (
-        "number p\nmax 1\ninitial 1\ntake any\n",
-        "line 4: OutOfRange",
+        "number p\nmax 1\ninitial 1\ntake any 1\n",
+        "line 4: UnknownWord",
     ),
     (
-        "number p\nmax 1\ninitial 1\ngive any\n",
-        "line 4: OutOfRange",
+        "number p\nmax 1\ninitial 1\natleast any\n",
+        "line 4: BadNumber",
     ),
-    ("number p\nmax 1\ninitial 1\nvalue\n", "line 4: OutOfRange"),
+    (
+        "number p\nmax 1\ninitial 1\nvalue 1\n",
+        "line 4: UnknownWord",
+    ),
+    (
+        "number p\nmax 1\ninitial 1\ntake any\ntake any\n",
+        "line 5: OutOfOrder",
+    ),
+    (
+        "number p\nmax 1\ninitial 1\ntake any\ntake 1\n",
+        "line 5: OutOfOrder",
+    ),
+    (
+        "number p\nmax 1\ninitial 1\ngive any\ngive any\n",
+        "line 5: OutOfOrder",
+    ),
+    (
+        "number p\nmax 1\ninitial 1\nvalue\nvalue\n",
+        "line 5: OutOfOrder",
+    ),
+    (
+        "number p\nmax 1\ninitial 1\nvalue\natleast 1\n",
+        "line 5: OutOfOrder",
+    ),
     (
         "number p\nmax 1\ninitial 1\ntake 1\ntake 1\n",
         "line 5: OutOfOrder",

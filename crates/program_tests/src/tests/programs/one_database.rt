@@ -55,7 +55,7 @@ g stats
 h begin";
 
 /// What it is answered.
-const ANSWERED: &str = "colock 2 1
+const ANSWERED: &str = "colock 3 1
 a ok 1.0
 b reply ok
 c reply ok
@@ -229,7 +229,7 @@ e begin
 f end
 g begin
 ";
-    let answered = "colock 2 3
+    let answered = "colock 3 3
 a ok 1
 b ok 3.0
 c reply ok
@@ -256,7 +256,7 @@ fn cut_off<'a, R: Abort + AllocGlobal + Clock + Threads + Wait + Sync>(
     asked: &'a str,
 ) -> Played {
     given.input = asked.as_bytes();
-    let out = held_output(rt, "colock 2 1\n".len(), AtEnd::Fails);
+    let out = held_output(rt, "colock 3 1\n".len(), AtEnd::Fails);
     play_given(rt, &SERVE, given, out, all_taken(rt))
 }
 
@@ -264,9 +264,9 @@ fn cut_off<'a, R: Abort + AllocGlobal + Clock + Threads + Wait + Sync>(
 fn an_epoch_goes_on_where_the_output_stops(rt: HostRuntime) {
     let mut given = created(&rt);
     let played = cut_off(&rt, &mut given, ASKED);
-    assert!(rt; played.is_found(Status::Failed, b"colock 2 1\n", NOTHING, ""));
+    assert!(rt; played.is_found(Status::Failed, b"colock 3 1\n", NOTHING, ""));
     let audited = "# audit yes\n# commit 0\n# serial 0 1\n# serial 1 1\n";
-    let counted = "colock 2 2\na ok events 7 begun 2 open 0\n";
+    let counted = "colock 3 2\na ok events 7 begun 2 open 0\n";
     let found = "colock: a.db: 6 events, 1 aborted, ";
     let steps = [
         yes(&HISTORY, SERVED),
@@ -301,7 +301,7 @@ fn an_input_that_fails_is_told(rt: HostRuntime) {
     };
     let played = play_given(&rt, &SERVE, &mut given, all_taken(&rt), all_taken(&rt));
     let err = "colock: standard input: cannot read\n";
-    assert!(rt; played.is_found(Status::Failed, b"colock 2 1\n", NOTHING, err));
+    assert!(rt; played.is_found(Status::Failed, b"colock 3 1\n", NOTHING, err));
 }
 
 #[test]

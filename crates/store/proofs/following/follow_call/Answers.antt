@@ -7,6 +7,6 @@ use Rattle.store.proofs.following.follow_call.Goals as goal
 pub returns : goal.returns
 returns g c =
     let its = c.call_if.ensures in
-    let Become : Result (Unit {0}) Stray → Type 0 = λ r. Follows c.args.store.now c.args.event r c.call_if.new.self in
+    let Become : Result (Unit {0}) Stray → Type 0 = λ r. Follows c.args.store.now c.args.event.now r c.call_if.new.self in
     subst Become (sym c.made_or_stray.ensures)
-    (called-follows c.args.store.now c.call_if.new.self c.args.event c.args.t c.args.x c.args.c c.args.answer c.requires.alone c.requires.told c.call_if.result its.named its.err its.step)
+    (called-follows c.args.store.now c.call_if.new.self c.args.event.now c.args.t c.args.x c.args.c c.args.answer c.requires.by c.requires.told c.call_if.result its.named its.err its.step)

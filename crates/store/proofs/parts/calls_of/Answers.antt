@@ -1,5 +1,6 @@
 use Rattle.std.proofs.Common.{◌≡◌, ◌+◌, map, length, vec_capacity, sym, ap, subst, ◌∙◌, arith}
 use Rattle.std.proofs.lemmas.List.{length-map}
+use Rattle.object_calls.specs.Calls.{HoldsCalls}
 use Rattle.store.proofs.Beginnings.{HasFirstCalls, image-in, calls-more, calls-all, calls-checked}
 use Rattle.store.proofs.parts.calls_of.Goals as goal
 
@@ -11,10 +12,10 @@ loop-object-preserved g c =
     let its = c.in_ok-new.field-0 in
     let ms = map meaning items in
     let there = image-in meaning items c.deref-object-items.result.now c.loop-object.object-index c.object-item.result c.deref-object-items.ensures.value c.loop-object-test.true c.object-item.is in
-    let table = c.in_ok-new.ensures m.checked.file.table (sym c.ops-ops.ensures.exact) in
+    let held = subst (λ T. HoldsCalls T its) (ap (λ f. f.table) c.declared.ensures.exact) c.in_ok-new.ensures in
     subst (λ room. HasFirstCalls ms c.push_reserved.new.self.items room (c.loop-object.object-index + 1)) (sym c.push_reserved.ensures.capacity)
     (calls-more ms c.loop-object.calls.items c.push_reserved.new.self.items its (vec_capacity c.loop-object.calls) c.loop-object.object-index m c.loop-object.invariant there
-    c.ops-ops.ensures.checked table c.push_reserved.ensures.items)
+    c.declared.ensures.checked held c.push_reserved.ensures.items)
 
 pub returns-clause-calls : goal.returns-clause-calls
 returns-clause-calls g c =

@@ -1,5 +1,6 @@
 use Rattle.std.proofs.Common.{ℕ, List, map, IfSome, Option, subst, arith, ◌∙◌}
 use Rattle.std.proofs.lemmas.Grind.{common_steps}
+use Rattle.std.proofs.lemmas.List.Elements.{All-push}
 use Rattle.command_files.specs.Answers.{Refuses}
 use Rattle.command_files.proofs.Comes.{refused_more}
 use Rattle.object_types.proofs.LookUps.{err_exit}
@@ -32,5 +33,6 @@ loop-path-preserved g c =
       room = grind (arith, common_steps);
       count = grind (arith, common_steps);
       kept = λ other. c.read_file.ensures.kept other ∙ known.kept other;
+      fit = rw c.push_reserved.ensures.items (All-push (g.F.Format.is_fit c.args.format.now) _ c.in_ok-file.file known.fit c.in_ok-file.ensures.fit);
       read = files_push describes is_faulty holds paths _ c.loop-path.path-index _ there known.read _ c.in_ok-file.file (subst P (known.kept _) c.in_ok-file.ensures.reads) c.push_reserved.ensures.items;
     }

@@ -5,11 +5,12 @@ ghost use Rattle.object_trait.specs.Meaning.{open_of};
 ghost use Rattle.object_trait.specs.Steps.{IsLegalFor};
 
 use crate::tests::any_objects::one_entry::OneEntry;
+use crate::tests::managers::driven::has;
 use object_trait::{AnyObject, Recovery};
 use std::process::Abort;
 use table_checker::check;
 use test_support::type_texts::COUNTER;
-use type_table::Kind;
+use type_table::{Kind, Operation};
 use type_text::read_type;
 
 /// An object of the counter, as it is made.
@@ -39,15 +40,15 @@ fn look_at<R: Recovery>(object: &R) -> Seen {
 }
 
 /// Whether operation k, if it is one, is legal for transaction t.
-fn is_legal<R: Recovery>(object: &R, t: u32, k: u8) -> bool
+fn is_legal<R: Recovery>(object: &R, t: u32, k: Operation) -> bool
     ensures operation { result ≡ true → k < length (R.meaning object.now).checked.file.table.ops }
     ensures legal { result ≡ true → IsLegalFor (R.meaning object.now) t k }
 {
-    usize::from(k) < object.ops().len() && object.legal(t, k)
+    has(object, k) && object.legal(t, k)
 }
 
 /// Who keeps transaction t from operation k, if that is one and legal for it.
-fn blocker<R: Recovery>(object: &R, t: u32, k: u8) -> Option<u32> {
+fn blocker<R: Recovery>(object: &R, t: u32, k: Operation) -> Option<u32> {
     if is_legal(object, t, k) {
         object.blocker(t, k)
     } else {
@@ -56,10 +57,10 @@ fn blocker<R: Recovery>(object: &R, t: u32, k: u8) -> Option<u32> {
 }
 
 /// Executes operation k for transaction t at an object that is as it was made.
-fn apply_first<R: Recovery>(rt: &impl Abort, object: &mut R, t: u32, k: u8)
+fn apply_first<R: Recovery>(rt: &impl Abort, object: &mut R, t: u32, k: Operation)
     ensures { length (open_of t (R.meaning object.new).log) ≡ 1 }
 {
-    assert!(rt; usize::from(k) < object.ops().len());
+    assert!(rt; has(object, k));
     assert!(rt; object.legal(t, k));
     assert!(rt; object.is_fresh());
     object.apply(t, k).expect(rt, "no memory");
@@ -90,13 +91,14 @@ fn shows<R: Recovery>(rt: &impl Abort, object: &R, seen: Seen) {
 
 /// That the calls that take nothing out of an object, and then an abort, do as they say.
 fn aborts<R: Recovery>(rt: &impl Abort, object: &mut R) {
+    let (up, down) = (Operation::listed(0), Operation::listed(1));
     shows(rt, object, MADE);
-    assert!(rt; is_legal(object, 1, 0) & !is_legal(object, 1, 1));
-    apply_first(rt, object, 1, 0);
+    assert!(rt; is_legal(object, 1, up) & !is_legal(object, 1, down));
+    apply_first(rt, object, 1, up);
     shows(rt, object, COUNTED);
-    assert!(rt; is_legal(object, 2, 0) & is_legal(object, 2, 1) & is_legal(object, 1, 1));
-    assert!(rt; blocker(object, 2, 1) == Some(1));
-    assert!(rt; blocker(object, 2, 0).is_none() & blocker(object, 1, 1).is_none());
+    assert!(rt; is_legal(object, 2, up) & is_legal(object, 2, down) & is_legal(object, 1, down));
+    assert!(rt; blocker(object, 2, down) == Some(1));
+    assert!(rt; blocker(object, 2, up).is_none() & blocker(object, 1, down).is_none());
     object.strike(1, 0);
     object.abort(2);
     object.commit(2);
@@ -107,21 +109,22 @@ fn aborts<R: Recovery>(rt: &impl Abort, object: &mut R) {
 
 /// That a strike of the one entry does as it says.
 fn strikes<R: Recovery>(rt: &impl Abort, object: &mut R) {
-    apply_first(rt, object, 1, 0);
+    apply_first(rt, object, 1, Operation::listed(0));
     object.strike(1, 1);
     shows(rt, object, MADE);
 }
 
 /// That a commit does as it says.
 fn commits<R: Recovery>(rt: &impl Abort, object: &mut R) {
-    apply_first(rt, object, 2, 0);
+    apply_first(rt, object, 2, Operation::listed(0));
     object.commit(2);
     shows(rt, object, COMMITTED);
 }
 
 /// That the calls of an object do as they say, one after another.
 fn is_called<R: Recovery>(rt: &impl Abort, object: &mut R) {
-    assert!(rt; object.ops().len() == 2);
+    assert!(rt; object.declared().rows().len() == 2);
+    assert!(rt; (object.view(1), object.amount_kept(1, 0, 2)) == (0, None));
     aborts(rt, object);
     strikes(rt, object);
     commits(rt, object);

@@ -1,9 +1,10 @@
 //! An object of update in place whose log has room for one entry. It settles nothing.
 
-ghost use Rattle.std.specs.Prelude.{◌≡◌, ◌<◌, ◌==◌, ◌&&◌, not, Some, None};
+ghost use Rattle.std.specs.Prelude.{◌≡◌, ◌<◌, ◌==◌, ◌&&◌, not, nat_lt, true, Some, None};
 ghost use Rattle.std.specs.List.{list_any};
 ghost use Rattle.std.specs.Option.{option_to_list};
 ghost use Rattle.type_table.specs.ConflictTable.{conflicts};
+ghost use Rattle.type_table.specs.Operation.{place_of};
 ghost use Rattle.type_table.specs.Run.{run};
 ghost use Rattle.type_table.specs.declared.kind.Kind.TheVariants.{Undo};
 ghost use Rattle.object_trait.specs.Meaning.{ops_of, is_open_of};
@@ -12,8 +13,8 @@ ghost use Rattle.object_trait.specs.Examples.{of_one_entry};
 
 use object_trait::{LogEntry, Recovery};
 use std::alloc::AllocError;
-use table_checker::CheckedType;
-use type_table::{ConflictTable, Op, TableKind};
+use table_checker::{CheckedType, DeclaredType};
+use type_table::{ConflictTable, Operation, TableKind};
 
 /// Its checked type, the entry, and the state after it.
 #[derive(Drop)]
@@ -53,7 +54,7 @@ impl OneEntry {
     fn is_open_of(&self, t: u32) -> bool
         ensures { result ≡ list_any (is_open_of t) (option_to_list self.now.entry) }
     {
-        match self.entry {
+        match &self.entry {
             Some(entry) => entry.by == t && !entry.done,
             None => false,
         }
@@ -61,27 +62,36 @@ impl OneEntry {
 }
 
 /// An entry after a commit of t.
-pub fn marked(entry: LogEntry, t: u32) -> LogEntry
-    ensures { result ≡ marked t entry }
+pub fn marked(entry: &LogEntry, t: u32) -> LogEntry
+    ensures { result ≡ marked t entry.now }
 {
     LogEntry {
         done: entry.done || entry.by == t,
-        ..entry
+        ..*entry
     }
+}
+
+/// Whether operation k is one of a table with this many, whose operations have no amounts.
+fn is_below(k: Operation, ops: u8) -> bool
+    ensures below { result ≡ nat_lt k ops }
+    ensures place { result ≡ true → place_of k ≡ k }
+{
+    k.amount().is_none() && k.place() < ops
 }
 
 /// Whether operation k, requested, conflicts with operation q, held: none does that the table doesn't
 /// have.
-fn conflict(table: &ConflictTable, k: u8, q: u8) -> bool
+fn conflict(table: &ConflictTable, k: Operation, q: Operation) -> bool
     ensures { result ≡ conflicts table.now k q }
 {
-    k < table.ops() && q < table.ops() && table.conflicts(k, q)
+    let ops = table.ops();
+    is_below(k, ops) && is_below(q, ops) && table.conflicts(k.place(), q.place())
 }
 
 /// Whether an entry keeps t from operation k: it is an open one of another transaction, with which k
 /// conflicts.
-pub fn stops(entry: LogEntry, table: &ConflictTable, t: u32, k: u8) -> bool
-    ensures { result ≡ (not entry.done && (not (entry.by == t) && conflicts table.now k entry.op)) }
+pub fn stops(entry: &LogEntry, table: &ConflictTable, t: u32, k: Operation) -> bool
+    ensures { result ≡ (not entry.now.done && (not (entry.now.by == t) && conflicts table.now k entry.now.op)) }
 {
     !entry.done && entry.by != t && conflict(table, k, entry.op)
 }
@@ -89,28 +99,40 @@ pub fn stops(entry: LogEntry, table: &ConflictTable, t: u32, k: u8) -> bool
 impl Recovery for OneEntry {
     ghost meaning = { λ o. of_one_entry (o.checked) o.entry };
 
-    fn ops(&self) -> &[Op] {
-        self.checked.ops()
+    fn declared(&self) -> &DeclaredType {
+        self.checked.declared()
     }
 
     fn state(&self) -> u32 {
         u32::from(self.state)
     }
 
-    fn legal(&self, _t: u32, k: u8) -> bool {
-        self.checked.table().next(self.state, k).is_some()
+    fn view(&self, _t: u32) -> u32 {
+        u32::from(self.state)
     }
 
-    fn blocker(&self, t: u32, k: u8) -> Option<u32> {
-        let entry = self.entry?;
+    fn legal(&self, _t: u32, k: Operation) -> bool {
+        let table = self.checked.table();
+        table.next(self.state, table.column(k)).is_some()
+    }
+
+    fn blocker(&self, t: u32, k: Operation) -> Option<u32> {
+        let entry = self.entry.as_ref()?;
         stops(entry, self.checked.conflicts(TableKind::Undo), t, k).then_some(entry.by)
     }
 
-    fn apply(&mut self, t: u32, k: u8) -> Result<(), AllocError> {
+    fn amount_kept(&self, _t: u32, _place: u8, _u: u32) -> Option<u32> {
+        // (read for its clause on what is known of a table, whose operations have no amounts)
+        let _file = self.checked.file();
+        None
+    }
+
+    fn apply(&mut self, t: u32, k: Operation) -> Result<(), AllocError> {
         if self.entry.is_some() {
             return Err(AllocError);
         }
-        let next = self.checked.table().next(self.state, k);
+        let column = self.checked.table().column(k);
+        let next = self.checked.table().next(self.state, column);
         let Some(state) = next else {
             return Err(AllocError);
         };
@@ -124,7 +146,7 @@ impl Recovery for OneEntry {
     }
 
     fn commit(&mut self, t: u32) {
-        if let Some(entry) = self.entry {
+        if let Some(entry) = &self.entry {
             self.entry = Some(marked(entry, t));
         }
     }
@@ -142,7 +164,7 @@ impl Recovery for OneEntry {
     }
 
     fn open_count(&self) -> u32 {
-        match self.entry {
+        match &self.entry {
             Some(entry) if !entry.done => 1,
             _ => 0,
         }

@@ -19,8 +19,8 @@ use object_trait::{
 };
 use std::alloc::{AllocError, Global};
 use std::marker::Model;
-use table_checker::CheckedType;
-use type_table::{ConflictTable, Op, TableKind, TypeTable, steps_within};
+use table_checker::{CheckedType, DeclaredType};
+use type_table::{ConflictTable, Operation, TableKind, TypeTable, steps_within};
 
 /// Its checked type, and all that was done at it.
 #[derive(Drop)]
@@ -66,14 +66,14 @@ impl Replayed {
 }
 
 /// The next state of a state in which operation k is legal.
-fn next_state(table: &TypeTable, s: u16, k: u8) -> u16
+fn next_state(table: &TypeTable, s: u16, k: Operation) -> u16
     requires table { IsTable table.now }
     requires legal { IsSome (next table.now s k) }
     ensures next { next table.now s k ≡ Some result }
     ensures inside { result < table.now.states }
 {
     steps_within();
-    match table.next(s, k) {
+    match table.next(s, table.column(k)) {
         Some(next) => next,
         None => unreachable!(),
     }
@@ -115,8 +115,8 @@ fn count_of(log: &[LogEntry], t: u32) -> usize
 }
 
 /// Whether an entry before these is the last open one of its transaction.
-fn is_last(entry: LogEntry, rest: &[LogEntry]) -> bool
-    ensures { result ≡ not (entry.done || list_any (λ t. t == entry.by) (open_transactions rest.now)) }
+fn is_last(entry: &LogEntry, rest: &[LogEntry]) -> bool
+    ensures { result ≡ not (entry.now.done || list_any (λ t. t == entry.now.by) (open_transactions rest.now)) }
 {
     !entry.done && count_of(rest, entry.by) == 0
 }
@@ -131,7 +131,7 @@ fn open_in(log: &[LogEntry]) -> u32
         [] => 0,
         [entry, rest @ ..] => {
             let count = open_in(rest);
-            if is_last(*entry, rest) {
+            if is_last(entry, rest) {
                 count + 1
             } else {
                 count
@@ -142,11 +142,11 @@ fn open_in(log: &[LogEntry]) -> u32
 
 /// Whose open entry is the first, of those of other transactions than t, with which operation k
 /// conflicts.
-fn first_conflict(log: &Vec<LogEntry>, table: &ConflictTable, t: u32, k: u8) -> Option<u32>
+fn first_conflict(log: &Vec<LogEntry>, table: &ConflictTable, t: u32, k: Operation) -> Option<u32>
     ensures { result ≡ option_map (λ e. e.by) (find (λ e. not e.done && (not (e.by == t) && conflicts table.now k e.op)) log.now.items) }
 {
     for entry in log {
-        if stops(*entry, table, t, k) {
+        if stops(entry, table, t, k) {
             return Some(entry.by);
         }
     }
@@ -159,7 +159,8 @@ fn mark(log: &mut Vec<LogEntry>, t: u32)
 {
     let mut place = 0;
     while place < log.len() {
-        log[place] = marked(log[place], t);
+        let one = marked(&log[place], t);
+        log[place] = one;
         place += 1;
     }
 }
@@ -186,23 +187,34 @@ fn keep_first(log: &mut Vec<LogEntry>, t: u32, n: usize)
 impl Recovery for Replayed {
     ghost meaning = { λ m. m };
 
-    fn ops(&self) -> &[Op] {
-        self.checked.ops()
+    fn declared(&self) -> &DeclaredType {
+        self.checked.declared()
     }
 
     fn state(&self) -> u32 {
         u32::from(self.reached())
     }
 
-    fn legal(&self, _t: u32, k: u8) -> bool {
-        self.checked.table().next(self.reached(), k).is_some()
+    fn view(&self, _t: u32) -> u32 {
+        u32::from(self.reached())
     }
 
-    fn blocker(&self, t: u32, k: u8) -> Option<u32> {
+    fn legal(&self, _t: u32, k: Operation) -> bool {
+        let table = self.checked.table();
+        table.next(self.reached(), table.column(k)).is_some()
+    }
+
+    fn blocker(&self, t: u32, k: Operation) -> Option<u32> {
         first_conflict(&self.log, self.checked.conflicts(TableKind::Undo), t, k)
     }
 
-    fn apply(&mut self, t: u32, k: u8) -> Result<(), AllocError> {
+    fn amount_kept(&self, _t: u32, _place: u8, _u: u32) -> Option<u32> {
+        // (read for its clause on what is known of a table, whose operations have no amounts)
+        let _file = self.checked.file();
+        None
+    }
+
+    fn apply(&mut self, t: u32, k: Operation) -> Result<(), AllocError> {
         checked_is_covered();
         sound_after_apply();
         self.log.reserve(1)?;

@@ -1,22 +1,30 @@
 //! Operations at an object whose log is known.
 
-ghost use Rattle.std.specs.Prelude.{◌≡◌, true, length};
+ghost use Rattle.std.specs.Prelude.{◌≡◌, ◌<◌, true, length};
 ghost use Rattle.object_trait.specs.Meaning.{open_of};
 ghost use Rattle.object_trait.specs.Steps.{MayApply};
 
 use object_trait::{LogEntry, Recovery};
 use std::alloc::AllocError;
 use std::process::Abort;
+use type_table::Operation;
 
 /// More entries than any log of these tests has.
 const MOST_ENTRIES: usize = 1000;
 
+/// Whether k is an operation of an object's type.
+pub fn has<R: Recovery>(object: &R, k: Operation) -> bool
+    ensures { result ≡ true → k < length (R.meaning object.now).checked.file.table.ops }
+{
+    object.declared().op(k).is_some()
+}
+
 /// Whether t may execute operation k at an object with this log.
-fn may_apply<R: Recovery>(object: &R, log: &Vec<LogEntry>, t: u32, k: u8) -> bool
+fn may_apply<R: Recovery>(object: &R, log: &Vec<LogEntry>, t: u32, k: Operation) -> bool
     requires { (R.meaning object.now).log ≡ log.now.items }
     ensures { result ≡ true → MayApply (R.meaning object.now) t k }
 {
-    if usize::from(k) >= object.ops().len() || log.len() >= MOST_ENTRIES {
+    if !has(object, k) || log.len() >= MOST_ENTRIES {
         return false;
     }
     object.legal(t, k) && object.blocker(t, k).is_none()
@@ -28,7 +36,7 @@ pub fn apply_next<R: Recovery>(
     object: &mut R,
     log: &mut Vec<LogEntry>,
     t: u32,
-    k: u8,
+    k: Operation,
 ) -> Result<(), AllocError>
     requires { (R.meaning object.old).log ≡ log.old.items }
     ensures { (R.meaning object.new).log ≡ log.new.items }

@@ -2,12 +2,13 @@
 
 ghost use Rattle.std.specs.Prelude.{◌≡◌};
 
-use super::driven::{apply_next, strike_last};
+use super::driven::{apply_next, has, strike_last};
 use object_trait::{LogEntry, Recovery};
 use std::process::Abort;
 use test_support::type_texts::{
     COUNTER, COUNTER_FROM_ONE, COUNTER_OF_FOUR, ONE_WAY, SEMIQUEUE, TWIN,
 };
+use type_table::Operation;
 
 /// The end of a transaction.
 #[derive(Clone, Copy)]
@@ -16,7 +17,7 @@ pub enum End {
     Abort(u32),
 }
 
-/// An operation of a transaction, and the object's state after it.
+/// An operation of a transaction, by its place, and the object's state after it.
 type Applied = (u32, u8, u32);
 
 /// How many operations of a transaction are struck, and the object's state after that.
@@ -135,7 +136,8 @@ fn apply_one<R: Recovery>(
     requires { (R.meaning object.old).log ≡ log.old.items }
     ensures { (R.meaning object.new).log ≡ log.new.items }
 {
-    let (t, k, state) = applied;
+    let (t, place, state) = applied;
+    let k = Operation::listed(place);
     let before = (object.state(), object.open_count());
     if apply_next(rt, object, log, t, k).is_err() {
         assert!(rt; (object.state(), object.open_count()) == before);
@@ -161,9 +163,10 @@ fn apply_all<R: Recovery>(
 
 /// That these operations are legal, or not.
 fn are_legal<R: Recovery>(rt: &impl Abort, object: &R, rows: &[Legal]) {
-    for (t, k, legal) in rows {
-        assert!(rt; usize::from(*k) < object.ops().len());
-        assert!(rt; object.legal(*t, *k) == *legal);
+    for (t, place, legal) in rows {
+        let k = Operation::listed(*place);
+        assert!(rt; has(object, k));
+        assert!(rt; object.legal(*t, k) == *legal);
     }
 }
 

@@ -2,8 +2,7 @@
 
 use super::{Done, Turns, are_outcomes, do_jobs, is_told, jobs_of};
 use crate::tests::stores::objects_of;
-use crate::tests::stores::scripts::{Happened, store_of};
-use object_trait::EventKind;
+use crate::tests::stores::scripts::{Happened, Happening, store_of};
 use reference_store::work::GIVES_UP;
 use serial_order::Refusal;
 use std::process::Abort;
@@ -45,18 +44,18 @@ static ROWS: [Alone; 2] = [
         max: 20,
         text: GIVES_UP,
         history: &[
-            (0, EventKind::Begin { t: 0 }),
-            (0, EventKind::None { t: 0, x: 0, c: 1 }),
-            (0, EventKind::Abort { t: 0 }),
-            (0, EventKind::Begin { t: 1 }),
-            (0, EventKind::None { t: 1, x: 0, c: 1 }),
-            (0, EventKind::Abort { t: 1 }),
-            (0, EventKind::Begin { t: 2 }),
-            (0, EventKind::Op { t: 2, x: 0, k: 0 }),
-            (0, EventKind::Commit { t: 2 }),
-            (0, EventKind::Begin { t: 3 }),
-            (0, EventKind::Op { t: 3, x: 0, k: 1 }),
-            (0, EventKind::Commit { t: 3 }),
+            (0, Happening::Begin { t: 0 }),
+            (0, Happening::None { t: 0, x: 0, c: 1 }),
+            (0, Happening::Abort { t: 0 }),
+            (0, Happening::Begin { t: 1 }),
+            (0, Happening::None { t: 1, x: 0, c: 1 }),
+            (0, Happening::Abort { t: 1 }),
+            (0, Happening::Begin { t: 2 }),
+            (0, Happening::Op { t: 2, x: 0, k: 0 }),
+            (0, Happening::Commit { t: 2 }),
+            (0, Happening::Begin { t: 3 }),
+            (0, Happening::Op { t: 3, x: 0, k: 1 }),
+            (0, Happening::Commit { t: 3 }),
         ],
         outcomes: &[
             Outcome::GaveUp,
@@ -68,17 +67,17 @@ static ROWS: [Alone; 2] = [
         max: 11,
         text: REFUSED,
         history: &[
-            (0, EventKind::Begin { t: 0 }),
-            (0, EventKind::Op { t: 0, x: 0, k: 0 }),
-            (0, EventKind::Abort { t: 0 }),
-            (0, EventKind::Begin { t: 1 }),
-            (0, EventKind::Op { t: 1, x: 0, k: 0 }),
-            (0, EventKind::Abort { t: 1 }),
-            (0, EventKind::Begin { t: 2 }),
-            (0, EventKind::Op { t: 2, x: 0, k: 0 }),
-            (0, EventKind::Commit { t: 2 }),
-            (0, EventKind::Begin { t: 3 }),
-            (0, EventKind::Abort { t: 3 }),
+            (0, Happening::Begin { t: 0 }),
+            (0, Happening::Op { t: 0, x: 0, k: 0 }),
+            (0, Happening::Abort { t: 0 }),
+            (0, Happening::Begin { t: 1 }),
+            (0, Happening::Op { t: 1, x: 0, k: 0 }),
+            (0, Happening::Abort { t: 1 }),
+            (0, Happening::Begin { t: 2 }),
+            (0, Happening::Op { t: 2, x: 0, k: 0 }),
+            (0, Happening::Commit { t: 2 }),
+            (0, Happening::Begin { t: 3 }),
+            (0, Happening::Abort { t: 3 }),
         ],
         outcomes: &[
             Outcome::Refused(Refusal::NoCall),

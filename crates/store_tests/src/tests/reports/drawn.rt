@@ -1,7 +1,7 @@
 //! Workers whose turns are drawn: many seeds, and whose turn each word makes it.
 
 use super::{Done, Turns, are_outcomes, are_reported, do_jobs, is_serial, is_told, jobs_of};
-use crate::tests::stores::scripts::{Happened, store_of};
+use crate::tests::stores::scripts::{Happened, Happening, store_of};
 use crate::tests::stores::{objects_of, objects_over, types_of};
 use object_trait::{Event, EventKind};
 use rand_core::utils::NextWord;
@@ -133,7 +133,7 @@ const ALL: Tally = Tally {
 
 impl Tally {
     /// Counts one event more.
-    fn count(&mut self, event: Event) {
+    fn count(&mut self, event: &Event) {
         match event.kind {
             EventKind::Begin { .. } => self.begins = self.begins.wrapping_add(1),
             EventKind::Op { .. } => self.ops = self.ops.wrapping_add(1),
@@ -147,7 +147,7 @@ impl Tally {
     /// Counts the events of a history.
     fn count_all(&mut self, history: &[Event]) {
         for event in history {
-            self.count(*event);
+            self.count(event);
         }
     }
 }
@@ -218,31 +218,31 @@ end
 /// What comes of them in two tries by turns from the seed 6, by a simulation in another language. With no
 /// turns for the calls that are refused another history would come.
 static HAPPENED: [Happened; 17] = [
-    (2, EventKind::Begin { t: 0 }),
-    (2, EventKind::None { t: 0, x: 0, c: 1 }),
-    (0, EventKind::Begin { t: 1 }),
-    (1, EventKind::Begin { t: 2 }),
-    (2, EventKind::Abort { t: 0 }),
-    (0, EventKind::Op { t: 1, x: 0, k: 0 }),
-    (2, EventKind::Begin { t: 3 }),
-    (1, EventKind::Abort { t: 2 }),
+    (2, Happening::Begin { t: 0 }),
+    (2, Happening::None { t: 0, x: 0, c: 1 }),
+    (0, Happening::Begin { t: 1 }),
+    (1, Happening::Begin { t: 2 }),
+    (2, Happening::Abort { t: 0 }),
+    (0, Happening::Op { t: 1, x: 0, k: 0 }),
+    (2, Happening::Begin { t: 3 }),
+    (1, Happening::Abort { t: 2 }),
     (
         2,
-        EventKind::Busy {
+        Happening::Busy {
             c: 1,
             t: 3,
             x: 0,
             u: 1,
         },
     ),
-    (0, EventKind::Abort { t: 1 }),
-    (1, EventKind::Begin { t: 4 }),
-    (1, EventKind::Op { t: 4, x: 0, k: 0 }),
-    (1, EventKind::Commit { t: 4 }),
-    (2, EventKind::Abort { t: 3 }),
-    (2, EventKind::Begin { t: 5 }),
-    (2, EventKind::Op { t: 5, x: 0, k: 0 }),
-    (2, EventKind::Commit { t: 5 }),
+    (0, Happening::Abort { t: 1 }),
+    (1, Happening::Begin { t: 4 }),
+    (1, Happening::Op { t: 4, x: 0, k: 0 }),
+    (1, Happening::Commit { t: 4 }),
+    (2, Happening::Abort { t: 3 }),
+    (2, Happening::Begin { t: 5 }),
+    (2, Happening::Op { t: 5, x: 0, k: 0 }),
+    (2, Happening::Commit { t: 5 }),
 ];
 
 /// What comes of each worker's jobs.

@@ -4,8 +4,8 @@
 use super::{Done, Turns, are_outcomes, are_reported, do_jobs, jobs_of};
 use crate::tests::stores::full::begin_many;
 use crate::tests::stores::objects_of;
-use crate::tests::stores::scripts::{Happened, Row, answers, are_events, store_of};
-use object_trait::{Event, EventKind};
+use crate::tests::stores::scripts::{Happened, Happening, Row, answers, are_events, store_of};
+use object_trait::Event;
 use reference_store::asked::{Ask, Told};
 use serial_order::Refusal;
 use std::process::Abort;
@@ -43,25 +43,25 @@ static BEFORE: [Row; 5] = [
 
 /// Its history, closed after that.
 static UNCHANGED: [Happened; 6] = [
-    (9, EventKind::Begin { t: 0 }),
-    (9, EventKind::Op { t: 0, x: 0, k: 0 }),
-    (9, EventKind::Commit { t: 0 }),
-    (9, EventKind::Begin { t: 1 }),
-    (9, EventKind::Op { t: 1, x: 0, k: 0 }),
-    (9, EventKind::Abort { t: 1 }),
+    (9, Happening::Begin { t: 0 }),
+    (9, Happening::Op { t: 0, x: 0, k: 0 }),
+    (9, Happening::Commit { t: 0 }),
+    (9, Happening::Begin { t: 1 }),
+    (9, Happening::Op { t: 1, x: 0, k: 0 }),
+    (9, Happening::Abort { t: 1 }),
 ];
 
 /// Its history where the job was done, closed after that.
 static WITH_JOB: [Happened; 9] = [
-    (9, EventKind::Begin { t: 0 }),
-    (9, EventKind::Op { t: 0, x: 0, k: 0 }),
-    (9, EventKind::Commit { t: 0 }),
-    (9, EventKind::Begin { t: 1 }),
-    (9, EventKind::Op { t: 1, x: 0, k: 0 }),
-    (0, EventKind::Begin { t: 2 }),
-    (0, EventKind::Op { t: 2, x: 0, k: 0 }),
-    (0, EventKind::Commit { t: 2 }),
-    (9, EventKind::Abort { t: 1 }),
+    (9, Happening::Begin { t: 0 }),
+    (9, Happening::Op { t: 0, x: 0, k: 0 }),
+    (9, Happening::Commit { t: 0 }),
+    (9, Happening::Begin { t: 1 }),
+    (9, Happening::Op { t: 1, x: 0, k: 0 }),
+    (0, Happening::Begin { t: 2 }),
+    (0, Happening::Op { t: 2, x: 0, k: 0 }),
+    (0, Happening::Commit { t: 2 }),
+    (9, Happening::Abort { t: 1 }),
 ];
 
 /// The text of jobs, how many lists and tries, and the fault.

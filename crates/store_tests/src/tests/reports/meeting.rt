@@ -10,7 +10,7 @@ use std::sync::atomic::{AtomicBool, AtomicU32, Ordering};
 use std::thread;
 use std::thread::Threads;
 use test_support::type_texts::COUNTER;
-use type_table::Kind;
+use type_table::{Kind, Operation};
 use workers::{Gate, Outcome, Report, Worked, run_workers};
 
 /// How often a worker looks for the other.
@@ -104,13 +104,17 @@ fn done_at<R: Abort + AllocGlobal + Threads + Wait + Sync>(rt: &R, gate: &Meetin
     }
 }
 
+/// Whether the first object was counted up.
+fn is_up(event: &Event) -> bool {
+    match event.kind {
+        EventKind::Op { t: _, x, k } => x == 0 && k == Operation::listed(0),
+        _ => false,
+    }
+}
+
 /// That both operations come before both commits.
 fn do_overlap(rt: &impl Abort, history: &[Event]) {
-    let ops = history
-        .iter()
-        .take(4)
-        .filter(|event| matches!(event.kind, EventKind::Op { t: _, x: 0, k: 0 }))
-        .count();
+    let ops = history.iter().take(4).filter(|event| is_up(event)).count();
     let commits = history
         .iter()
         .skip(4)

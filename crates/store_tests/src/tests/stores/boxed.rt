@@ -1,11 +1,11 @@
 //! A store of boxes: objects of both kinds of recovery, and one of a stranger's, each in a box of its
 //! own.
 
-use super::scripts::{Happened, Row, answers, is_closed, store_of};
+use super::scripts::{Happened, Happening, Row, answers, is_closed, store_of};
 use crate::tests::any_objects::boxed::made;
 use crate::tests::managers::{deferred, in_place};
 use crate::tests::reports::are_at;
-use object_trait::{AnyObject, EventKind, Recovery};
+use object_trait::{AnyObject, Recovery};
 use reference_store::asked::{Ask, Told};
 use serial_order::Refusal;
 use std::process::Abort;
@@ -66,26 +66,26 @@ const ROWS: &[Row] = &[
 
 /// What happened, with the end of the third.
 const HISTORY: &[Happened] = &[
-    (0, EventKind::Begin { t: 0 }),
-    (1, EventKind::Begin { t: 1 }),
-    (0, EventKind::Op { t: 0, x: 0, k: 0 }),
+    (0, Happening::Begin { t: 0 }),
+    (1, Happening::Begin { t: 1 }),
+    (0, Happening::Op { t: 0, x: 0, k: 0 }),
     (
         1,
-        EventKind::Busy {
+        Happening::Busy {
             c: 1,
             t: 1,
             x: 0,
             u: 0,
         },
     ),
-    (0, EventKind::Op { t: 0, x: 1, k: 0 }),
-    (1, EventKind::Op { t: 1, x: 1, k: 1 }),
-    (0, EventKind::Op { t: 0, x: 2, k: 0 }),
-    (0, EventKind::Commit { t: 0 }),
-    (1, EventKind::Commit { t: 1 }),
-    (2, EventKind::Begin { t: 2 }),
-    (2, EventKind::Op { t: 2, x: 0, k: 1 }),
-    (2, EventKind::Abort { t: 2 }),
+    (0, Happening::Op { t: 0, x: 1, k: 0 }),
+    (1, Happening::Op { t: 1, x: 1, k: 1 }),
+    (0, Happening::Op { t: 0, x: 2, k: 0 }),
+    (0, Happening::Commit { t: 0 }),
+    (1, Happening::Commit { t: 1 }),
+    (2, Happening::Begin { t: 2 }),
+    (2, Happening::Op { t: 2, x: 0, k: 1 }),
+    (2, Happening::Abort { t: 2 }),
 ];
 
 /// A store of these objects does what the rows say, and hands them back with these states.

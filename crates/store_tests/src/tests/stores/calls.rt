@@ -1,47 +1,87 @@
 //! The calls of a type, by name and by number.
 
+ghost use Rattle.table_checker.specs.Declarations.{table_of};
+ghost use Rattle.object_calls.specs.Calls.{HoldsCalls};
+
 use object_calls::{Call, CallTable};
 use reference_store::checked_types::checked_of;
 use std::process::Abort;
 use std::test::Fail;
+use table_checker::DeclaredType;
 use test_support::printed::are_debugged;
-use test_support::type_texts::SEMIQUEUE;
-use type_table::Kind;
+use test_support::type_texts::{PURSE, SEMIQUEUE};
+use type_table::{Kind, Operation};
 
-/// Operations 2 and 3.
-const DEQ: Call = Call {
-    first: 2,
-    operations: 12,
-};
+/// A call's name, its number, as a place and an amount where it has one, and the bits of its operations, where
+/// it is a call.
+type Row = (&'static str, u8, Option<u32>, Option<u64>);
 
-/// Operation 1 alone.
-const ENQ_B: Call = Call {
-    first: 1,
-    operations: 2,
-};
-
-/// A call's name, its number, and the call.
-static CALLS: [(&str, u8, Option<Call>); 4] = [
-    ("deq", 2, Some(DEQ)),
-    ("enq:b", 1, Some(ENQ_B)),
-    ("enq", 3, None),
-    ("", 255, None),
+/// Operations 2 and 3, and operation 1 alone.
+static OF_A_TABLE: [Row; 5] = [
+    ("deq", 2, None, Some(12)),
+    ("enq:b", 1, None, Some(2)),
+    ("enq", 3, None, None),
+    ("", 255, None, None),
+    ("deq:2", 2, Some(2), None),
 ];
 
-/// That each call is found, or isn't.
-fn are_found(rt: &impl Abort, calls: &CallTable, rows: &[(&str, u8, Option<Call>)]) {
-    for (name, number, call) in rows {
-        assert!(rt; calls.by_name(name) == *call);
-        assert!(rt; calls.by_number(*number) == *call);
+/// Each line has two places, and `value` the bits of its line too.
+static OF_A_NUMBER: [Row; 12] = [
+    ("take:17", 0, Some(17), Some(3)),
+    ("take:100", 0, Some(100), Some(3)),
+    ("give:7", 2, None, Some(12)),
+    ("give:9", 4, Some(9), Some(48)),
+    ("atleast:5", 6, None, Some(192)),
+    ("value", 8, Some(0), Some(768)),
+    ("take:0", 0, Some(0), None),
+    ("take:007", 4, Some(7), None),
+    ("take:101", 0, Some(101), None),
+    ("take:any", 0, None, None),
+    ("take", 1, Some(17), None),
+    ("value:20", 8, Some(20), None),
+];
+
+/// The operation at a place, with an amount where one is given.
+fn number_of(place: u8, amount: Option<u32>) -> Operation {
+    match amount {
+        Some(n) => Operation::with(place, n),
+        None => Operation::listed(place),
+    }
+}
+
+/// That a call is found by its name and by its number, or isn't.
+fn is_found(rt: &impl Abort, declared: &DeclaredType, calls: &CallTable, row: &Row)
+    requires { HoldsCalls (table_of declared.now) calls.now }
+{
+    let (name, place, amount, bits) = *row;
+    let first = number_of(place, amount);
+    let call = bits.map(|operations| Call { first, operations });
+    assert!(rt; calls.by_name(declared, name.as_bytes()) == call, "{name}");
+    assert!(rt; calls.by_number(declared, first) == call, "{name}");
+}
+
+/// That the calls of a type are found so.
+fn are_found(rt: &(impl Abort + AllocGlobal), text: &str, kind: Kind, rows: &[Row]) {
+    let checked = checked_of(rt.alloc(), text, kind).expect(rt, "no type");
+    let declared = checked.declared();
+    let calls = CallTable::new(rt.alloc(), declared).expect(rt, "no memory");
+    for row in rows {
+        is_found(rt, declared, &calls, row);
     }
 }
 
 #[test]
-fn calls_are_found(rt: HostRuntime) -> Result<(), Fail> {
-    let checked = checked_of(rt.alloc(), SEMIQUEUE, Kind::Undo).expect(&rt, "no type");
-    let ops = checked.ops();
-    assert!(rt; ops.len() <= 64);
-    let calls = CallTable::new(rt.alloc(), ops).expect(&rt, "no memory");
-    are_found(&rt, &calls, &CALLS);
-    are_debugged(rt.alloc(), &[(ENQ_B, "Call { first: 1, operations: 2 }")])
+fn calls_are_found(rt: HostRuntime) {
+    are_found(&rt, SEMIQUEUE, Kind::Undo, &OF_A_TABLE);
+    are_found(&rt, PURSE, Kind::Escrow, &OF_A_NUMBER);
+}
+
+#[test]
+fn calls_are_printed(rt: HostRuntime) -> Result<(), Fail> {
+    let call = Call {
+        first: Operation::listed(1),
+        operations: 2,
+    };
+    let text = "Call { first: Operation { place: 1, counted: false, amount: 0 }, operations: 2 }";
+    are_debugged(rt.alloc(), &[(call, text)])
 }

@@ -1,9 +1,8 @@
 //! The end of a store, at which transactions are open.
 
 use super::objects_of;
-use super::scripts::{Happened, Row, answers, is_closed, store_of};
+use super::scripts::{Happened, Happening, Row, answers, is_closed, store_of};
 use crate::tests::reports::are_at;
-use object_trait::EventKind;
 use reference_store::asked::{Ask, Told};
 use test_support::type_texts::{COUNTER, ONE_WAY};
 use type_table::Kind;
@@ -21,15 +20,15 @@ static LEFT_OPEN: [Row; 7] = [
 
 /// The open ones are aborted by the workers that began them.
 static CLOSED: [Happened; 9] = [
-    (9, EventKind::Begin { t: 0 }),
-    (8, EventKind::Begin { t: 1 }),
-    (7, EventKind::Begin { t: 2 }),
-    (3, EventKind::Op { t: 2, x: 0, k: 0 }),
-    (3, EventKind::Op { t: 0, x: 1, k: 1 }),
-    (3, EventKind::Op { t: 1, x: 0, k: 0 }),
-    (3, EventKind::Commit { t: 1 }),
-    (9, EventKind::Abort { t: 0 }),
-    (7, EventKind::Abort { t: 2 }),
+    (9, Happening::Begin { t: 0 }),
+    (8, Happening::Begin { t: 1 }),
+    (7, Happening::Begin { t: 2 }),
+    (3, Happening::Op { t: 2, x: 0, k: 0 }),
+    (3, Happening::Op { t: 0, x: 1, k: 1 }),
+    (3, Happening::Op { t: 1, x: 0, k: 0 }),
+    (3, Happening::Commit { t: 1 }),
+    (9, Happening::Abort { t: 0 }),
+    (7, Happening::Abort { t: 2 }),
 ];
 
 #[test]

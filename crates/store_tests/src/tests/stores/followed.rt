@@ -1,8 +1,8 @@
 //! Stores that follow events that were made before.
 
 use super::objects_of;
-use super::scripts::store_of;
-use object_trait::{Event, EventKind, Recovery};
+use super::scripts::{Happened, Happening, are_events, event_of, store_of};
+use object_trait::{Event, Recovery};
 use objects::Object;
 use std::process::Abort;
 use store::{ReplayFault, Store, Stray, follow, replay};
@@ -11,76 +11,58 @@ use type_table::Kind;
 
 /// Two transactions at a counter from 0 to 2 in place, which both count up: the first is kept from a third
 /// up by the end of the range, the second from a down by the first one's up.
-static EVENTS: [Event; 10] = [
-    Event {
-        worker: 9,
-        kind: EventKind::Begin { t: 0 },
-    },
-    Event {
-        worker: 8,
-        kind: EventKind::Begin { t: 1 },
-    },
-    Event {
-        worker: 9,
-        kind: EventKind::Op { t: 0, x: 0, k: 0 },
-    },
-    Event {
-        worker: 8,
-        kind: EventKind::Op { t: 1, x: 0, k: 0 },
-    },
-    Event {
-        worker: 9,
-        kind: EventKind::None { t: 0, x: 0, c: 0 },
-    },
-    Event {
-        worker: 8,
-        kind: EventKind::Busy {
+static EVENTS: [Happened; 10] = [
+    (9, Happening::Begin { t: 0 }),
+    (8, Happening::Begin { t: 1 }),
+    (9, Happening::Op { t: 0, x: 0, k: 0 }),
+    (8, Happening::Op { t: 1, x: 0, k: 0 }),
+    (9, Happening::None { t: 0, x: 0, c: 0 }),
+    (
+        8,
+        Happening::Busy {
             c: 1,
             t: 1,
             x: 0,
             u: 0,
         },
-    },
-    Event {
-        worker: 9,
-        kind: EventKind::Rollback { t: 0, n: 1 },
-    },
-    Event {
-        worker: 8,
-        kind: EventKind::Op { t: 1, x: 0, k: 1 },
-    },
-    Event {
-        worker: 8,
-        kind: EventKind::Commit { t: 1 },
-    },
-    Event {
-        worker: 9,
-        kind: EventKind::Abort { t: 0 },
-    },
+    ),
+    (9, Happening::Rollback { t: 0, n: 1 }),
+    (8, Happening::Op { t: 1, x: 0, k: 1 }),
+    (8, Happening::Commit { t: 1 }),
+    (9, Happening::Abort { t: 0 }),
 ];
 
 /// What can't have happened after the first of these events, this many: a number that isn't the next one, a transaction
-/// that isn't open, an object, an operation or a call that isn't there, an answer that is another, a
-/// rollback of too many.
-static STRAYS: [(usize, EventKind); 18] = [
-    (0, EventKind::Begin { t: 1 }),
-    (0, EventKind::Commit { t: 0 }),
-    (0, EventKind::Op { t: 0, x: 0, k: 0 }),
-    (2, EventKind::Op { t: 2, x: 0, k: 0 }),
-    (2, EventKind::Op { t: 0, x: 1, k: 0 }),
-    (2, EventKind::Op { t: 0, x: 0, k: 1 }),
-    (2, EventKind::Op { t: 0, x: 0, k: 9 }),
-    (2, EventKind::None { t: 0, x: 0, c: 0 }),
-    (2, EventKind::None { t: 0, x: 0, c: 7 }),
-    (2, EventKind::None { t: 0, x: 3, c: 0 }),
-    (3, EventKind::Op { t: 1, x: 0, k: 1 }),
-    (4, EventKind::Op { t: 0, x: 0, k: 0 }),
-    (5, EventKind::Op { t: 1, x: 0, k: 1 }),
-    (5, EventKind::None { t: 1, x: 0, c: 1 }),
-    (6, EventKind::Rollback { t: 0, n: 2 }),
-    (6, EventKind::Rollback { t: 0, n: 0 }),
-    (8, EventKind::Commit { t: 2 }),
-    (8, EventKind::Abort { t: 5 }),
+/// that isn't open, an object, an operation or a call that isn't there, an amount that no operation of a table has, an
+/// answer that is another, a rollback of too many.
+static STRAYS: [(usize, Happening); 19] = [
+    (0, Happening::Begin { t: 1 }),
+    (0, Happening::Commit { t: 0 }),
+    (0, Happening::Op { t: 0, x: 0, k: 0 }),
+    (2, Happening::Op { t: 2, x: 0, k: 0 }),
+    (2, Happening::Op { t: 0, x: 1, k: 0 }),
+    (2, Happening::Op { t: 0, x: 0, k: 1 }),
+    (2, Happening::Op { t: 0, x: 0, k: 9 }),
+    (
+        2,
+        Happening::OpWith {
+            t: 0,
+            x: 0,
+            k: 0,
+            n: 1,
+        },
+    ),
+    (2, Happening::None { t: 0, x: 0, c: 0 }),
+    (2, Happening::None { t: 0, x: 0, c: 7 }),
+    (2, Happening::None { t: 0, x: 3, c: 0 }),
+    (3, Happening::Op { t: 1, x: 0, k: 1 }),
+    (4, Happening::Op { t: 0, x: 0, k: 0 }),
+    (5, Happening::Op { t: 1, x: 0, k: 1 }),
+    (5, Happening::None { t: 1, x: 0, c: 1 }),
+    (6, Happening::Rollback { t: 0, n: 2 }),
+    (6, Happening::Rollback { t: 0, n: 0 }),
+    (8, Happening::Commit { t: 2 }),
+    (8, Happening::Abort { t: 5 }),
 ];
 
 /// A store of such a counter.
@@ -95,7 +77,7 @@ fn glance<R: Recovery>(store: &Store<R>) -> (u32, Option<u32>) {
 
 /// What comes of an event where one allocation may be refused: then nothing has changed, and the next try
 /// has its memory.
-fn at_last<R: Recovery>(rt: &impl Abort, store: &mut Store<R>, event: Event) -> Result<(), Stray> {
+fn at_last<R: Recovery>(rt: &impl Abort, store: &mut Store<R>, event: &Event) -> Result<(), Stray> {
     let before = glance(store);
     let first = follow(store, event);
     if first != Err(Stray::NoMemory) {
@@ -108,8 +90,8 @@ fn at_last<R: Recovery>(rt: &impl Abort, store: &mut Store<R>, event: Event) -> 
 #[test]
 fn followed_events_are_refused_memory(rt: HostRuntime) {
     let mut store = counter(&rt);
-    for event in &EVENTS {
-        let told = at_last(&rt, &mut store, *event);
+    for happened in &EVENTS {
+        let told = at_last(&rt, &mut store, &event_of(happened));
         assert!(rt; told == Ok(()));
     }
     has_all(&rt, store);
@@ -118,7 +100,16 @@ fn followed_events_are_refused_memory(rt: HostRuntime) {
 /// That the store of a counter has all of these events at its close.
 fn has_all(rt: &impl Abort, store: Store<Object>) {
     let (history, _) = store.close();
-    assert!(rt; history.as_slice() == EVENTS.as_slice());
+    are_events(rt, &history, &EVENTS);
+}
+
+/// The events of what happened.
+fn events_of(rt: &(impl Abort + AllocGlobal), happened: &[Happened]) -> Vec<Event> {
+    let mut events = Vec::new(rt.alloc());
+    for one in happened {
+        events.push(event_of(one)).expect(rt, "no room");
+    }
+    events
 }
 
 /// That a store makes these events.
@@ -128,37 +119,44 @@ fn makes<R: Recovery>(rt: &impl Abort, store: &mut Store<R>, events: &[Event], p
 }
 
 /// That this event isn't made after the others, this many, and leaves the store as it was.
-fn strays<R: Recovery>(rt: &impl Abort, store: &mut Store<R>, place: usize, kind: EventKind) {
+pub fn strays<R: Recovery>(
+    rt: &impl Abort,
+    store: &mut Store<R>,
+    place: usize,
+    happening: Happening,
+) {
     let was = glance(store);
-    let stray = follow(store, Event { worker: 9, kind });
-    assert!(rt; stray == Err(Stray::NotMade), "{place} {kind:?}");
+    let event = event_of(&(9, happening));
+    let stray = follow(store, &event);
+    assert!(rt; stray == Err(Stray::NotMade), "{place} {event:?}");
     assert!(rt; glance(store) == was);
 }
 
 /// The same at a store of a counter, which then makes the rest.
-fn is_stray(rt: &(impl Abort + AllocGlobal), place: usize, kind: EventKind) {
-    let events = EVENTS.as_slice();
+fn is_stray(rt: &(impl Abort + AllocGlobal), place: usize, happening: Happening) {
+    let events = events_of(rt, &EVENTS);
     assert!(rt; place <= events.len());
     let (before, behind) = events.split_at(place);
     let mut store = counter(rt);
     makes(rt, &mut store, before, place);
-    strays(rt, &mut store, place, kind);
+    strays(rt, &mut store, place, happening);
     makes(rt, &mut store, behind, place);
     has_all(rt, store);
 }
 
 #[test]
 fn strays_change_nothing(rt: HostRuntime) {
-    for (place, kind) in &STRAYS {
-        is_stray(&rt, *place, *kind);
+    for (place, happening) in &STRAYS {
+        is_stray(&rt, *place, *happening);
     }
 }
 
 /// The events before the first stray are made, and no other.
 #[test]
 fn a_replay_ends_at_a_stray(rt: HostRuntime) {
-    let mut events = EVENTS;
-    events[4] = events[3];
+    let mut events = events_of(&rt, &EVENTS);
+    assert!(rt; events.len() == 10);
+    events[4] = event_of(&EVENTS[3]);
     let mut store = counter(&rt);
     let told = replay(&mut store, &events);
     let was = glance(&store);
@@ -174,7 +172,9 @@ fn a_replay_ends_at_a_stray(rt: HostRuntime) {
 /// A store may forget what it followed before it follows the rest.
 #[test]
 fn a_replay_goes_on_behind_what_is_forgotten(rt: HostRuntime) {
-    let (first, rest) = EVENTS.split_at(5);
+    let events = events_of(&rt, &EVENTS);
+    assert!(rt; events.len() == 10);
+    let (first, rest) = events.split_at(5);
     let mut store = counter(&rt);
     let told = (replay(&mut store, first), store.kept(0));
     store.forget(4);
@@ -184,5 +184,5 @@ fn a_replay_goes_on_behind_what_is_forgotten(rt: HostRuntime) {
     assert!(rt; told == (Ok(()), Some(2)));
     assert!(rt; last == (Ok(()), Some(0)));
     assert!(rt; count == 10);
-    assert!(rt; history.as_slice() == &EVENTS[4..]);
+    are_events(&rt, &history, &EVENTS[4..]);
 }

@@ -1,8 +1,8 @@
 //! Events that a store forgets.
 
 use super::objects_of;
-use super::scripts::{Happened, Row, answers, are_events, is_closed, store_of};
-use object_trait::{EventKind, Recovery};
+use super::scripts::{Happened, Happening, Row, answers, are_events, is_closed, store_of};
+use object_trait::Recovery;
 use reference_store::asked::{Ask, Told};
 use serial_order::Refusal;
 use std::process::Abort;
@@ -29,9 +29,9 @@ static FULL: [Row; 3] = [
 
 /// The last two events, and how the open one ends.
 static LAST: [Happened; 3] = [
-    (2, EventKind::Op { t: 1, x: 0, k: 1 }),
-    (2, EventKind::Op { t: 1, x: 0, k: 0 }),
-    (2, EventKind::Abort { t: 1 }),
+    (2, Happening::Op { t: 1, x: 0, k: 1 }),
+    (2, Happening::Op { t: 1, x: 0, k: 0 }),
+    (2, Happening::Abort { t: 1 }),
 ];
 
 /// That this many events happened, of which this many are in memory.

@@ -29,7 +29,6 @@ fn store_over(rt: &(impl Abort + AllocGlobal), checked: Arc<CheckedType>) -> Sto
 fn store_of_number(rt: &(impl Abort + AllocGlobal), text: &str) -> Store<EscrowManager> {
     let number = read_number(rt.alloc(), text.as_bytes()).ok();
     let number = number.expect(rt, "no number");
-    assert!(rt; number.is_listed());
     let checked = Arc::new(rt.alloc(), check_number(number)).ok();
     store_over(rt, checked.expect(rt, "no memory"))
 }
@@ -79,6 +78,48 @@ static AT_THE_TOP: [Row; 24] = [
 fn a_number_has_32_bits(rt: HostRuntime) {
     let mut store = store_of_number(&rt, CREDIT);
     answers(&rt, &mut store, &AT_THE_TOP);
+    let _ = store.close();
+}
+
+/// The same number with any amounts.
+const WIDE: &str = "number wide
+max 4294967295
+initial 4294967290
+take any
+give any
+value
+end
+";
+
+/// Amounts and values have 32 bits too.
+static ALL_OF_IT: [Row; 9] = [
+    (0, Ask::Begin, Told::Begun(0)),
+    (0, Ask::Call(0, 0, "give:5"), Told::ReplyWith(2, 5)),
+    (
+        0,
+        Ask::Call(0, 0, "value"),
+        Told::ReplyWith(4, 4_294_967_295),
+    ),
+    (0, Ask::Call(0, 0, "give:1"), Told::ReplyWith(3, 1)),
+    (
+        0,
+        Ask::Call(0, 0, "take:4294967296"),
+        Told::Refused(Refusal::NoCall),
+    ),
+    (
+        0,
+        Ask::Call(0, 0, "take:4294967295"),
+        Told::ReplyWith(0, 4_294_967_295),
+    ),
+    (0, Ask::Call(0, 0, "value"), Told::ReplyWith(4, 0)),
+    (0, Ask::Commit(0), Told::Done),
+    (0, Ask::Kept(0), Told::Kept(Some(0))),
+];
+
+#[test]
+fn amounts_have_32_bits(rt: HostRuntime) {
+    let mut store = store_of_number(&rt, WIDE);
+    answers(&rt, &mut store, &ALL_OF_IT);
     let _ = store.close();
 }
 

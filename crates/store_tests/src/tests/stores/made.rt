@@ -13,7 +13,7 @@ use std::test::Fail;
 use store::{NewRefusal, Store};
 use test_support::printed::{are_debugged, are_printed};
 use test_support::type_texts::COUNTER;
-use type_table::Kind;
+use type_table::{Kind, Operation};
 
 static REFUSALS: [(NewRefusal, &str); 5] = [
     (NewRefusal::NoObjects, "NoObjects"),
@@ -58,7 +58,7 @@ fn made(rt: &(impl Abort + AllocGlobal), count: usize) -> Vec<Object> {
 fn touch(rt: &(impl Abort + AllocGlobal), object: &mut Object) {
     assert!(rt; object.is_fresh());
     let mut log = Vec::new(rt.alloc());
-    apply_next(rt, object, &mut log, 0, 0).expect(rt, "no memory");
+    apply_next(rt, object, &mut log, 0, Operation::listed(0)).expect(rt, "no memory");
 }
 
 /// This many objects, of which one may have been touched.

@@ -1,8 +1,7 @@
 //! Several transactions at a number from 0 to 5 in escrow, with each answer and each kept number worked out by hand.
 //! No contract says that a call is ever answered with a reply.
 
-use super::scripts::{Script, are_played};
-use object_trait::EventKind;
+use super::scripts::{Happening, Script, are_played};
 use reference_store::asked::{Ask, Told};
 use reference_store::checked_types::Sort;
 use test_support::type_texts::NUMBER_OF_FIVE;
@@ -39,26 +38,26 @@ const TAKES: Script = Script {
         (0, Ask::Kept(0), Told::Kept(Some(2))),
     ],
     history: &[
-        (0, EventKind::Begin { t: 0 }),
-        (0, EventKind::Begin { t: 1 }),
-        (0, EventKind::Begin { t: 2 }),
-        (0, EventKind::Op { t: 0, x: 0, k: 1 }),
-        (0, EventKind::Op { t: 1, x: 0, k: 0 }),
+        (0, Happening::Begin { t: 0 }),
+        (0, Happening::Begin { t: 1 }),
+        (0, Happening::Begin { t: 2 }),
+        (0, Happening::Op { t: 0, x: 0, k: 1 }),
+        (0, Happening::Op { t: 1, x: 0, k: 0 }),
         (
             0,
-            EventKind::Busy {
+            Happening::Busy {
                 c: 1,
                 t: 2,
                 x: 0,
                 u: 0,
             },
         ),
-        (0, EventKind::Abort { t: 0 }),
-        (0, EventKind::Op { t: 2, x: 0, k: 1 }),
-        (0, EventKind::Commit { t: 1 }),
-        (0, EventKind::Commit { t: 2 }),
-        (0, EventKind::Begin { t: 3 }),
-        (0, EventKind::Commit { t: 3 }),
+        (0, Happening::Abort { t: 0 }),
+        (0, Happening::Op { t: 2, x: 0, k: 1 }),
+        (0, Happening::Commit { t: 1 }),
+        (0, Happening::Commit { t: 2 }),
+        (0, Happening::Begin { t: 3 }),
+        (0, Happening::Commit { t: 3 }),
     ],
 };
 
@@ -86,36 +85,36 @@ const SHORTS: Script = Script {
         (0, Ask::Kept(0), Told::Kept(Some(0))),
     ],
     history: &[
-        (0, EventKind::Begin { t: 0 }),
-        (0, EventKind::Op { t: 0, x: 0, k: 1 }),
-        (0, EventKind::Commit { t: 0 }),
-        (0, EventKind::Begin { t: 1 }),
-        (0, EventKind::Op { t: 1, x: 0, k: 2 }),
-        (0, EventKind::Begin { t: 2 }),
+        (0, Happening::Begin { t: 0 }),
+        (0, Happening::Op { t: 0, x: 0, k: 1 }),
+        (0, Happening::Commit { t: 0 }),
+        (0, Happening::Begin { t: 1 }),
+        (0, Happening::Op { t: 1, x: 0, k: 2 }),
+        (0, Happening::Begin { t: 2 }),
         (
             0,
-            EventKind::Busy {
+            Happening::Busy {
                 c: 0,
                 t: 2,
                 x: 0,
                 u: 1,
             },
         ),
-        (0, EventKind::Op { t: 1, x: 0, k: 0 }),
-        (0, EventKind::Rollback { t: 1, n: 2 }),
-        (0, EventKind::Op { t: 2, x: 0, k: 0 }),
+        (0, Happening::Op { t: 1, x: 0, k: 0 }),
+        (0, Happening::Rollback { t: 1, n: 2 }),
+        (0, Happening::Op { t: 2, x: 0, k: 0 }),
         (
             0,
-            EventKind::Busy {
+            Happening::Busy {
                 c: 1,
                 t: 1,
                 x: 0,
                 u: 2,
             },
         ),
-        (0, EventKind::Commit { t: 2 }),
-        (0, EventKind::Op { t: 1, x: 0, k: 1 }),
-        (0, EventKind::Commit { t: 1 }),
+        (0, Happening::Commit { t: 2 }),
+        (0, Happening::Op { t: 1, x: 0, k: 1 }),
+        (0, Happening::Commit { t: 1 }),
     ],
 };
 
@@ -138,26 +137,26 @@ const BOTH: Script = Script {
         (0, Ask::Begin, Told::Begun(2)),
     ],
     history: &[
-        (0, EventKind::Begin { t: 0 }),
-        (0, EventKind::Op { t: 0, x: 0, k: 1 }),
-        (0, EventKind::Op { t: 0, x: 0, k: 0 }),
-        (0, EventKind::Op { t: 0, x: 0, k: 0 }),
-        (0, EventKind::Begin { t: 1 }),
+        (0, Happening::Begin { t: 0 }),
+        (0, Happening::Op { t: 0, x: 0, k: 1 }),
+        (0, Happening::Op { t: 0, x: 0, k: 0 }),
+        (0, Happening::Op { t: 0, x: 0, k: 0 }),
+        (0, Happening::Begin { t: 1 }),
         (
             0,
-            EventKind::Busy {
+            Happening::Busy {
                 c: 1,
                 t: 1,
                 x: 0,
                 u: 0,
             },
         ),
-        (0, EventKind::Rollback { t: 0, n: 3 }),
-        (0, EventKind::Op { t: 1, x: 0, k: 1 }),
-        (0, EventKind::Commit { t: 0 }),
-        (0, EventKind::Abort { t: 1 }),
-        (0, EventKind::Begin { t: 2 }),
-        (0, EventKind::Abort { t: 2 }),
+        (0, Happening::Rollback { t: 0, n: 3 }),
+        (0, Happening::Op { t: 1, x: 0, k: 1 }),
+        (0, Happening::Commit { t: 0 }),
+        (0, Happening::Abort { t: 1 }),
+        (0, Happening::Begin { t: 2 }),
+        (0, Happening::Abort { t: 2 }),
     ],
 };
 

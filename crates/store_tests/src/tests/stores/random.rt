@@ -15,9 +15,9 @@ use std::sync::Arc;
 use store::{Store, replay};
 use table_checker::CheckedType;
 use test_support::type_texts::{
-    ACCOUNT, COUNTER_FROM_ONE, COUNTER_OF_FOUR, NUMBER_OF_FIVE, ONE_WAY, SEMIQUEUE, TWIN,
+    ACCOUNT, COUNTER_FROM_ONE, COUNTER_OF_FOUR, NUMBER_OF_FIVE, ONE_WAY, PURSE, SEMIQUEUE, TWIN,
 };
-use type_table::Kind;
+use type_table::{Kind, Operation};
 
 /// How many seeds there are.
 const SEEDS: u64 = 6;
@@ -66,7 +66,7 @@ static DEFERRED: [Sort; 4] = [
 ];
 
 /// The sorts of objects in escrow.
-static IN_ESCROW: [Sort; 3] = [
+static IN_ESCROW: [Sort; 4] = [
     (
         Kind::Escrow,
         NUMBER_OF_FIVE,
@@ -76,6 +76,11 @@ static IN_ESCROW: [Sort; 3] = [
         Kind::Escrow,
         ACCOUNT,
         ["deposit:1", "withdraw:1", "balance", "deposit"],
+    ),
+    (
+        Kind::Escrow,
+        PURSE,
+        ["take:31", "give:9", "value", "take:007"],
     ),
     (
         Kind::Escrow,
@@ -95,8 +100,8 @@ fn sorts_of(store: usize) -> [&'static Sort; OBJECTS] {
         &DEFERRED[store % 4],
         &IN_PLACE[following % 3],
         &DEFERRED[following % 4],
-        &IN_ESCROW[store % 3],
-        &IN_ESCROW[following % 3],
+        &IN_ESCROW[store % 4],
+        &IN_ESCROW[following % 4],
     ]
 }
 
@@ -149,8 +154,10 @@ impl Dice {
             Some(sort) => sort.2,
             None => ["p"; 4],
         };
-        if self.below(6) == 0 {
-            return Ask::Number(t, x, self.byte(6));
+        match self.below(12) {
+            0..2 => return Ask::Number(t, x, self.byte(6)),
+            2 => return Ask::NumberWith(t, x, self.byte(10), self.below(103)),
+            _ => {}
         }
         match self.below(10) {
             0 => Ask::Call(t, x, names[3]),
@@ -210,7 +217,8 @@ fn keep_alike<R: Recovery>(rt: &impl Abort, store: &Store<R>, reference: &Refere
 fn foretold<R: Recovery>(store: &Store<R>, ask: Ask) -> Option<Told> {
     match ask {
         Ask::Call(t, x, name) => Some(called(store.would(t, x, name))),
-        Ask::Number(t, x, c) => Some(called(store.would_op(t, x, c))),
+        Ask::Number(t, x, c) => Some(called(store.would_op(t, x, Operation::listed(c)))),
+        Ask::NumberWith(t, x, c, n) => Some(called(store.would_op(t, x, Operation::with(c, n)))),
         _ => None,
     }
 }
@@ -258,7 +266,7 @@ fn is_audited_alike(
     are_commits(rt, &audit.order, reference.events());
     for x in 0..7 {
         let state = audit.finals.get(x as usize).copied();
-        assert!(rt; state == reference.serial_state(x).map(u32::from));
+        assert!(rt; state == reference.serial_state(x));
     }
 }
 

@@ -1,7 +1,6 @@
 //! The first reason for which a call is refused. A refusal is no event.
 
-use super::scripts::{Script, are_played};
-use object_trait::EventKind;
+use super::scripts::{Happening, Script, are_played};
 use reference_store::asked::{Ask, Told};
 use serial_order::Refusal;
 use test_support::type_texts::{COUNTER, SEMIQUEUE};
@@ -53,11 +52,11 @@ const WITH_ROOM: Script = Script {
         (0, Ask::Call(0, 0, "inc:1"), NOT_OPEN),
     ],
     history: &[
-        (0, EventKind::Begin { t: 0 }),
-        (0, EventKind::Op { t: 0, x: 0, k: 0 }),
-        (0, EventKind::Op { t: 0, x: 1, k: 0 }),
-        (0, EventKind::Rollback { t: 0, n: 2 }),
-        (0, EventKind::Commit { t: 0 }),
+        (0, Happening::Begin { t: 0 }),
+        (0, Happening::Op { t: 0, x: 0, k: 0 }),
+        (0, Happening::Op { t: 0, x: 1, k: 0 }),
+        (0, Happening::Rollback { t: 0, n: 2 }),
+        (0, Happening::Commit { t: 0 }),
     ],
 };
 
@@ -81,9 +80,9 @@ const WITHOUT_ROOM: Script = Script {
         (0, Ask::Commit(0), Told::Done),
     ],
     history: &[
-        (0, EventKind::Begin { t: 0 }),
-        (0, EventKind::Op { t: 0, x: 0, k: 0 }),
-        (0, EventKind::Commit { t: 0 }),
+        (0, Happening::Begin { t: 0 }),
+        (0, Happening::Op { t: 0, x: 0, k: 0 }),
+        (0, Happening::Commit { t: 0 }),
     ],
 };
 
@@ -99,8 +98,8 @@ const LEAST: Script = Script {
         (0, Ask::Begin, FULL),
     ],
     history: &[
-        (0, EventKind::Begin { t: 0 }),
-        (0, EventKind::Abort { t: 0 }),
+        (0, Happening::Begin { t: 0 }),
+        (0, Happening::Abort { t: 0 }),
     ],
 };
 
@@ -120,11 +119,11 @@ const SECOND_BEGIN: Script = Script {
         (0, Ask::Begin, FULL),
     ],
     history: &[
-        (0, EventKind::Begin { t: 0 }),
-        (0, EventKind::Op { t: 0, x: 0, k: 0 }),
-        (0, EventKind::Begin { t: 1 }),
-        (0, EventKind::Abort { t: 1 }),
-        (0, EventKind::Commit { t: 0 }),
+        (0, Happening::Begin { t: 0 }),
+        (0, Happening::Op { t: 0, x: 0, k: 0 }),
+        (0, Happening::Begin { t: 1 }),
+        (0, Happening::Abort { t: 1 }),
+        (0, Happening::Commit { t: 0 }),
     ],
 };
 

@@ -2,9 +2,9 @@
 //! library's.
 
 use super::objects_of;
-use super::scripts::{Happened, Row, answers, is_closed, store_of};
+use super::scripts::{Happened, Happening, Row, answers, is_closed, store_of};
 use crate::tests::any_objects::replayed::Replayed;
-use object_trait::{EventKind, Recovery};
+use object_trait::Recovery;
 use reference_store::asked::{Ask, Told};
 use std::process::Abort;
 use table_checker::check;
@@ -39,30 +39,30 @@ const ROWS: &[Row] = &[
 
 /// What happened.
 const HISTORY: &[Happened] = &[
-    (0, EventKind::Begin { t: 0 }),
-    (1, EventKind::Begin { t: 1 }),
-    (0, EventKind::Op { t: 0, x: 0, k: 0 }),
-    (1, EventKind::Op { t: 1, x: 0, k: 0 }),
-    (0, EventKind::Op { t: 0, x: 0, k: 0 }),
-    (1, EventKind::None { c: 0, t: 1, x: 0 }),
-    (0, EventKind::Rollback { t: 0, n: 1 }),
+    (0, Happening::Begin { t: 0 }),
+    (1, Happening::Begin { t: 1 }),
+    (0, Happening::Op { t: 0, x: 0, k: 0 }),
+    (1, Happening::Op { t: 1, x: 0, k: 0 }),
+    (0, Happening::Op { t: 0, x: 0, k: 0 }),
+    (1, Happening::None { c: 0, t: 1, x: 0 }),
+    (0, Happening::Rollback { t: 0, n: 1 }),
     (
         1,
-        EventKind::Busy {
+        Happening::Busy {
             c: 1,
             t: 1,
             x: 0,
             u: 0,
         },
     ),
-    (0, EventKind::Abort { t: 0 }),
-    (1, EventKind::Op { t: 1, x: 0, k: 1 }),
-    (1, EventKind::Commit { t: 1 }),
-    (2, EventKind::Begin { t: 2 }),
-    (2, EventKind::Op { t: 2, x: 0, k: 1 }),
-    (2, EventKind::None { c: 1, t: 2, x: 0 }),
-    (2, EventKind::Rollback { t: 2, n: 1 }),
-    (2, EventKind::Commit { t: 2 }),
+    (0, Happening::Abort { t: 0 }),
+    (1, Happening::Op { t: 1, x: 0, k: 1 }),
+    (1, Happening::Commit { t: 1 }),
+    (2, Happening::Begin { t: 2 }),
+    (2, Happening::Op { t: 2, x: 0, k: 1 }),
+    (2, Happening::None { c: 1, t: 2, x: 0 }),
+    (2, Happening::Rollback { t: 2, n: 1 }),
+    (2, Happening::Commit { t: 2 }),
 ];
 
 /// A new counter of four, whose log is run anew.

@@ -3,8 +3,8 @@
 ghost use Rattle.std.specs.Prelude.{◌≡◌, true, [], length};
 
 use super::objects_of;
-use super::scripts::{Happened, are_closed, are_events, store_of};
-use object_trait::{Event, EventKind, Recovery};
+use super::scripts::{Happened, Happening, are_closed, are_events, store_of};
+use object_trait::{Event, Recovery};
 use objects::Object;
 use outputs::OutFault;
 use reference_store::checked_types::Sort;
@@ -79,17 +79,17 @@ end
 
 /// The events of its commands.
 static EVENTS: [Happened; 6] = [
-    (0, EventKind::Begin { t: 0 }),
-    (0, EventKind::Begin { t: 1 }),
-    (0, EventKind::Op { t: 0, x: 0, k: 0 }),
-    (0, EventKind::Op { t: 1, x: 0, k: 0 }),
-    (0, EventKind::Abort { t: 0 }),
-    (0, EventKind::Commit { t: 1 }),
+    (0, Happening::Begin { t: 0 }),
+    (0, Happening::Begin { t: 1 }),
+    (0, Happening::Op { t: 0, x: 0, k: 0 }),
+    (0, Happening::Op { t: 1, x: 0, k: 0 }),
+    (0, Happening::Abort { t: 0 }),
+    (0, Happening::Commit { t: 1 }),
 ];
 
-const ABORT_0: Happened = (0, EventKind::Abort { t: 0 });
+const ABORT_0: Happened = (0, Happening::Abort { t: 0 });
 
-const ABORT_1: Happened = (0, EventKind::Abort { t: 1 });
+const ABORT_1: Happened = (0, Happening::Abort { t: 1 });
 
 /// What `close` appends where this many commands were asked.
 static CLOSING: [&[Happened]; 7] = [

@@ -1,7 +1,6 @@
 //! Runs whose answers, kept states and histories were worked out by hand.
 
-use super::scripts::{Script, are_played};
-use object_trait::EventKind;
+use super::scripts::{Happening, Script, are_played};
 use reference_store::asked::{Ask, Told};
 use test_support::type_texts::{COUNTER, COUNTER_FROM_ONE, ONE_WAY, SEMIQUEUE, TWIN};
 use type_table::Kind;
@@ -25,12 +24,12 @@ const BEFORE_COMMITS: Script = Script {
         (0, Ask::Kept(1), Told::Kept(Some(1))),
     ],
     history: &[
-        (0, EventKind::Begin { t: 0 }),
-        (1, EventKind::Begin { t: 1 }),
-        (0, EventKind::Op { t: 0, x: 0, k: 0 }),
-        (1, EventKind::Op { t: 1, x: 1, k: 0 }),
-        (0, EventKind::Commit { t: 0 }),
-        (1, EventKind::Commit { t: 1 }),
+        (0, Happening::Begin { t: 0 }),
+        (1, Happening::Begin { t: 1 }),
+        (0, Happening::Op { t: 0, x: 0, k: 0 }),
+        (1, Happening::Op { t: 1, x: 1, k: 0 }),
+        (0, Happening::Commit { t: 0 }),
+        (1, Happening::Commit { t: 1 }),
     ],
 };
 
@@ -50,12 +49,12 @@ const BOTH_COMMIT: Script = Script {
         (0, Ask::Kept(0), Told::Kept(Some(1))),
     ],
     history: &[
-        (0, EventKind::Begin { t: 0 }),
-        (0, EventKind::Begin { t: 1 }),
-        (0, EventKind::Op { t: 0, x: 0, k: 0 }),
-        (0, EventKind::Op { t: 1, x: 0, k: 1 }),
-        (0, EventKind::Commit { t: 0 }),
-        (0, EventKind::Commit { t: 1 }),
+        (0, Happening::Begin { t: 0 }),
+        (0, Happening::Begin { t: 1 }),
+        (0, Happening::Op { t: 0, x: 0, k: 0 }),
+        (0, Happening::Op { t: 1, x: 0, k: 1 }),
+        (0, Happening::Commit { t: 0 }),
+        (0, Happening::Commit { t: 1 }),
     ],
 };
 
@@ -73,12 +72,12 @@ const COMMIT_ORDER: Script = Script {
         (0, Ask::Kept(0), Told::Kept(Some(3))),
     ],
     history: &[
-        (0, EventKind::Begin { t: 0 }),
-        (0, EventKind::Begin { t: 1 }),
-        (0, EventKind::Op { t: 0, x: 0, k: 1 }),
-        (0, EventKind::Op { t: 1, x: 0, k: 0 }),
-        (0, EventKind::Commit { t: 1 }),
-        (0, EventKind::Commit { t: 0 }),
+        (0, Happening::Begin { t: 0 }),
+        (0, Happening::Begin { t: 1 }),
+        (0, Happening::Op { t: 0, x: 0, k: 1 }),
+        (0, Happening::Op { t: 1, x: 0, k: 0 }),
+        (0, Happening::Commit { t: 1 }),
+        (0, Happening::Commit { t: 0 }),
     ],
 };
 
@@ -99,15 +98,15 @@ const CARRIED_ON: Script = Script {
         (0, Ask::Kept(0), Told::Kept(Some(4))),
     ],
     history: &[
-        (0, EventKind::Begin { t: 0 }),
-        (0, EventKind::Begin { t: 1 }),
-        (0, EventKind::Op { t: 0, x: 0, k: 0 }),
-        (0, EventKind::Op { t: 1, x: 0, k: 1 }),
-        (0, EventKind::Commit { t: 0 }),
-        (0, EventKind::Commit { t: 1 }),
-        (0, EventKind::Begin { t: 2 }),
-        (0, EventKind::Op { t: 2, x: 0, k: 2 }),
-        (0, EventKind::Commit { t: 2 }),
+        (0, Happening::Begin { t: 0 }),
+        (0, Happening::Begin { t: 1 }),
+        (0, Happening::Op { t: 0, x: 0, k: 0 }),
+        (0, Happening::Op { t: 1, x: 0, k: 1 }),
+        (0, Happening::Commit { t: 0 }),
+        (0, Happening::Commit { t: 1 }),
+        (0, Happening::Begin { t: 2 }),
+        (0, Happening::Op { t: 2, x: 0, k: 2 }),
+        (0, Happening::Commit { t: 2 }),
     ],
 };
 
@@ -128,12 +127,12 @@ const OVER_TWO_OBJECTS: Script = Script {
         (0, Ask::Kept(1), Told::Kept(Some(0))),
     ],
     history: &[
-        (4, EventKind::Begin { t: 0 }),
-        (4, EventKind::Op { t: 0, x: 0, k: 0 }),
-        (4, EventKind::Op { t: 0, x: 1, k: 0 }),
-        (4, EventKind::Op { t: 0, x: 0, k: 0 }),
-        (5, EventKind::Rollback { t: 0, n: 2 }),
-        (4, EventKind::Commit { t: 0 }),
+        (4, Happening::Begin { t: 0 }),
+        (4, Happening::Op { t: 0, x: 0, k: 0 }),
+        (4, Happening::Op { t: 0, x: 1, k: 0 }),
+        (4, Happening::Op { t: 0, x: 0, k: 0 }),
+        (5, Happening::Rollback { t: 0, n: 2 }),
+        (4, Happening::Commit { t: 0 }),
     ],
 };
 
@@ -157,34 +156,34 @@ const HELD: Script = Script {
         (0, Ask::Kept(0), Told::Kept(Some(1))),
     ],
     history: &[
-        (0, EventKind::Begin { t: 0 }),
-        (1, EventKind::Begin { t: 1 }),
-        (1, EventKind::None { t: 1, x: 0, c: 1 }),
-        (0, EventKind::Op { t: 0, x: 0, k: 0 }),
-        (0, EventKind::Op { t: 0, x: 0, k: 0 }),
+        (0, Happening::Begin { t: 0 }),
+        (1, Happening::Begin { t: 1 }),
+        (1, Happening::None { t: 1, x: 0, c: 1 }),
+        (0, Happening::Op { t: 0, x: 0, k: 0 }),
+        (0, Happening::Op { t: 0, x: 0, k: 0 }),
         (
             1,
-            EventKind::Busy {
+            Happening::Busy {
                 t: 1,
                 x: 0,
                 c: 1,
                 u: 0,
             },
         ),
-        (1, EventKind::None { t: 1, x: 0, c: 0 }),
-        (0, EventKind::Rollback { t: 0, n: 1 }),
+        (1, Happening::None { t: 1, x: 0, c: 0 }),
+        (0, Happening::Rollback { t: 0, n: 1 }),
         (
             1,
-            EventKind::Busy {
+            Happening::Busy {
                 t: 1,
                 x: 0,
                 c: 1,
                 u: 0,
             },
         ),
-        (0, EventKind::Commit { t: 0 }),
-        (1, EventKind::Op { t: 1, x: 0, k: 1 }),
-        (1, EventKind::Abort { t: 1 }),
+        (0, Happening::Commit { t: 0 }),
+        (1, Happening::Op { t: 1, x: 0, k: 1 }),
+        (1, Happening::Abort { t: 1 }),
     ],
 };
 
@@ -207,23 +206,23 @@ const TWO_OPERATIONS: Script = Script {
         (0, Ask::Kept(0), Told::Kept(Some(3))),
     ],
     history: &[
-        (0, EventKind::Begin { t: 0 }),
-        (0, EventKind::Begin { t: 1 }),
-        (0, EventKind::None { t: 0, x: 0, c: 2 }),
-        (0, EventKind::Op { t: 0, x: 0, k: 1 }),
+        (0, Happening::Begin { t: 0 }),
+        (0, Happening::Begin { t: 1 }),
+        (0, Happening::None { t: 0, x: 0, c: 2 }),
+        (0, Happening::Op { t: 0, x: 0, k: 1 }),
         (
             0,
-            EventKind::Busy {
+            Happening::Busy {
                 t: 1,
                 x: 0,
                 c: 2,
                 u: 0,
             },
         ),
-        (0, EventKind::Op { t: 1, x: 0, k: 0 }),
-        (0, EventKind::Op { t: 0, x: 0, k: 3 }),
-        (0, EventKind::Abort { t: 0 }),
-        (0, EventKind::Abort { t: 1 }),
+        (0, Happening::Op { t: 1, x: 0, k: 0 }),
+        (0, Happening::Op { t: 0, x: 0, k: 3 }),
+        (0, Happening::Abort { t: 0 }),
+        (0, Happening::Abort { t: 1 }),
     ],
 };
 

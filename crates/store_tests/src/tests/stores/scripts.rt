@@ -2,17 +2,62 @@
 
 use super::objects_of;
 use object_trait::{Event, EventKind, Recovery};
-use reference_store::asked::{Ask, Told, as_told};
+use reference_store::asked::{Ask, Told, as_number, as_told};
 use reference_store::checked_types::Sort;
 use serial_order::Refusal;
 use std::process::Abort;
 use store::{Answer, NewRefusal, Store};
+use type_table::Operation;
 
 /// The worker that calls, its call, and what comes of it.
 pub type Row = (u8, Ask, Told);
 
-/// An event, by its worker and its kind.
-pub type Happened = (u8, EventKind);
+/// What happens at a store, as plain data: an operation is told by its place, and by its amount where it has
+/// one.
+#[derive(Clone, Copy)]
+pub enum Happening {
+    Begin { t: u32 },
+    Op { t: u32, x: u32, k: u8 },
+    OpWith { t: u32, x: u32, k: u8, n: u32 },
+    Busy { c: u8, t: u32, x: u32, u: u32 },
+    None { t: u32, x: u32, c: u8 },
+    Commit { t: u32 },
+    Abort { t: u32 },
+    Rollback { t: u32, n: u32 },
+}
+
+impl Happening {
+    /// The kind of the event that says it.
+    pub fn kind(self) -> EventKind {
+        match self {
+            Happening::Begin { t } => EventKind::Begin { t },
+            Happening::Op { t, x, k } => op_of(t, x, Operation::listed(k)),
+            Happening::OpWith { t, x, k, n } => op_of(t, x, Operation::with(k, n)),
+            Happening::Busy { c, t, x, u } => EventKind::Busy { c, t, x, u },
+            Happening::None { t, x, c } => EventKind::None { t, x, c },
+            Happening::Commit { t } => EventKind::Commit { t },
+            Happening::Abort { t } => EventKind::Abort { t },
+            Happening::Rollback { t, n } => EventKind::Rollback { t, n },
+        }
+    }
+}
+
+/// That t executed operation k at object x.
+fn op_of(t: u32, x: u32, k: Operation) -> EventKind {
+    EventKind::Op { t, x, k }
+}
+
+/// What happened: the worker of an event, and what that says.
+pub type Happened = (u8, Happening);
+
+/// The event of what happened.
+pub fn event_of(happened: &Happened) -> Event {
+    let (worker, happening) = *happened;
+    Event {
+        worker,
+        kind: happening.kind(),
+    }
+}
 
 /// A store, calls of it, and the history at its end.
 pub struct Script {
@@ -49,12 +94,13 @@ pub fn outcome<R: Recovery>(store: &mut Store<R>, w: u8, ask: Ask) -> Told {
     match ask {
         Ask::Begin => begin(store, w),
         Ask::Call(t, x, name) => called(store.call(w, t, x, name)),
-        Ask::Number(t, x, c) => called(store.call_op(w, t, x, c)),
+        Ask::Number(t, x, c) => called(store.call_op(w, t, x, Operation::listed(c))),
+        Ask::NumberWith(t, x, c, n) => called(store.call_op(w, t, x, Operation::with(c, n))),
         Ask::Commit(t) => ended(store.commit(w, t)),
         Ask::Abort(t) => ended(store.abort(w, t)),
         Ask::Rollback(t, n) => ended(store.rollback(w, t, n)),
         Ask::Kept(x) => Told::Kept(store.kept(x)),
-        Ask::NumberOf(x, name) => Told::NumberOf(store.call_of(x, name)),
+        Ask::NumberOf(x, name) => as_number(store.call_of(x, name)),
     }
 }
 
@@ -106,9 +152,8 @@ pub fn store_of<R: Recovery>(
 /// That a history has these events.
 pub fn are_events(rt: &impl Abort, history: &[Event], wanted: &[Happened]) {
     assert!(rt; history.len() == wanted.len());
-    for (event, (worker, kind)) in history.iter().zip(wanted) {
-        assert!(rt; event.worker == *worker);
-        assert!(rt; event.kind == *kind);
+    for (event, happened) in history.iter().zip(wanted) {
+        assert!(rt; *event == event_of(happened));
     }
 }
 

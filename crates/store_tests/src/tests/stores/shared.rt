@@ -10,9 +10,9 @@ use std::alloc::{AllocError, Global};
 use std::process::Abort;
 use std::sync::Arc;
 use store::Store;
-use table_checker::CheckedType;
+use table_checker::{CheckedType, DeclaredType};
 use test_support::type_texts::COUNTER;
-use type_table::{Kind, Op};
+use type_table::{Kind, Operation};
 
 /// An object, and how many owners its type had when the object was made of it, itself among them.
 #[derive(Drop)]
@@ -27,23 +27,31 @@ impl Recovery for Counted {
 
     ghost meaning = { λ c. meaning_of c.object };
 
-    fn ops(&self) -> &[Op] {
-        self.object.ops()
+    fn declared(&self) -> &DeclaredType {
+        self.object.declared()
     }
 
     fn state(&self) -> u32 {
         self.object.state()
     }
 
-    fn legal(&self, t: u32, k: u8) -> bool {
+    fn view(&self, t: u32) -> u32 {
+        self.object.view(t)
+    }
+
+    fn legal(&self, t: u32, k: Operation) -> bool {
         self.object.legal(t, k)
     }
 
-    fn blocker(&self, t: u32, k: u8) -> Option<u32> {
+    fn blocker(&self, t: u32, k: Operation) -> Option<u32> {
         self.object.blocker(t, k)
     }
 
-    fn apply(&mut self, t: u32, k: u8) -> Result<(), AllocError> {
+    fn amount_kept(&self, t: u32, place: u8, u: u32) -> Option<u32> {
+        self.object.amount_kept(t, place, u)
+    }
+
+    fn apply(&mut self, t: u32, k: Operation) -> Result<(), AllocError> {
         self.object.apply(t, k)
     }
 

@@ -21,4 +21,4 @@ returns-in-Number-clause-exact g c =
     let P : Declaration → Type 0 = λ declaration. IsAnswer c.args.kind (file_of declaration) (Ok c.check_number-checked.result) in
     let Q : Declaration → Type 0 = λ declaration. IsDeclaredFor c.args.kind declaration in
     subst P (sym c.in-Number.is)
-    (number_answer c.args.kind c.in-Number.number c.check_number-checked.result (subst Q c.in-Number.is c.requires.fits) c.check_number-checked.ensures.exact c.ops.ensures.checked)
+    (number_answer c.args.kind c.in-Number.number c.check_number-checked.result (subst Q c.in-Number.is c.requires) c.check_number-checked.ensures.exact c.initial-initial.ensures.checked)

@@ -14,7 +14,7 @@ returns-in-Ok g c =
     let Q : Declaration → Type 0 = λ declaration. Comes (SaysOf c.args.kind (file_of declaration)) ⊥ c.put_answer.result (g.W.Out.taken c.args.out.now) (g.W.Out.taken c.put_answer.new.out) in
     let line = c.as_bytes.ensures.value ∙ c.yes_line-line.ensures in
     let file = file_of c.in_ok-declaration.declaration in
-    subst Q c.in_ok-declaration.ensures.same
+    subst Q c.in_ok-declaration.ensures
     (comes _ _ _ _ c.put_answer.result _ _
     (line_says c.args.kind file c.is_strong.result c.as_bytes.result.now (subst P c.in-Ok.ensures.exact.0 c.is_strong.ensures) c.in-Ok.ensures.covers line)
     (λ bad. absurd bad) c.put_answer.ensures.comes)

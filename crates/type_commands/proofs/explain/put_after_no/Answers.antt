@@ -1,7 +1,6 @@
 use Rattle.std.proofs.Common.{sym}
 use Rattle.std.proofs.lemmas.Result.{on_ok_weaker}
-use Rattle.command_files.specs.declared.status.Verdict.TheVariants.{No}
-use Rattle.type_commands.specs.Explain.{pair_as}
+use Rattle.type_commands.specs.Explain.{ExplainsFault, pair_as}
 use Rattle.type_commands.proofs.Explaining.{adds_weaker, by_number, by_table, numeric_reason}
 use Rattle.type_commands.proofs.explain.put_after_no.Goals as goal
 
@@ -11,9 +10,9 @@ put_why_not-requires-clause-first g c = numeric_reason c.args.kind c.args.file.n
 pub returns-in-Some : goal.returns-in-Some
 returns-in-Some g c =
     on_ok_weaker c.put_pairs.result
-    (adds_weaker _ _ _ _ (λ text says. by_table c.args.file.now (pair_as c.args.asked) No text c.args.kind c.in-Some.kind (sym c.in-Some.ensures.exact) says)) c.put_pairs.ensures
+    (adds_weaker _ _ _ _ (λ text says. by_table c.args.file.now (pair_as c.args.asked) (ExplainsFault c.args.file.now.table) text c.args.kind c.in-Some.kind (sym c.in-Some.ensures.exact) says)) c.put_pairs.ensures
 
 pub returns-in-None : goal.returns-in-None
 returns-in-None g c =
     on_ok_weaker c.put_why_not.result
-    (adds_weaker _ _ _ _ (λ text says. by_number c.args.file.now (pair_as c.args.asked) No text c.args.kind (sym c.in-None.ensures.exact) says)) c.put_why_not.ensures
+    (adds_weaker _ _ _ _ (λ text says. by_number c.args.file.now (pair_as c.args.asked) (ExplainsFault c.args.file.now.table) text c.args.kind (sym c.in-None.ensures.exact) says)) c.put_why_not.ensures

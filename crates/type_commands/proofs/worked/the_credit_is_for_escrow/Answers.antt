@@ -15,7 +15,7 @@ is_number =
     record { some_max = some; max_fits = most; initial_inside = initial; amounts = refl; ascending = refl; some_call = any; calls_fit = few }
 
 pub returns-clause-escrow : goal.returns-clause-escrow
-returns-clause-escrow c = (Numbers credit, c.a_text_declares_the_credit.ensures.declared, refl, c.numbers_are_strong.ensures.strong credit is_number refl)
+returns-clause-escrow c = (Numbers credit, c.a_text_declares_the_credit.ensures.declared, refl, c.numbers_are_strong.ensures.strong credit is_number)
 
 pub returns-clause-amiss : goal.returns-clause-amiss
 returns-clause-amiss c = inr (Numbers credit, c.a_text_declares_the_credit.ensures.declared, λ same. let clash = same in cc)

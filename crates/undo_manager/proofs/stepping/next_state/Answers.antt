@@ -8,7 +8,7 @@ next-requires-clause-state c =
     let step = from_state c.args.table.now (next c.args.table.now c.args.s c.args.k) [] c.requires.legal in
     (c.steps_within.ensures c.args.table.now c.args.s c.args.k step.0 c.requires.table step.1).0
 
-pub next-requires-clause-operation : goal.next-requires-clause-operation
-next-requires-clause-operation c =
+pub column-requires : goal.column-requires
+column-requires c =
     let step = from_state c.args.table.now (next c.args.table.now c.args.s c.args.k) [] c.requires.legal in
     (c.steps_within.ensures c.args.table.now c.args.s c.args.k step.0 c.requires.table step.1).1

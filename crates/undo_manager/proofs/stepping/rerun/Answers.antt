@@ -15,24 +15,24 @@ overflow_add-kept c = omega (arith, c.loop-read.invariant.order)
 
 pub next_state-state-requires-clause-legal : goal.next_state-state-requires-clause-legal
 next_state-state-requires-clause-legal c =
-    let isnt : is_open_of c.args.t c.index.result.now.entry ≡ false = sym c.is_open_of.ensures ∙ c.if-not-is_open_of.true in
-    run-next c.args.table.now c.args.t c.args.place c.args.log.now.items c.args.start c.loop-read.log.items c.loop-read.kept c.loop-read.read c.loop-read.state c.index.result.now
-    c.loop-read.invariant (omega (arith, c.args.log.now.ok.0)) c.index.ensures isnt
+    let isnt : is_open_of c.args.t c.index-one.result.now.entry ≡ false = sym c.is_open_of.ensures ∙ c.if-not-is_open_of.true in
+    run-next c.args.table.now c.args.t c.args.place c.args.log.now.items c.args.start c.loop-read.log.items c.loop-read.kept c.loop-read.read c.loop-read.state c.index-one.result.now
+    c.loop-read.invariant (omega (arith, c.args.log.now.ok.0)) c.index-one.ensures isnt
 
 pub loop-read-preserved : goal.loop-read-preserved
 loop-read-preserved c =
     let inside : c.loop-read.read < length c.args.log.now.items = omega (arith, c.args.log.now.ok.0) in
     elim c.if-not-is_open_of.branch [
       | then-not-is_open_of w ↦
-          let isnt : is_open_of c.args.t c.index.result.now.entry ≡ false = sym c.is_open_of.ensures ∙ w.if-not-is_open_of.true in
+          let isnt : is_open_of c.args.t c.index-one.result.now.entry ≡ false = sym c.is_open_of.ensures ∙ w.if-not-is_open_of.true in
           rw (w.log-is, w.kept-is, w.state-is)
-          (run-kept c.args.table.now c.args.t c.args.place c.args.log.now.items c.args.start c.loop-read.log.items c.loop-read.kept c.loop-read.read c.loop-read.state c.index.result.now
-          w.next_state-state.result c.loop-read.invariant inside c.index.ensures isnt w.next_state-state.ensures)
+          (run-kept c.args.table.now c.args.t c.args.place c.args.log.now.items c.args.start c.loop-read.log.items c.loop-read.kept c.loop-read.read c.loop-read.state c.index-one.result.now
+          w.next_state-state.result c.loop-read.invariant inside c.index-one.ensures isnt w.next_state-state.ensures)
       | else-not-is_open_of w ↦
-          let is : is_open_of c.args.t c.index.result.now.entry ≡ true = sym c.is_open_of.ensures ∙ w.if-not-is_open_of.false in
+          let is : is_open_of c.args.t c.index-one.result.now.entry ≡ true = sym c.is_open_of.ensures ∙ w.if-not-is_open_of.false in
           rw (w.log-is, w.kept-is, w.state-is)
-          (run-struck c.args.table.now c.args.t c.args.place c.args.log.now.items c.args.start c.loop-read.log.items c.loop-read.kept c.loop-read.read c.loop-read.state c.index.result.now
-          c.loop-read.invariant inside c.index.ensures is)
+          (run-struck c.args.table.now c.args.t c.args.place c.args.log.now.items c.args.start c.loop-read.log.items c.loop-read.kept c.loop-read.read c.loop-read.state c.index-one.result.now
+          c.loop-read.invariant inside c.index-one.ensures is)
     ]
 
 pub returns : goal.returns

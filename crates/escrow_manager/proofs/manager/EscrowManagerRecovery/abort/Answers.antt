@@ -1,10 +1,10 @@
-use Rattle.std.proofs.Common.{◌≡◌, ◌≤◌, All, List, refl, sym, ap, subst, ◌∙◌, arith}
+use Rattle.std.proofs.Common.{◌≡◌, All, List, refl, sym, ap, subst, ◌∙◌, arith}
 use Rattle.escrow_laws.specs.Marks.{fallen_of, risen_of}
 use Rattle.escrow_laws.specs.declared.mark.OpenMark.{OpenMark}
 use Rattle.object_trait.specs.Strike.{keep_first}
 use Rattle.object_trait.specs.Meaning.{Meaning, is_open_of}
 use Rattle.object_trait.specs.Steps.{Keeps}
-use Rattle.escrow_manager.specs.Numeric.{bounds_in, greatest}
+use Rattle.escrow_manager.specs.Numeric.{greatest}
 use Rattle.escrow_manager.specs.Marks.{without_mark}
 use Rattle.escrow_manager.specs.Totals.{totals_of, IsShort}
 use Rattle.escrow_manager.specs.Kept.{IsKeptInEscrow}

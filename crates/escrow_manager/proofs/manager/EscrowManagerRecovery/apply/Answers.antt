@@ -1,4 +1,4 @@
-use Rattle.std.proofs.Common.{◌≡◌, ◌+◌, ◌<◌, ◌≤◌, ◌++◌, ◌∷◌, [], false, All, List, slice_index_or, Some, length, refl, sym, ap, subst, ◌∙◌, arith}
+use Rattle.std.proofs.Common.{◌≡◌, ◌++◌, ◌∷◌, [], false, All, List, Some, sym, ap, subst, ◌∙◌, arith}
 use Rattle.std.specs.Prelude.{slice_get}
 use Rattle.escrow_laws.specs.Marks.{marked, fallen_of, risen_of}
 use Rattle.escrow_laws.specs.declared.bounded.Bounded.{Bounded}
@@ -19,31 +19,30 @@ use Rattle.escrow_manager.proofs.Blocking.{mark_with}
 use Rattle.escrow_manager.proofs.Changing.{totals_at, applied-kept, kept-told, told-with}
 use Rattle.escrow_manager.proofs.manager.EscrowManagerRecovery.apply.Goals as goal
 
-first_may : (c : goal.After-marked-arg-1) → MayApply (meant c.self.inside) c.args.t c.args.k
+first_may : (c : goal.After-bounded) → MayApply (meant c.self.inside) c.args.t c.args.k
 first_may c = subst (λ (m : Meaning). MayApply m c.args.t c.args.k) (sym c.self.view_is) c.requires
 
 -- the bounds of k
-abbrev first_op : goal.After-marked-arg-1 → Bounded
-first_op c = slice_index_or c.bounds.result.now c.from.result (record { low = 0; high = 0; gives = 0; takes = 0 })
+abbrev first_op : goal.After-bounded → Bounded
+first_op c = c.bounded.result
 
-first_found : (c : goal.After-marked-arg-1) → slice_get (bounds_in c.self.inside.checked.value) c.args.k ≡ Some (first_op c)
+first_found : (c : goal.After-bounded) → slice_get (bounds_in c.self.inside.checked.value) c.args.k ≡ Some (first_op c)
 first_found c =
     let checked : Checked = c.self.inside.checked.value in
-    op-found (bounds_in checked) c.bounds.result.now c.args.k c.from.result (length checked.file.table.ops) (record { low = 0; high = 0; gives = 0; takes = 0 })
-    (c.bounds.ensures.exact (ap (λ (x : Checked). x.kind) c.deref-2.ensures ∙ c.self.invariant.numeric.escrow) ∙ ap (λ (x : Checked). (bounds_in x)) c.deref-2.ensures) c.from.ensures (first_may c).operation c.self.invariant.numeric.count
+    op-found checked c.deref-2.result.now c.args.k c.bounded.result c.deref-2.ensures c.bounded.ensures
 
-first_top_is : (c : goal.After-marked-arg-1) → c.greatest-top.result ≡ greatest c.self.inside.checked.value
+first_top_is : (c : goal.After-bounded) → c.greatest-top.result ≡ greatest c.self.inside.checked.value
 first_top_is c = c.greatest-top.ensures.exact ∙ ap greatest c.deref.ensures
 
-first_old_is : (c : goal.After-marked-arg-1) → c.mark_at-old.result ≡ mark_in (greatest c.self.inside.checked.value) c.args.t c.self.inside.marks.items
+first_old_is : (c : goal.After-bounded) → c.mark_at-old.result ≡ mark_in (greatest c.self.inside.checked.value) c.args.t c.self.inside.marks.items
 first_old_is c =
     c.mark_at-old.ensures ∙ ap (λ n. mark_in n c.args.t c.reserve-2.new.self.items) (first_top_is c)
     ∙ ap (mark_in (greatest c.self.inside.checked.value) c.args.t) c.in_ok-reserve-2.ensures.items
 
-first_exact : (c : goal.After-marked-arg-1) → c.mark_at-old.result ≡ mark_at (meant c.self.inside) c.args.t
+first_exact : (c : goal.After-bounded) → c.mark_at-old.result ≡ mark_at (meant c.self.inside) c.args.t
 first_exact c = first_old_is c ∙ c.self.invariant.listed.exact c.args.t
 
-first_small : (c : goal.After-marked-arg-1) → IsSmall (greatest c.self.inside.checked.value) c.mark_at-old.result (first_op c)
+first_small : (c : goal.After-bounded) → IsSmall (greatest c.self.inside.checked.value) c.mark_at-old.result (first_op c)
 first_small c =
     subst (λ x. IsSmall (greatest c.self.inside.checked.value) x (first_op c)) (sym (first_exact c))
     (small-of c.self.invariant c.marks_are_exact.ensures c.marks_fit.ensures c.firm_is_legal.ensures c.args.t c.args.k (first_op c) (first_found c) (first_may c).legal)
@@ -76,13 +75,12 @@ may c = subst (λ (m : Meaning). MayApply m c.args.t c.args.k) (sym c.self.view_
 
 -- the bounds of k
 abbrev op : goal.After-after-arg-2-1 → Bounded
-op c = slice_index_or c.bounds.result.now c.from.result (record { low = 0; high = 0; gives = 0; takes = 0 })
+op c = c.bounded.result
 
 found : (c : goal.After-after-arg-2-1) → slice_get (bounds_in c.self.inside.checked.value) c.args.k ≡ Some (op c)
 found c =
     let checked : Checked = c.self.inside.checked.value in
-    op-found (bounds_in checked) c.bounds.result.now c.args.k c.from.result (length checked.file.table.ops) (record { low = 0; high = 0; gives = 0; takes = 0 })
-    (c.bounds.ensures.exact (ap (λ (x : Checked). x.kind) c.deref-2.ensures ∙ c.self.invariant.numeric.escrow) ∙ ap (λ (x : Checked). (bounds_in x)) c.deref-2.ensures) c.from.ensures (may c).operation c.self.invariant.numeric.count
+    op-found checked c.deref-2.result.now c.args.k c.bounded.result c.deref-2.ensures c.bounded.ensures
 
 top_is : (c : goal.After-after-arg-2-1) → c.greatest-top.result ≡ greatest c.self.inside.checked.value
 top_is c = c.greatest-top.ensures.exact ∙ ap greatest c.deref.ensures

@@ -1,4 +1,4 @@
-use Rattle.std.proofs.Common.{◌≡◌, ◌+◌, ◌<◌, slice_index_or, Some, length, sym, ap, subst, ◌∙◌, arith}
+use Rattle.std.proofs.Common.{◌≡◌, ◌<◌, Some, sym, ap, subst, ◌∙◌, arith}
 use Rattle.std.specs.Prelude.{slice_get}
 use Rattle.escrow_laws.specs.Marks.{marked}
 use Rattle.escrow_laws.specs.declared.bounded.Bounded.{Bounded}
@@ -16,20 +16,18 @@ use Rattle.escrow_manager.proofs.Blocking.{mark_with, totals_after, first_of, st
 use Rattle.escrow_manager.proofs.manager.EscrowManagerRecovery.blocker.Goals as goal
 
 -- the bounds of k
-abbrev op : goal.After-marked-arg-1 → Bounded
-op c = slice_index_or c.bounds.result.now c.from.result (record { low = 0; high = 0; gives = 0; takes = 0 })
+abbrev op : goal.After-bounded → Bounded
+op c = c.bounded.result
 
-found : (c : goal.After-marked-arg-1) → slice_get (bounds_in c.self.inside.checked.value) c.args.k ≡ Some (op c)
+found : (c : goal.After-bounded) → slice_get (bounds_in c.self.inside.checked.value) c.args.k ≡ Some (op c)
 found c =
     let checked : Checked = c.self.inside.checked.value in
-    op-found (bounds_in checked) c.bounds.result.now c.args.k c.from.result (length checked.file.table.ops) (record { low = 0; high = 0; gives = 0; takes = 0 })
-    (c.bounds.ensures.exact (ap (λ (x : Checked). x.kind) c.deref.ensures ∙ c.self.invariant.numeric.escrow) ∙ ap (λ (x : Checked). (bounds_in x)) c.deref.ensures) c.from.ensures
-    (subst (λ (m : Meaning). c.args.k < length m.checked.file.table.ops) (sym c.self.view_is) c.requires.operation) c.self.invariant.numeric.count
+    op-found checked c.deref.result.now c.args.k c.bounded.result c.deref.ensures c.bounded.ensures
 
-exact : (c : goal.After-marked-arg-1) → c.mark_of-old.result ≡ mark_at (meant c.self.inside) c.args.t
+exact : (c : goal.After-bounded) → c.mark_of-old.result ≡ mark_at (meant c.self.inside) c.args.t
 exact c = c.mark_of-old.ensures ∙ ap (λ (m : Meaning). mark_at m c.args.t) (sym c.self.view_is)
 
-small : (c : goal.After-marked-arg-1) → IsSmall (greatest c.self.inside.checked.value) c.mark_of-old.result (op c)
+small : (c : goal.After-bounded) → IsSmall (greatest c.self.inside.checked.value) c.mark_of-old.result (op c)
 small c =
     subst (λ x. IsSmall (greatest c.self.inside.checked.value) x (op c)) (sym (exact c))
     (small-of c.self.invariant c.marks_are_exact.ensures c.marks_fit.ensures c.firm_is_legal.ensures c.args.t c.args.k (op c) (found c)

@@ -1,9 +1,9 @@
-use Rattle.std.proofs.Common.{◌≡◌, ◌≤◌, All, List, Some, refl, sym, ap, subst, ◌∙◌, arith}
+use Rattle.std.proofs.Common.{◌≡◌, All, List, Some, sym, ap, subst, ◌∙◌, arith}
 use Rattle.escrow_laws.specs.Marks.{fallen_of, risen_of}
 use Rattle.escrow_laws.specs.declared.mark.OpenMark.{OpenMark}
 use Rattle.object_trait.specs.Meaning.{Meaning, view_of}
 use Rattle.object_trait.specs.Steps.{IsCommit}
-use Rattle.escrow_manager.specs.Numeric.{bounds_in, greatest}
+use Rattle.escrow_manager.specs.Numeric.{greatest}
 use Rattle.escrow_manager.specs.Marks.{without_mark}
 use Rattle.escrow_manager.specs.Totals.{totals_of, IsShort}
 use Rattle.escrow_manager.specs.Kept.{IsKeptInEscrow}
@@ -13,7 +13,7 @@ use Rattle.escrow_manager.proofs.manager.EscrowManagerRecovery.commit.Goals as g
 
 -- what t sees
 seen : (c : goal.After-greatest) → view_of (meant c.self.inside) c.args.t ≡ Some c.seen-self-inside.result
-seen c = ap (λ (m : Meaning). view_of m c.args.t) c.self.view_is ∙ c.seen-self-inside.ensures
+seen c = ap (λ (m : Meaning). view_of m c.args.t) c.self.view_is ∙ c.seen-self-inside.ensures.exact
 
 kept : (c : goal.After-greatest) →
     IsKeptInEscrow (committed (meant c.self.inside) c.seen-self-inside.result c.take_out.new.log.items) (without_mark c.args.t c.self.inside.marks.items)

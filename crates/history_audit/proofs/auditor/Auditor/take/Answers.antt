@@ -1,8 +1,8 @@
-use Rattle.std.proofs.Common.{List, map, None, Some, subst}
+use Rattle.std.proofs.Common.{List, map, subst}
 use Rattle.table_checker.specs.Declarations.{table_of}
 use Rattle.history_audit.specs.Judged.{IsHanded}
 use Rattle.history_audit.specs.SerialRun.{ReplaysFrom}
-use Rattle.history_audit.specs.declared.operation.Operation.{Operation}
+use Rattle.history_audit.specs.declared.executed.Executed.{Executed}
 use Rattle.history_audit.proofs.Audited.{other-run, commit-run}
 use Rattle.history_audit.proofs.auditor.Auditor.take.Goals as goal
 
@@ -26,5 +26,5 @@ returns-in-Ok c =
       judged = said.0;
       serial = commit-run c.summary_after.ensures c.own_after.ensures tables c.args.events.now c.args.at c.runs_along.ensures c.in-Ok-Some.committed old new c.requires.so_far.serial
           (subst (IsHanded tables c.args.events.now c.args.at) c.in-Ok-Some.field-0-is said.1) c.in-Ok.ensures.states
-          (subst (λ (its : List Operation). ReplaysFrom old.illegal tables c.in-Ok-Some.committed.number its old new) c.as_slice-operations.ensures c.in-Ok.ensures.runs);
+          (subst (λ (its : List Executed). ReplaysFrom old.illegal tables c.in-Ok-Some.committed.number its old new) c.as_slice-operations.ensures c.in-Ok.ensures.runs);
     }

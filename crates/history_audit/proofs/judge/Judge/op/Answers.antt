@@ -12,7 +12,7 @@ returns-clause-judged c =
           rw (w.result-is)
           (op_taken c.moved_rows_agree.ensures _ c.args.self.now c.add.new.self c.args.t _
           (there c.self.inside.rows c.args.self.now c.args.t c.self.view_is (sym c.if-not-is_open.ensures))
-          c.args.operation.x c.args.operation.k (search rules)
-          (w.in-Ok.ensures.ok ∙ ap (λ rows. set rows c.args.t (Some (its_of (row c.self.inside.rows c.args.t) ++ c.args.operation ∷ []))) c.self.view_is))
+          c.args.x c.args.k (search rules)
+          (w.in-Ok.ensures.ok ∙ ap (λ rows. set rows c.args.t (Some (its_of (row c.self.inside.rows c.args.t) ++ (record { x = c.args.x; k = c.args.k }) ∷ []))) c.self.view_is))
       | in-Err w ↦ rw (w.result-is) refl
     ]

@@ -5,9 +5,9 @@ use Rattle.history_audit.proofs.judge.Judge.unanswered.Goals as goal
 pub returns-clause-busy : goal.returns-clause-busy
 returns-clause-busy c =
     λ u. busy_taken c.moved_rows_agree.ensures _ c.args.self.now c.args.self.now c.args.t _
-    (there c.self.inside.rows c.args.self.now c.args.t c.self.view_is (sym c.if-not-is_open.ensures)) c.args.operation.k c.args.operation.x u (search rules) refl
+    (there c.self.inside.rows c.args.self.now c.args.t c.self.view_is (sym c.if-not-is_open.ensures)) c.args.place c.args.x u (search rules) refl
 
 pub returns-clause-none : goal.returns-clause-none
 returns-clause-none c =
     none_taken c.moved_rows_agree.ensures _ c.args.self.now c.args.self.now c.args.t _
-    (there c.self.inside.rows c.args.self.now c.args.t c.self.view_is (sym c.if-not-is_open.ensures)) c.args.operation.x c.args.operation.k (search rules) refl
+    (there c.self.inside.rows c.args.self.now c.args.t c.self.view_is (sym c.if-not-is_open.ensures)) c.args.x c.args.place (search rules) refl

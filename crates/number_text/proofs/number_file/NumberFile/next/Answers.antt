@@ -1,44 +1,39 @@
-use Rattle.std.proofs.Common.{◌≡◌, ℕ, List, Option, Some, slice_get, sym, ap, ◌∙◌, arith}
-use Rattle.std.specs.List.{flat_map}
-use Rattle.escrow_laws.specs.Bounds.{moved_by}
-use Rattle.escrow_laws.specs.declared.bounded.Bounded.{Bounded}
-use Rattle.number_text.specs.NumberFile.{Number}
-use Rattle.number_text.specs.Operations.{bounds_of_call, number_bounds}
-use Rattle.number_text.specs.declared.number_call.NumberCall.{NumberCall}
-use Rattle.number_text.proofs.Tables.{moved_inside}
+use Rattle.std.proofs.Common.{◌+◌, ◌≤◌, sym, subst, ap, ◌∙◌, arith}
+use Rattle.escrow_laws.specs.Bounds.{moved}
+use Rattle.number_text.specs.Operations.{IsAmountOf, op_bounds}
+use Rattle.number_text.proofs.Tables.{amounts_fit, done_is, bounds_within, next_of_op, next_of_none, moved_inside}
 use Rattle.number_text.proofs.number_file.NumberFile.next.Goals as goal
 
--- the bounds that were found of these parts are those of the number's operation
-found : (v : Number) (k m : ℕ) (calls : List NumberCall) (got : Option Bounded) (op : Bounded) → m ≡ v.max → calls ≡ v.calls
-    → got ≡ slice_get (flat_map (bounds_of_call m) calls) k → got ≡ Some op → slice_get (number_bounds v) k ≡ Some op
-found v k m calls got op at-max at-calls said is =
-    ap (λ n. slice_get (flat_map (bounds_of_call n) v.calls) k) (sym at-max)
-    ∙ ap (λ (cs : List NumberCall). slice_get (flat_map (bounds_of_call m) cs) k) (sym at-calls) ∙ sym said ∙ is
+pub bounds-requires : goal.bounds-requires
+bounds-requires c =
+    subst (λ max. IsAmountOf max c.in-Some.op) (sym c.max.ensures)
+    (amounts_fit c.args.self.now c.args.k c.in-Some.op c.calls-calls.ensures.number (done_is c.args.self.now c.args.k c.in-Some.op (sym c.op_done.ensures ∙ c.in-Some.is)))
 
 pub moved-requires-clause-enough : goal.moved-requires-clause-enough
 moved-requires-clause-enough c =
-    let v = c.args.self.now in
-    let there = found v c.args.k c.max.result c.calls.result.now c.bounded_at.result c.in-Some.op c.max.ensures c.calls.ensures.exact c.bounded_at.ensures c.in-Some.is in
-    ((c.number_has_table.ensures v c.calls.ensures.number c.requires).within c.args.k c.in-Some.op there).enough
+    let fits = amounts_fit c.args.self.now c.args.k c.in-Some.op c.calls-calls.ensures.number (done_is c.args.self.now c.args.k c.in-Some.op (sym c.op_done.ensures ∙ c.in-Some.is)) in
+    subst (λ b. b.takes ≤ b.low) (ap (λ max. op_bounds max c.in-Some.op) (sym c.max.ensures) ∙ sym c.bounds.ensures) (bounds_within c.args.self.now.max c.in-Some.op fits).enough
 
 pub moved-requires-clause-room : goal.moved-requires-clause-room
 moved-requires-clause-room c =
     let v = c.args.self.now in
-    let there = found v c.args.k c.max.result c.calls.result.now c.bounded_at.result c.in-Some.op c.max.ensures c.calls.ensures.exact c.bounded_at.ensures c.in-Some.is in
-    let room = ((c.number_has_table.ensures v c.calls.ensures.number c.requires).within c.args.k c.in-Some.op there).room in
-    let max = c.calls.ensures.number.max_fits in
-    omega (arith, room, max)
+    let fits = amounts_fit v c.args.k c.in-Some.op c.calls-calls.ensures.number (done_is v c.args.k c.in-Some.op (sym c.op_done.ensures ∙ c.in-Some.is)) in
+    let room = (bounds_within v.max c.in-Some.op fits).room in
+    let max = c.calls-calls.ensures.number.max_fits in
+    subst (λ b. b.high + b.gives ≤ 4294967295 + b.takes) (ap (λ m. op_bounds m c.in-Some.op) (sym c.max.ensures) ∙ sym c.bounds.ensures) (omega (arith, room, max))
 
 pub returns-in-Some-clause-exact : goal.returns-in-Some-clause-exact
 returns-in-Some-clause-exact c =
     let v = c.args.self.now in
-    let there = found v c.args.k c.max.result c.calls.result.now c.bounded_at.result c.in-Some.op c.max.ensures c.calls.ensures.exact c.bounded_at.ensures c.in-Some.is in
-    let bounds = c.number_has_table.ensures v c.calls.ensures.number c.requires in
-    c.moved.ensures ∙ sym (bounds.steps c.args.number c.args.k ∙ ap (λ (o : Option Bounded). moved_by o c.args.number) there)
+    c.moved.ensures ∙ ap (λ b. moved b c.args.number) (c.bounds.ensures ∙ ap (λ m. op_bounds m c.in-Some.op) c.max.ensures)
+    ∙ sym (next_of_op c.number_has_table.ensures v c.args.number c.args.k c.in-Some.op c.calls-calls.ensures.number (sym c.op_done.ensures ∙ c.in-Some.is))
 
 pub returns-in-Some-clause-inside : goal.returns-in-Some-clause-inside
 returns-in-Some-clause-inside c =
     let v = c.args.self.now in
-    let there = found v c.args.k c.max.result c.calls.result.now c.bounded_at.result c.in-Some.op c.max.ensures c.calls.ensures.exact c.bounded_at.ensures c.in-Some.is in
-    let within = (c.number_has_table.ensures v c.calls.ensures.number c.requires).within c.args.k c.in-Some.op there in
-    moved_inside v.max c.in-Some.op c.args.number within c.moved.result c.moved.ensures
+    let fits = amounts_fit v c.args.k c.in-Some.op c.calls-calls.ensures.number (done_is v c.args.k c.in-Some.op (sym c.op_done.ensures ∙ c.in-Some.is)) in
+    moved_inside v.max (op_bounds v.max c.in-Some.op) c.args.number (bounds_within v.max c.in-Some.op fits) c.moved.result
+    (c.moved.ensures ∙ ap (λ b. moved b c.args.number) (c.bounds.ensures ∙ ap (λ m. op_bounds m c.in-Some.op) c.max.ensures))
+
+pub returns-in-None-clause-exact : goal.returns-in-None-clause-exact
+returns-in-None-clause-exact c = sym (next_of_none c.number_has_table.ensures c.args.self.now c.args.number c.args.k c.calls-calls.ensures.number (sym c.op_done.ensures ∙ c.in-None.is))

@@ -21,7 +21,7 @@ pub next_state-state-requires-clause-legal : goal.next_state-state-requires-clau
 next_state-state-requires-clause-legal c =
     let m = c.self.inside in
     let may = rw (← c.self.view_is) at c.requires in
-    rw (c.table.ensures, c.deref.ensures) (legal-next (m.checked.value) m.base m.state m.log.items m.opened.items c.args.t c.args.k c.self.invariant.0 may.legal)
+    rw (c.table-2.ensures, c.deref-2.ensures) (legal-next (m.checked.value) m.base m.state m.log.items m.opened.items c.args.t c.args.k c.self.invariant.0 may.legal)
 
 pub append-requires-clause-fits : goal.append-requires-clause-fits
 append-requires-clause-fits c =
@@ -33,12 +33,13 @@ pub invariant_of-self-2 : goal.invariant_of-self-2
 invariant_of-self-2 c =
     let m = c.self.inside in
     let may = rw (← c.self.view_is) at c.requires in
-    let step = rw (c.table.ensures, c.deref.ensures) at c.next_state-state.ensures in
+    let step = rw (c.table-2.ensures, c.deref-2.ensures) at c.next_state-state.ensures in
     let one : UndoEntry = record { entry = record { by = c.args.t; op = c.args.k; done = false }; before = m.state } in
     rw c.in_ok-append.ensures.log (
       applied-kept c.steps_within.ensures c.sound_after_apply.ensures m.checked.value m.base m.state m.log.items m.opened.items c.append.new.counts.items c.args.t c.args.k c.next_state-state.result
           c.self.invariant.0 may step c.in_ok-append.ensures.counts,
-      c.hold.ensures.list ∙ ap (λ (V : List Held). V ++ (record { by = c.args.t; op = c.args.k }) ∷ []) (c.in_ok-reserve.ensures.list ∙ c.self.invariant.1)
+      c.hold.ensures.list ∙ ap (λ k. c.reserve.new.self.held ++ (record { by = c.args.t; op = k }) ∷ []) c.column-column.ensures
+          ∙ ap (λ (V : List Held). V ++ (record { by = c.args.t; op = c.args.k }) ∷ []) (c.in_ok-reserve.ensures.list ∙ c.self.invariant.1)
           ∙ sym (held-push (entries m.log.items) c.args.t c.args.k) ∙ ap held_in (sym (entries-append m.log.items (one ∷ []))),
     )
 

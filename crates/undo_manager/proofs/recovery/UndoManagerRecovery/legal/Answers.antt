@@ -4,13 +4,13 @@ use Rattle.table_checker.specs.Checked.{Checked}
 use Rattle.table_checker.specs.Declarations.{IsByTable}
 use Rattle.undo_manager.proofs.recovery.UndoManagerRecovery.legal.Goals as goal
 
-pub table-requires : goal.table-requires
-table-requires c = subst IsByTable (sym (ap (λ (x : Checked). x.kind) c.deref.ensures ∙ c.self.invariant.0.in_place)) tt
+pub table-table-requires : goal.table-table-requires
+table-table-requires c = subst IsByTable (sym (ap (λ (x : Checked). x.kind) c.deref.ensures ∙ c.self.invariant.0.in_place)) tt
 
 pub returns : goal.returns
 returns c =
     let m = c.self.inside in
-    let same = rw (c.table.ensures, c.deref.ensures) at c.next.ensures.exact in
+    let same = rw (c.table-table.ensures, c.deref.ensures, c.column.ensures) at c.next.ensures.exact in
     rw (← c.self.view_is) (
       λ yes. legal-for (m.checked.value) m.base m.state m.log.items m.opened.items c.args._t c.args.k c.self.invariant.0 (ap is_some (sym same) ∙ (sym c.is_some.ensures ∙ yes)),
       λ legal. c.is_some.ensures ∙ (ap is_some same ∙ legal-next (m.checked.value) m.base m.state m.log.items m.opened.items c.args._t c.args.k c.self.invariant.0 legal),

@@ -12,6 +12,6 @@ loop-place-preserved c =
     let low : place < length log = omega (arith, c.loop-place-test.true, c.len.ensures, c.loop-place.log.ok.0) in
     record {
       marked =
-          mark-step c.args.t place log (map (marked c.args.t) c.args.log.now.items) c.marked.result one low (c.marked.ensures ∙ ap (marked c.args.t) c.index.ensures) c.loop-place.invariant.marked;
-      inside = omega (arith, low, length-set log place c.marked.result);
+          mark-step c.args.t place log (map (marked c.args.t) c.args.log.now.items) c.marked-one.result one low (c.marked-one.ensures ∙ ap (marked c.args.t) c.index.ensures) c.loop-place.invariant.marked;
+      inside = omega (arith, low, length-set log place c.marked-one.result);
     }

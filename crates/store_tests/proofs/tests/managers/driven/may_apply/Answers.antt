@@ -1,6 +1,5 @@
-use Rattle.std.proofs.Common.{◌≡◌, ◌<◌, ◌∙◌, false, not, length, List, is_some, sym, ap, subst, arith}
-use Rattle.type_table.specs.declared.op.Op.{Op}
-use Rattle.object_trait.specs.Steps.{stops, stopper}
+use Rattle.std.proofs.Common.{◌≡◌, ◌<◌, ◌∙◌, false, length, List, is_some, sym, ap, subst, arith}
+use Rattle.object_trait.specs.Steps.{stops}
 use Rattle.object_trait.specs.declared.log_entry.LogEntry.{LogEntry}
 use Rattle.store_tests.proofs.Blocking.{unstopped}
 use Rattle.store_tests.proofs.tests.managers.driven.may_apply.Goals as goal
@@ -8,11 +7,10 @@ use Rattle.store_tests.proofs.tests.managers.driven.may_apply.Goals as goal
 pub returns-then-legal : goal.returns-then-legal
 returns-then-legal g c = λ yes.
     let m = g.R.Recovery.meaning c.args.object.now in
-    let low : c.args.k < length c.ops.result.now = omega (arith, c.if-from-ops.false, c.from.ensures) in
     let few : length c.args.log.now.items < 4294967295 = omega (arith, c.if-len-ge-MOST_ENTRIES.false, c.len.ensures) in
     let none : is_some c.blocker.result ≡ false = grind (arith, c.is_none.ensures, yes) in
     record {
-      operation = subst (λ (ops : List Op). c.args.k < length ops) c.ops.ensures.exact low;
+      operation = c.has.ensures c.if-not-has.false;
       legal = c.legal.ensures.0 c.if-legal.true;
       free = unstopped (stops m c.args.t c.args.k) c.args.t m.log (ap is_some (sym c.blocker.ensures) ∙ none);
       room = subst (λ (log : List LogEntry). length log < 4294967295) (sym c.requires) few;

@@ -1,0 +1,11 @@
+use Rattle.std.proofs.Common.{◌≤◌, length, subst, sym, ◌∙◌}
+use Rattle.table_checker.specs.Declarations.{table_of}
+use Rattle.table_checker.specs.declared.declared_type.Declaration.{Declaration}
+use Rattle.colock_c.specs.Operations.{operation_count}
+use Rattle.colock_c.proofs.Numbered.{few_of_number}
+use Rattle.colock_c.proofs.operations.known.Goals as goal
+
+pub returns-in-Number-clause-few : goal.returns-in-Number-clause-few
+returns-in-Number-clause-few c =
+    subst (λ (d : Declaration). length (table_of d).ops ≤ operation_count) (sym c.in-Number.is ∙ c.declaration.ensures)
+    (few_of_number c.in-Number.number c.calls-calls.ensures.number)

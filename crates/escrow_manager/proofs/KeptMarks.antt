@@ -1,0 +1,137 @@
+-- Who keeps a transaction from an operation that takes or gives an amount, by the amount. Numbers alone.
+use Rattle.std.proofs.Common.{◌≡◌, ℕ, ◌+◌, ◌-◌, ◌<◌, ◌≤◌, Bool, true, false, ltb, ◌||◌, refl, inl, inr, arith}
+use Rattle.std.specs.Prelude.{nat_le, nat_lt}
+use Rattle.std.proofs.lemmas.Bool.{cases_lt, and_from, and_left, and_right, le-leb, lt-leb, lt-ltb, le-ltb}
+use Rattle.escrow_laws.specs.Marks.{marked, FitsIn, is_legal_from, is_low, is_high, mark_keeps}
+use Rattle.escrow_laws.specs.declared.bounded.Bounded.{Bounded}
+use Rattle.escrow_laws.specs.declared.mark.Mark.{Mark}
+use Rattle.number_text.specs.Operations.{taking, giving, reading}
+use Rattle.escrow_manager.specs.Totals.{need_of, limit_of}
+
+-- ---- what is legal from a number
+
+legal-is : (x : Mark) (s : ℕ) → x.floor ≤ s → s < x.ceiling → is_legal_from x s ≡ true
+legal-is x s low high = and_from (nat_le x.floor s) (nat_lt s x.ceiling) (le-leb x.floor s low) (lt-ltb s x.ceiling high)
+
+legal-under : (x : Mark) (s : ℕ) → s < x.floor → is_legal_from x s ≡ false
+legal-under x s under = and_left (nat_le x.floor s) (nat_lt s x.ceiling) (lt-leb x.floor s under)
+
+legal-over : (x : Mark) (s : ℕ) → x.ceiling ≤ s → is_legal_from x s ≡ false
+legal-over x s over = and_right (nat_le x.floor s) (nat_lt s x.ceiling) (le-ltb s x.ceiling over)
+
+-- ---- who keeps t, by what is legal from the lowest and from the highest number
+
+module _ (base fallen risen : ℕ) (t u : Mark) where
+  by-low : (m n : ℕ) → is_low base fallen t ≡ true → is_high base risen t ≡ true → is_high base risen u ≡ true → (m < n → is_low base fallen u ≡ false) → (n ≤ m → is_low base fallen u ≡ true) →
+      mark_keeps base fallen risen t u ≡ ltb m n
+  by-low m n low high high_u fails holds = elim (cases_lt m n) [
+    | inl below ↦ rw (low, high, high_u, fails below, lt-ltb m n below) refl
+    | inr above ↦ rw (low, high, high_u, holds above, le-ltb m n above) refl
+  ]
+
+  by-high : (m n : ℕ) → is_low base fallen t ≡ true → is_high base risen t ≡ true → is_low base fallen u ≡ true → (m < n → is_high base risen u ≡ false) → (n ≤ m → is_high base risen u ≡ true) →
+      mark_keeps base fallen risen t u ≡ ltb m n
+  by-high m n low high low_u fails holds = elim (cases_lt m n) [
+    | inl below ↦ rw (low, high, low_u, fails below, lt-ltb m n below) refl
+    | inr above ↦ rw (low, high, low_u, holds above, le-ltb m n above) refl
+  ]
+
+  by-nobody : is_low base fallen t ≡ true → is_high base risen t ≡ true → is_low base fallen u ≡ true → is_high base risen u ≡ true → mark_keeps base fallen risen t u ≡ false
+  by-nobody low high low_u high_u = rw (low, high, low_u, high_u) refl
+
+  by-falling : is_low base fallen t ≡ false → is_high base risen t ≡ true → mark_keeps base fallen risen t u ≡ nat_lt 0 u.fall
+  by-falling low high = rw (low, high) (or_none (nat_lt 0 u.fall))
+    where
+      or_none : (b : Bool) → (b || false) ≡ b
+      or_none true = refl
+      or_none false = refl
+
+  by-rising : is_low base fallen t ≡ true → is_high base risen t ≡ false → mark_keeps base fallen risen t u ≡ nat_lt 0 u.rise
+  by-rising low high = rw (low, high) refl
+
+-- ---- with an operation
+
+-- what is known of a mark where all is firm, and all together fall and rise so far
+pub record IsFirmAt (base fallen risen : ℕ) (x : Mark) : Type 0 where
+  pub needed : fallen + need_of x ≤ base
+  pub limit : base + risen < limit_of x
+  pub fall : x.fall ≤ fallen
+  pub rise : x.rise ≤ risen
+
+-- who has the mark u keeps who has the mark t from an operation of these bounds
+abbrev pub keeps_from : ℕ → ℕ → ℕ → Mark → Bounded → Mark → Bool
+keeps_from base fallen risen t b u = mark_keeps base ((fallen - t.fall) + (marked t b).fall) ((risen - t.rise) + (marked t b).rise) (marked t b) u
+
+module _ (base top fallen risen : ℕ) (t u : Mark) (fits : FitsIn top base t) (firm : IsFirmAt base fallen risen t) (other : IsFirmAt base fallen risen u) (room : base + risen ≤ top) where
+  -- from a take, up to where t's operations are no longer legal where all have fallen: who falls too far for himself
+  pub takes-within : (n : ℕ) → n + fallen ≤ base + t.above → keeps_from base fallen risen t (taking n top n) u ≡ ltb (base + t.above + u.fall) (n + fallen + u.floor)
+  takes-within n few =
+      let x : Mark = marked t (taking n top n) in
+      by-low base ((fallen - t.fall) + x.fall) ((risen - t.rise) + x.rise) x u (base + t.above + u.fall) (n + fallen + u.floor)
+      (legal-is x (base - (((fallen - t.fall) + x.fall) - x.fall)) (omega arith) (omega arith))
+      (legal-is x (base + (((risen - t.rise) + x.rise) - x.rise)) (omega arith) (omega arith))
+      (legal-is u (base + (((risen - t.rise) + x.rise) - u.rise)) (omega arith) (omega arith))
+      (λ below. legal-under u (base - (((fallen - t.fall) + x.fall) - u.fall)) (omega arith))
+      (λ above. legal-is u (base - (((fallen - t.fall) + x.fall) - u.fall)) (omega arith) (omega arith))
+
+  -- beyond that: who falls
+  pub takes-beyond : (n : ℕ) → base + t.above < n + fallen → n + t.fall ≤ base + t.above → keeps_from base fallen risen t (taking n top n) u ≡ ltb 0 u.fall
+  takes-beyond n many legal =
+      let x : Mark = marked t (taking n top n) in
+      by-falling base ((fallen - t.fall) + x.fall) ((risen - t.rise) + x.rise) x u
+      (legal-under x (base - (((fallen - t.fall) + x.fall) - x.fall)) (omega arith))
+      (legal-is x (base + (((risen - t.rise) + x.rise) - x.rise)) (omega arith) (omega arith))
+
+  -- from the reply that there is less than n
+  pub short-within : (n : ℕ) → base + t.above < n + t.fall → base + (risen - t.rise) + t.above < n + t.fall → keeps_from base fallen risen t (reading 0 (n - 1)) u ≡ false
+  short-within n refused far =
+      let x : Mark = marked t (reading 0 (n - 1)) in
+      by-nobody base ((fallen - t.fall) + x.fall) ((risen - t.rise) + x.rise) x u
+      (legal-is x (base - (((fallen - t.fall) + x.fall) - x.fall)) (omega arith) (omega arith))
+      (legal-is x (base + (((risen - t.rise) + x.rise) - x.rise)) (omega arith) (omega arith))
+      (legal-is u (base - (((fallen - t.fall) + x.fall) - u.fall)) (omega arith) (omega arith))
+      (legal-is u (base + (((risen - t.rise) + x.rise) - u.rise)) (omega arith) (omega arith))
+
+  pub short-beyond : (n : ℕ) → base + t.above < n + t.fall → n + t.fall ≤ base + (risen - t.rise) + t.above → keeps_from base fallen risen t (reading 0 (n - 1)) u ≡ ltb 0 u.rise
+  short-beyond n refused near =
+      let x : Mark = marked t (reading 0 (n - 1)) in
+      by-rising base ((fallen - t.fall) + x.fall) ((risen - t.rise) + x.rise) x u
+      (legal-is x (base - (((fallen - t.fall) + x.fall) - x.fall)) (omega arith) (omega arith))
+      (legal-over x (base + (((risen - t.rise) + x.rise) - x.rise)) (omega arith))
+
+  -- from a give, up to where t's operations are no longer legal where all have risen: who rises too far for himself
+  pub gives-within : (n : ℕ) → n ≤ top → n + base + (risen - t.rise) + t.above ≤ top + t.fall →
+      keeps_from base fallen risen t (giving 0 (top - n) n) u ≡ ltb (u.ceiling + u.rise + t.fall) (n + base + (risen - t.rise) + t.above + 1)
+  gives-within n most few =
+      let x : Mark = marked t (giving 0 (top - n) n) in
+      by-high base ((fallen - t.fall) + x.fall) ((risen - t.rise) + x.rise) x u (u.ceiling + u.rise + t.fall) (n + base + (risen - t.rise) + t.above + 1)
+      (legal-is x (base - (((fallen - t.fall) + x.fall) - x.fall)) (omega arith) (omega arith))
+      (legal-is x (base + (((risen - t.rise) + x.rise) - x.rise)) (omega arith) (omega arith))
+      (legal-is u (base - (((fallen - t.fall) + x.fall) - u.fall)) (omega arith) (omega arith))
+      (λ below. legal-over u (base + (((risen - t.rise) + x.rise) - u.rise)) (omega arith))
+      (λ above. legal-is u (base + (((risen - t.rise) + x.rise) - u.rise)) (omega arith) (omega arith))
+
+  -- beyond that: who rises
+  pub gives-beyond : (n : ℕ) → n ≤ top → top + t.fall < n + base + (risen - t.rise) + t.above → n + base + t.above ≤ top + t.fall → keeps_from base fallen risen t (giving 0 (top - n) n) u ≡ ltb 0 u.rise
+  gives-beyond n most many legal =
+      let x : Mark = marked t (giving 0 (top - n) n) in
+      by-rising base ((fallen - t.fall) + x.fall) ((risen - t.rise) + x.rise) x u
+      (legal-is x (base - (((fallen - t.fall) + x.fall) - x.fall)) (omega arith) (omega arith))
+      (legal-over x (base + (((risen - t.rise) + x.rise) - x.rise)) (omega arith))
+
+  -- from the reply that there is no room for n
+  pub full-within : (n : ℕ) → n ≤ top → top + t.fall < n + base + t.above → top + t.fall < (base - (fallen - t.fall)) + n + t.above → keeps_from base fallen risen t (reading (top - n + 1) top) u ≡ false
+  full-within n most refused far =
+      let x : Mark = marked t (reading (top - n + 1) top) in
+      by-nobody base ((fallen - t.fall) + x.fall) ((risen - t.rise) + x.rise) x u
+      (legal-is x (base - (((fallen - t.fall) + x.fall) - x.fall)) (omega arith) (omega arith))
+      (legal-is x (base + (((risen - t.rise) + x.rise) - x.rise)) (omega arith) (omega arith))
+      (legal-is u (base - (((fallen - t.fall) + x.fall) - u.fall)) (omega arith) (omega arith))
+      (legal-is u (base + (((risen - t.rise) + x.rise) - u.rise)) (omega arith) (omega arith))
+
+  pub full-beyond : (n : ℕ) → n ≤ top → top + t.fall < n + base + t.above → (base - (fallen - t.fall)) + n + t.above ≤ top + t.fall → keeps_from base fallen risen t (reading (top - n + 1) top) u ≡ ltb 0 u.fall
+  full-beyond n most refused near =
+      let x : Mark = marked t (reading (top - n + 1) top) in
+      by-falling base ((fallen - t.fall) + x.fall) ((risen - t.rise) + x.rise) x u
+      (legal-under x (base - (((fallen - t.fall) + x.fall) - x.fall)) (omega arith))
+      (legal-is x (base + (((risen - t.rise) + x.rise) - x.rise)) (omega arith) (omega arith))

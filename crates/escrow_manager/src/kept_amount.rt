@@ -1,0 +1,135 @@
+//! Whether another transaction keeps one from some amount of a call.
+
+ghost use Rattle.std.specs.Prelude.{◌≡◌, ◌↔◌, ◌%◌, ◌/◌, ◌<◌, true, Some, length, slice_get, MatchOption};
+ghost use Rattle.type_table.specs.Operation.{operation_at};
+ghost use Rattle.number_text.specs.declared.number_call.NumberCall.TheVariants as calls;
+ghost use Rattle.number_text.specs.NumberFile.{IsNumber};
+ghost use Rattle.table_checker.specs.Declarations.{number_file};
+ghost use Rattle.object_trait.specs.Steps.{TellsKept};
+ghost use Rattle.escrow_manager.specs.KeptAmount.{IsKeptFrom, IsFreeFrom, any_call};
+
+use crate::manager::EscrowManager;
+use crate::way::{Way, least_amount};
+use escrow_laws::{extremes_tell_firm, firm_is_legal, marks_are_exact, marks_fit, marks_tell};
+use number_text::{NumberCall, NumberFile, number_has_table, number_tells_bounds};
+use object_trait::Recovery;
+use type_table::Operation;
+
+impl EscrowManager {
+    /// Of a number: an amount from whose operation at this place, or at the next one, u keeps t, where that
+    /// operation is legal for t; None where there is none. The place is the first one of a line.
+    pub(crate) fn number_kept(&self, number: &NumberFile, t: u32, place: u8, u: u32) -> Option<u32>
+        requires number { self.now.checked.file ≡ number_file number.now }
+        requires place { place % 2 ≡ 0 }
+        ensures { TellsKept self.now t place u result }
+    {
+        number_has_table();
+        let Some(call) = call_at(number, place) else {
+            return None;
+        };
+        match call {
+            NumberCall::TakeAny => self.any_kept(number, Way::Take, t, place, u),
+            NumberCall::GiveAny => self.any_kept(number, Way::Give, t, place, u),
+            NumberCall::Value => self.value_kept(number, t, place, u),
+            NumberCall::Take(_) | NumberCall::Give(_) | NumberCall::AtLeast(_) => None,
+        }
+    }
+
+    /// The same of a call of any amount.
+    ///
+    /// Few amounts are tried: the more is taken, or given, the more transactions keep t, until all of
+    /// those do that move the number at all. So if u keeps t from some amount, it does so from the least
+    /// from which it does, from the least that is too much for t itself, or from the least that is refused.
+    fn any_kept(&self, number: &NumberFile, way: Way, t: u32, place: u8, u: u32) -> Option<u32>
+        requires number { self.now.checked.file ≡ number_file number.now }
+        requires place { place % 2 ≡ 0 }
+        requires call { slice_get number.now.calls (place / 2) ≡ Some (any_call way) }
+        ensures { TellsKept self.now t place u result }
+    {
+        marks_are_exact();
+        marks_fit();
+        marks_tell();
+        extremes_tell_firm();
+        firm_is_legal();
+        number_tells_bounds();
+        // (read for what is known of a number)
+        let _calls = number.calls();
+        let top = number.max();
+        let base = self.state();
+        let totals = self.totals();
+        let own = self.mark_of(t);
+        let other = self.mark_of(u);
+        let kept = way.first_kept(base, totals, own, other);
+        let beyond = way.first_beyond(top, base, totals, own);
+        let refused = way.first_refused(top, self.seen(t));
+        if let Some(n) = self.kept_with(number, way, t, place, kept, u) {
+            return Some(n);
+        }
+        if let Some(n) = self.kept_with(number, way, t, place, beyond, u) {
+            return Some(n);
+        }
+        self.kept_with(number, way, t, place + 1, refused, u)
+    }
+
+    /// The same of a read of the value.
+    fn value_kept(&self, number: &NumberFile, t: u32, place: u8, u: u32) -> Option<u32>
+        requires number { self.now.checked.file ≡ number_file number.now }
+        requires place { place % 2 ≡ 0 }
+        requires call { slice_get number.now.calls (place / 2) ≡ Some calls.Value }
+        ensures { TellsKept self.now t place u result }
+    {
+        marks_are_exact();
+        marks_fit();
+        firm_is_legal();
+        number_has_table();
+        number_tells_bounds();
+        // (read for what is known of a number, and of this object)
+        let _calls = number.calls();
+        let _totals = self.totals();
+        let n = self.seen(t);
+        if self.is_kept_from(t, Operation::with(place, n), u) {
+            Some(n)
+        } else {
+            None
+        }
+    }
+
+    /// The least amount from `start` on with which a call has operations, if u keeps t from the one at this place.
+    fn kept_with(
+        &self,
+        number: &NumberFile,
+        way: Way,
+        t: u32,
+        place: u8,
+        start: u64,
+        u: u32,
+    ) -> Option<u32>
+        requires { self.now.checked.file ≡ number_file number.now }
+        ensures { MatchOption result
+            (IsFreeFrom number.now way self.now t place u start)
+            (λ n. IsKeptFrom self.now t (operation_at place (Some n)) u) }
+    {
+        let n = least_amount(number, way, start)?;
+        if self.is_kept_from(t, Operation::with(place, n), u) {
+            Some(n)
+        } else {
+            None
+        }
+    }
+
+    /// Whether u keeps t from operation k, which is legal for t.
+    fn is_kept_from(&self, t: u32, k: Operation, u: u32) -> bool
+        requires { k < length self.now.checked.file.table.ops }
+        ensures { (result ≡ true) ↔ IsKeptFrom self.now t k u }
+    {
+        self.legal(t, k) && self.blocker(t, k) == Some(u)
+    }
+}
+
+/// The call of the line at whose first place, or second one, this is.
+fn call_at(number: &NumberFile, place: u8) -> Option<NumberCall>
+    ensures exact { result ≡ slice_get number.now.calls (place / 2) }
+    ensures number { IsNumber number.now }
+{
+    number.calls().get(usize::from(place / 2)).copied()
+}

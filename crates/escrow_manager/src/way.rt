@@ -1,0 +1,95 @@
+//! Calls that take or give any amount.
+
+ghost use Rattle.std.specs.Prelude.{◌≡◌, ◌↔◌, ℕ, ◌+◌, ◌≤◌, true, MatchOption};
+ghost use Rattle.std.specs.List.{list_any};
+ghost use Rattle.escrow_laws.specs.Marks.{FitsIn};
+ghost use Rattle.escrow_manager.specs.KeptAmount.{lists, HasAmount, IsLeastAmount, first_kept, first_beyond, first_refused};
+
+use crate::totals::Totals;
+use escrow_laws::Mark;
+use number_text::{NumberCall, NumberFile};
+
+/// Whether a call of any amount takes it or gives it.
+#[derive(Clone, Copy)]
+pub enum Way {
+    Take,
+    Give,
+}
+
+impl Way {
+    /// Whether a line lists the amount.
+    fn lists(self, n: u32, call: NumberCall) -> bool
+        ensures { result ≡ lists self n call }
+    {
+        match (self, call) {
+            (Way::Take, NumberCall::Take(k)) | (Way::Give, NumberCall::Give(k)) => k == n,
+            _ => false,
+        }
+    }
+
+    /// The least amount with which all together fall, or rise, too far for who has the mark u. So far t and u have
+    /// these marks, and all have these totals.
+    pub fn first_kept(self, base: u32, totals: Totals, t: Mark, u: Mark) -> u64
+        requires fallen { totals.fallen ≤ base }
+        requires risen { base + totals.risen ≤ 4294967295 }
+        requires own { FitsIn 4294967295 base t }
+        requires other { FitsIn 4294967295 base u }
+        ensures { result ≡ first_kept self base totals t u }
+    {
+        let base = u64::from(base);
+        match self {
+            Way::Take => (base + t.above + u.fall + 1).saturating_sub(totals.fallen + u.floor),
+            Way::Give => {
+                let risen = totals.risen.saturating_sub(t.rise);
+                (u.ceiling + u.rise + t.fall).saturating_sub(base + risen + t.above)
+            }
+        }
+    }
+
+    /// The least with which they do so for t, on numbers from 0 to `top`.
+    pub fn first_beyond(self, top: u32, base: u32, totals: Totals, t: Mark) -> u64
+        requires risen { base + totals.risen ≤ 4294967295 }
+        requires own { FitsIn 4294967295 base t }
+        ensures { result ≡ first_beyond self top base totals t }
+    {
+        let base = u64::from(base);
+        match self {
+            Way::Take => (base + t.above + 1).saturating_sub(totals.fallen),
+            Way::Give => {
+                let risen = totals.risen.saturating_sub(t.rise);
+                (u64::from(top) + t.fall + 1).saturating_sub(base + risen + t.above)
+            }
+        }
+    }
+
+    /// The least that is refused at a number, on numbers from 0 to `top`.
+    pub fn first_refused(self, top: u32, number: u32) -> u64
+        ensures { result ≡ first_refused self top number }
+    {
+        match self {
+            Way::Take => u64::from(number) + 1,
+            Way::Give => u64::from(top.saturating_sub(number)) + 1,
+        }
+    }
+}
+
+/// Whether a line of a number lists the amount.
+fn is_listed(number: &NumberFile, way: Way, n: u32) -> bool
+    ensures { result ≡ list_any (lists way n) number.now.calls }
+{
+    number.calls().iter().any(|call| way.lists(n, *call))
+}
+
+/// The least amount from `start` on with which the call of any amount has operations.
+pub fn least_amount(number: &NumberFile, way: Way, start: u64) -> Option<u32>
+    ensures { MatchOption result
+        ((n : ℕ) → start ≤ n → HasAmount number.now way n → ⊥)
+        (IsLeastAmount number.now way start) }
+{
+    for n in start.max(1)..u64::from(number.max()) + 1 {
+        if !is_listed(number, way, n as u32) {
+            return Some(n as u32);
+        }
+    }
+    None
+}

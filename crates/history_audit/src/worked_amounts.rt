@@ -1,0 +1,49 @@
+//! Worked audits of a number whose calls take any amount: each function does nothing, and its contract is what comes
+//! out of a small history.
+#![tactic(auto)]
+
+ghost use Rattle.std.specs.Prelude.{[], ◌∷◌, Some};
+ghost use Rattle.type_table.specs.Examples.{counter};
+ghost use Rattle.type_table.specs.Operation.{operation_at};
+ghost use Rattle.object_trait.specs.declared.event.EventKind.TheVariants as kind;
+ghost use Rattle.serial_order.specs.History.{commits, IsHistory};
+ghost use Rattle.history_audit.specs.Audit.{IsAudit, IsFirstBad, IsFirstIllegal};
+ghost use Rattle.history_audit.specs.Examples.{one_purse, purse_history, early_history, amount_history, IsBadFirst, give_any, take_any, value};
+
+use number_text::number_has_table;
+
+/// Two give to the purse, one of whom takes of it too; then a third reads 6 and takes 3, which is listed.
+pub fn amounts_are_replayed()
+    ensures history { IsHistory one_purse purse_history }
+    ensures audit { IsAudit one_purse purse_history (1 ∷ 0 ∷ 2 ∷ []) (3 ∷ []) }
+{
+    number_has_table();
+}
+
+/// One takes 4 of what another gave, and commits first: in commit order there is nothing yet.
+pub fn taken_before_it_is_given()
+    ensures history { IsHistory one_purse early_history }
+    ensures first { IsFirstIllegal one_purse early_history (commits early_history) 0 0 0 }
+{
+    number_has_table();
+}
+
+/// No operation is one of `take any` or of `value` that comes without an amount, or one that is listed and comes with one;
+/// nor is one whose amount is out of its range, 1 to 9, or 0 to 9 for `value`. No operation of a table has an amount.
+pub fn operations_that_are_bad()
+    ensures without { IsBadFirst (kind.Op 0 0 2) }
+    ensures value_without { IsBadFirst (kind.Op 0 0 6) }
+    ensures listed_with { IsBadFirst (kind.Op 0 0 (operation_at 0 (Some 3))) }
+    ensures nothing { IsBadFirst (kind.Op 0 0 (take_any 0)) }
+    ensures too_much { IsBadFirst (kind.Op 0 0 (take_any 10)) }
+    ensures too_much_given { IsBadFirst (kind.Op 0 0 (give_any 10)) }
+    ensures value_past { IsBadFirst (kind.Op 0 0 (value 10)) }
+    ensures second_of_value { IsBadFirst (kind.Op 0 0 (operation_at 7 (Some 1))) }
+    ensures at_a_table { IsFirstBad (counter ∷ []) amount_history 1 }
+{}
+
+/// An answer without a reply says a place that some operation has. `value` has one place.
+pub fn places_that_are_bad()
+    ensures second_of_value { IsBadFirst (kind.Busy 7 0 0 1) }
+    ensures past { IsBadFirst (kind.None 0 0 8) }
+{}

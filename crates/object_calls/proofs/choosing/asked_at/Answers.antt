@@ -1,0 +1,24 @@
+use Rattle.std.proofs.Common.{◌≡◌, ◌≤◌, length, refl, sym, subst}
+use Rattle.type_table.specs.Limits.{most_ops}
+use Rattle.type_table.specs.Table.{Table}
+use Rattle.number_text.specs.Operations.{number_table}
+use Rattle.object_calls.proofs.Asking.{table_inside, table_asked, called_inside, called_asked}
+use Rattle.object_calls.proofs.choosing.asked_at.Goals as goal
+
+pub returns-in-Table : goal.returns-in-Table
+returns-in-Table g c =
+    let m = g.R.Recovery.meaning c.args.object.now in
+    let is : m.checked.file.table ≡ c.in-Table.file.table = rw (← c.declared.ensures.exact, ← c.declaration.ensures, c.in-Table.is) refl in
+    let few : length m.checked.file.table.ops ≤ most_ops = subst (λ (T : Table). length T.ops ≤ most_ops) (sym is) c.states-states.ensures.table.ops_fit in
+    record { inside = table_inside m.checked.file.table c.args.call c.requires few; asked = table_asked m c.args.t c.args.call c.requires few }
+
+pub returns-in-Number : goal.returns-in-Number
+returns-in-Number g c =
+    let m = g.R.Recovery.meaning c.args.object.now in
+    let v = c.in-Number.number in
+    let known = c.calls-calls.ensures.number in
+    let is : m.checked.file.table ≡ number_table v = rw (← c.declared.ensures.exact, ← c.declaration.ensures, c.in-Number.is) refl in
+    record {
+      inside = called_inside m c.args.t v known is c.args.call c.requires c.view.result c.view.ensures.exact c.called.result c.called.ensures;
+      asked = called_asked m c.args.t v known is c.args.call c.requires c.view.result c.view.ensures.exact c.called.result c.called.ensures;
+    }
