@@ -1,7 +1,7 @@
 -- What is read of a type behind a handle.
 use Rattle.std.specs.Prelude.{◌≡◌, ℕ, ◌<◌, ◌≤◌, nat_lt, if◌then◌else◌, List, ◌++◌, length, drop, true, false, Option, Some, None, option_map, slice_get}
 use Rattle.type_table.specs.ConflictTable.{conflicts}
-use Rattle.type_table.specs.Table.{Table, has_op, next}
+use Rattle.type_table.specs.Table.{Table, has_op, next, op_of}
 use Rattle.type_table.specs.declared.op.Op.{Op}
 use Rattle.object_trait.specs.Object.{conflicts_by}
 use Rattle.table_checker.specs.Checked.{Checked}
@@ -27,13 +27,9 @@ abbrev pub IsFoundPut : Option (List ℕ) → List ℕ → ℕ → List ℕ → 
 IsFoundPut None old n new count = n ≡ number NoOperation
 IsFoundPut (Some name) old n new count = IsPut name old n new count
 
--- the names of the operation with a number, where the type has it
-abbrev pub numbered_names : Declaration → ℕ → Option Op
-numbered_names declaration k = if has_op (table_of declaration) k then slice_get (table_of declaration).ops k else None
-
--- at a place that the type lists those of its line
+-- the names of the operation with a number, where the type has it: at a place that the type lists those of its line
 abbrev pub names_at : Declaration → ℕ → Option Op
-names_at declaration k = if nat_lt k (length (rows_of declaration)) then slice_get (rows_of declaration) k else numbered_names declaration k
+names_at declaration k = if nat_lt k (length (rows_of declaration)) then slice_get (rows_of declaration) k else op_of (table_of declaration) k
 
 abbrev pub call_of : Declaration → ℕ → Option (List ℕ)
 call_of declaration k = option_map (λ (o : Op). o.call) (names_at declaration k)

@@ -1,11 +1,8 @@
 -- The numbers of operations that cross.
 use Rattle.std.specs.Prelude.{◌≡◌, ℕ, nat_lt, Option, Some, None, if◌then◌else◌}
-use Rattle.type_table.specs.Table.{IsTable}
-use Rattle.number_text.specs.NumberFile.{IsNumber}
 use Rattle.table_checker.specs.Checked.{Checked}
-use Rattle.table_checker.specs.Declarations.{file_of, IsDeclaredFor}
+use Rattle.table_checker.specs.Declarations.{file_of, IsDeclaredFor, IsFitDeclaration}
 use Rattle.table_checker.specs.declared.declared_type.Declaration.{Declaration}
-use Rattle.table_checker.specs.declared.declared_type.Declaration.TheVariants.{Table as Tables, Number as Numbers}
 
 -- above the number of each: the greatest is that of place 255 with the amount 4,294,967,295
 abbrev pub operation_count : ℕ
@@ -17,13 +14,8 @@ operation_of k = if nat_lt k operation_count then Some k else None
 
 -- ---- what declares a type
 
--- what is known of a declaration
-abbrev pub IsKnown : Declaration → Type 0
-IsKnown (Tables file) = IsTable file.table
-IsKnown (Numbers number) = IsNumber number
-
 -- it declares the type
 pub record IsDeclaredBy (c : Checked) (declaration : Declaration) : Type 0 where
   pub file : file_of declaration ≡ c.file
   pub for_kind : IsDeclaredFor c.kind declaration
-  pub known : IsKnown declaration
+  pub fit : IsFitDeclaration declaration

@@ -2,11 +2,11 @@
 
 ghost use Rattle.std.specs.Prelude.{◌≡◌, ◌≢◌, ◌<◌, length, is_some, IfSome};
 ghost use Rattle.type_table.specs.ConflictTable.{conflicts};
-ghost use Rattle.type_table.specs.Table.{has_op};
+ghost use Rattle.type_table.specs.Table.{has_op, op_of};
 ghost use Rattle.object_trait.specs.Object.{conflicts_by};
 ghost use Rattle.table_checker.specs.Declarations.{table_of, IsByTable};
 ghost use Rattle.colock_c.specs.Codes.{number};
-ghost use Rattle.colock_c.specs.Named.{call_of, IsFoundPut, IsPut, IsStep, names_at, numbered_names, reply_of, TellsConflictOf};
+ghost use Rattle.colock_c.specs.Named.{call_of, IsFoundPut, IsPut, IsStep, names_at, reply_of, TellsConflictOf};
 ghost use Rattle.colock_c.specs.Operations.{IsDeclaredBy};
 
 use crate::code::Code;
@@ -60,8 +60,8 @@ fn operation_at(declared: &DeclaredType, k: u64) -> Option<Operation>
 }
 
 /// The names of the operation with a number, where the type has it.
-fn numbered_names(declared: &DeclaredType, k: u64) -> Option<Op>
-    ensures { result ≡ numbered_names declared.now k }
+fn op_of(declared: &DeclaredType, k: u64) -> Option<Op>
+    ensures { result ≡ op_of (table_of declared.now) k }
 {
     let operation = operation_at(declared, k)?;
     declared.op(operation)
@@ -75,7 +75,7 @@ fn names_at(declared: &DeclaredType, k: u64) -> Option<Op>
     if k < rows.len() as u64 {
         Some(rows[k as usize])
     } else {
-        numbered_names(declared, k)
+        op_of(declared, k)
     }
 }
 

@@ -1,8 +1,8 @@
 //! The numbers by which operations cross.
 
 ghost use Rattle.std.specs.Prelude.{◌≡◌, ◌≤◌, length};
-ghost use Rattle.table_checker.specs.Declarations.{table_of};
-ghost use Rattle.colock_c.specs.Operations.{operation_count, operation_of, IsKnown};
+ghost use Rattle.table_checker.specs.Declarations.{table_of, IsFitDeclaration};
+ghost use Rattle.colock_c.specs.Operations.{operation_count, operation_of};
 
 use table_checker::{Declaration, DeclaredType};
 use type_table::Operation;
@@ -38,7 +38,7 @@ pub(crate) fn operation_of(number: u64) -> Option<Operation>
 /// What declares a type, and what is known of it: no operation has a greater number than those that cross.
 pub(crate) fn known(declared: &DeclaredType) -> &DeclaredType
     ensures same { result.now ≡ declared.now }
-    ensures known { IsKnown declared.now }
+    ensures fit { IsFitDeclaration declared.now }
     ensures few { length (table_of declared.now).ops ≤ operation_count }
 {
     match declared.declaration() {

@@ -2,14 +2,11 @@
 use Rattle.std.specs.Prelude.{◌≡◌, ℕ, List, Option, IfSome, Ok, Err}
 use Rattle.line_text.specs.Outcome.{outcome_of}
 use Rattle.line_text.specs.declared.fault.TextFault.{TextFault}
-use Rattle.type_table.specs.Table.{IsTable}
 use Rattle.type_text.specs.TypeLines.{type_rules}
 use Rattle.type_text.specs.TypeFile.{IsFileOf}
 use Rattle.type_text.specs.declared.type_line.TypeLine.{TypeLine}
 use Rattle.type_text.specs.declared.type_file.TypeFile.{TypeFile}
 use Rattle.table_checker.specs.declared.declared_type.Declaration.{Declaration}
-use Rattle.table_checker.specs.declared.declared_type.Declaration.TheVariants.{Table, Number as Numbers}
-use Rattle.number_text.specs.NumberFile.{IsNumber}
 use Rattle.declared_text.specs.Declared.{Declares, HasFault}
 
 -- the file that a text describes
@@ -33,8 +30,3 @@ IsFaultyDeclaration text = (f : TextFault) × HasFault text f
 -- the declaration is that of the text at a path, where the source says the text
 abbrev pub IsDeclaredAt : Option (List ℕ) → Declaration → Type 0
 IsDeclaredAt held declaration = IfSome held (λ text. Declares text declaration)
-
--- whatever the text was, it declares a table or a number, whose parts are in their ranges
-abbrev pub IsFitDeclaration : Declaration → Type 0
-IsFitDeclaration (Table file) = IsTable file.table
-IsFitDeclaration (Numbers number) = IsNumber number

@@ -1,8 +1,9 @@
 //! Type files, and texts that declare a type.
 
 ghost use Rattle.std.specs.Prelude.{⊤};
+ghost use Rattle.table_checker.specs.Declarations.{IsFitDeclaration};
 ghost use Rattle.declared_text.specs.Declared.{Declares};
-ghost use Rattle.command_files.specs.Files.{Describes, IsFaulty, IsFaultyDeclaration, IsFitDeclaration};
+ghost use Rattle.command_files.specs.Files.{Describes, IsFaulty, IsFaultyDeclaration};
 
 use crate::format::Format;
 use declared_text::read_declared;

@@ -206,7 +206,7 @@ fn is_operation(types: &[&DeclaredType], x: u32, k: Operation) -> bool
     ensures { IsTrue result ↔ IsOperation (slice_get (map (λ t. table_of t.now) types.now) x) k }
 {
     match types.get(x as usize) {
-        Some(declared) => declared.op(k).is_some(),
+        Some(declared) => declared.has_op(k),
         None => false,
     }
 }

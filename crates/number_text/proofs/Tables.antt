@@ -21,7 +21,7 @@ use Rattle.number_text.specs.declared.number_op.NumberOp.{NumberOp}
 use Rattle.number_text.specs.declared.number_op.NumberOp.TheVariants.{Take, Short, Give, Full, AtLeast, Below, Value}
 use Rattle.number_text.specs.NumberLines.{is_amount, is_within}
 use Rattle.number_text.specs.NumberFile.{Number, IsNumber}
-use Rattle.number_text.specs.Operations.{where_so, call_is_elsewhere, amount_for, ops_of_call, op_in, op_at, op_done, op_with, op_bounds, op_count, IsAmountOf, op_names, names_or_none, bounds_or_none, number_bounds, number_ops, number_table, NumberHasTable, NumberTellsBounds}
+use Rattle.number_text.specs.Operations.{where_so, call_is_elsewhere, amount_for, ops_of_call, op_in, op_at, op_done, op_with, op_bounds, op_count, IsAmountOf, IsAmountFor, op_names, names_or_none, bounds_or_none, number_bounds, number_ops, number_table, NumberHasTable, NumberTellsBounds}
 
 -- ---- amounts
 
@@ -42,13 +42,8 @@ pub where_found : (so : Bool) (n m : ℕ) → where_so so n ≡ Some m → (so �
 where_found true n m is = (refl, let same : n ≡ m = cc in same)
 where_found false n m is = absurd cc
 
--- the amounts of a call's operations
-abbrev InRange : ℕ → NumberCall → ℕ → Type 0
-InRange max calls.Value n = n ≤ max
-InRange max _ n = (1 ≤ n) × (n ≤ max)
-
 -- each amount that a call may have is in range
-in_range : (max : ℕ) (call : NumberCall) (told : Option ℕ) (n : ℕ) → is_within max call ≡ true → amount_for max call told ≡ Some n → InRange max call n
+pub in_range : (max : ℕ) (call : NumberCall) (told : Option ℕ) (n : ℕ) → is_within max call ≡ true → amount_for max call told ≡ Some n → IsAmountFor max call n
 in_range max (calls.Take k) None n h is = let same : k ≡ n = cc in subst (λ m. (1 ≤ m) × (m ≤ max)) same (amount max k h)
 in_range max (calls.Take k) (Some m) n h is = absurd cc
 in_range max (calls.Give k) None n h is = let same : k ≡ n = cc in subst (λ m. (1 ≤ m) × (m ≤ max)) same (amount max k h)
@@ -69,7 +64,7 @@ in_range max calls.Value (Some m) n h is =
     subst (λ k. k ≤ max) found.1 (leb-true m max found.0)
 
 -- and so are those of its operations
-pub ops_in_range : (max : ℕ) (call : NumberCall) (n second : ℕ) (op : NumberOp) → InRange max call n → slice_get (ops_of_call call n) second ≡ Some op → IsAmountOf max op
+pub ops_in_range : (max : ℕ) (call : NumberCall) (n second : ℕ) (op : NumberOp) → IsAmountFor max call n → slice_get (ops_of_call call n) second ≡ Some op → IsAmountOf max op
 ops_in_range max (calls.Take k) n zero op h is = let same : Take n ≡ op = cc in subst (IsAmountOf max) same h
 ops_in_range max (calls.Take k) n (suc zero) op h is = let same : Short n ≡ op = cc in subst (IsAmountOf max) same h
 ops_in_range max (calls.Take k) n (suc (suc i)) op h is = absurd cc
@@ -145,7 +140,7 @@ done_is v p op is = go (call_is_elsewhere v (amount_of p) (slice_get v.calls (pl
     go false found = found
 
 -- so it is with each number, whether an operation is done with it or none
-any_within : (v : Number) (p : ℕ) → IsNumber v → (o : Option NumberOp) → op_done v p ≡ o → IsWithin v.max (bounds_or_none v.max o)
+pub any_within : (v : Number) (p : ℕ) → IsNumber v → (o : Option NumberOp) → op_done v p ≡ o → IsWithin v.max (bounds_or_none v.max o)
 any_within v p known None is = record { enough = omega arith; legal = omega arith; room = omega arith }
 any_within v p known (Some op) is = bounds_within v.max op (amounts_fit v p op known (done_is v p op is))
 
@@ -188,7 +183,7 @@ told_is max calls.GiveAny m n is = (where_found (is_amount max m) m n is).1
 told_is max calls.Value m n is = (where_found (leb m max) m n is).1
 
 -- it is at most the greatest value
-at_most : (max : ℕ) (call : NumberCall) (n : ℕ) → InRange max call n → n ≤ max
+at_most : (max : ℕ) (call : NumberCall) (n : ℕ) → IsAmountFor max call n → n ≤ max
 at_most max (calls.Take k) n h = h.1
 at_most max (calls.Give k) n h = h.1
 at_most max (calls.AtLeast k) n h = h.1
@@ -250,6 +245,14 @@ next_of_none tables v s p known is =
         let here = found_by (λ q. bounds_or_none v.max (op_done v q)) (op_count v) p b at in
         let same : nowhere ≡ b = sym (ap (bounds_or_none v.max) is) ∙ here.1 in
         ap (λ c. moved c s) (sym same) ∙ moved-nowhere s
+
+-- so it is with each number
+pub next_is : NumberHasTable → (v : Number) (s p : ℕ) → IsNumber v → next (number_table v) s p ≡ moved (bounds_or_none v.max (op_done v p)) s
+next_is tables v s p known = go (op_done v p) refl
+  where
+    go : (o : Option NumberOp) → op_done v p ≡ o → next (number_table v) s p ≡ moved (bounds_or_none v.max o) s
+    go None is = next_of_none tables v s p known is ∙ sym (moved-nowhere s)
+    go (Some op) is = next_of_op tables v s p op known is
 
 -- where an operation leads there is a number
 pub moved_inside : (top : ℕ) (b : Bounded) (s : ℕ) → IsWithin top b → (o : Option ℕ) → o ≡ moved b s → IfSome o (λ t. t < top + 1)

@@ -61,6 +61,11 @@ IsAmountOf max (AtLeast n) = (1 ≤ n) × (n ≤ max)
 IsAmountOf max (Below n) = (1 ≤ n) × (n ≤ max)
 IsAmountOf max (Value n) = n ≤ max
 
+-- and so is the amount of a call that may have it
+abbrev pub IsAmountFor : ℕ → NumberCall → ℕ → Type 0
+IsAmountFor max calls.Value n = n ≤ max
+IsAmountFor max _ n = (1 ≤ n) × (n ≤ max)
+
 -- ---- which operation has which number
 
 -- the operations of a call with an amount, in their order

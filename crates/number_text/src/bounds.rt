@@ -1,10 +1,10 @@
 //! Which operation has which number, and its bounds.
 
-ghost use Rattle.std.specs.Prelude.{◌≡◌, ◌<◌, ◌∷◌, [], Some, length, slice_get, is_some, IfSome};
+ghost use Rattle.std.specs.Prelude.{◌≡◌, ◌<◌, ◌∷◌, [], true, Some, None, if◌then◌else◌, length, slice_get, is_some, IfSome};
 ghost use Rattle.std.specs.List.{list_any};
 ghost use Rattle.type_table.specs.Table.{has_op};
-ghost use Rattle.number_text.specs.NumberLines.{is_amount};
-ghost use Rattle.number_text.specs.Operations.{takes, gives, where_so, amount_for, ops_of_call, call_is_elsewhere, op_at, op_done, number_ops, number_bounds, number_table};
+ghost use Rattle.number_text.specs.NumberLines.{is_amount, is_within};
+ghost use Rattle.number_text.specs.Operations.{takes, gives, where_so, taking, giving, reading, amount_for, ops_of_call, is_elsewhere, op_at, op_in, op_done, bounds_or_none, number_ops, number_bounds, number_table, IsAmountFor};
 
 use crate::number_call::NumberCall;
 use crate::number_file::NumberFile;
@@ -22,24 +22,13 @@ impl NumberFile {
         op_of_call(call, k.place() % 2, amount)
     }
 
-    /// The operation that is done with this number. One of `any` whose amount another line lists is that line's.
-    pub(crate) fn op_done(&self, k: Operation) -> Option<NumberOp>
-        ensures { result ≡ op_done self.now k }
-    {
-        let call = self.calls().get(usize::from(k.place() / 2)).copied();
-        if self.call_is_elsewhere(k.amount(), call) {
-            return None;
-        }
-        self.op_at(k)
-    }
-
-    /// Whether another line lists the amount of a call.
-    fn call_is_elsewhere(&self, told: Option<u32>, call: Option<NumberCall>) -> bool
-        ensures { result ≡ call_is_elsewhere self.now told call }
+    /// Whether another line lists the amount that a line's call is told.
+    fn is_elsewhere(&self, told: Option<u32>, call: NumberCall) -> bool
+        ensures { result ≡ is_elsewhere self.now told call }
     {
         match (call, told) {
-            (Some(NumberCall::TakeAny), Some(n)) => self.takes(n),
-            (Some(NumberCall::GiveAny), Some(n)) => self.gives(n),
+            (NumberCall::TakeAny, Some(n)) => self.takes(n),
+            (NumberCall::GiveAny, Some(n)) => self.gives(n),
             _ => false,
         }
     }
@@ -81,12 +70,42 @@ impl NumberFile {
         requires { k < length (number_ops self.now) }
         ensures { slice_get (number_bounds self.now) k ≡ Some result }
     {
-        // (read for what is known of a number)
-        let _calls = self.calls();
-        match self.op_done(k) {
-            Some(op) => op.bounds(self.max()),
+        self.done(k)
+    }
+
+    /// The same of any number.
+    pub(crate) fn done(&self, k: Operation) -> Bounded
+        ensures { result ≡ bounds_or_none self.now.max (op_done self.now k) }
+    {
+        match self.calls().get(usize::from(k.place() / 2)) {
+            Some(call) => self.done_by(*call, k.place() % 2, k.amount()),
             None => Bounded::nowhere(),
         }
+    }
+
+    /// The bounds of the first or the second operation of a line's call, which is told an amount or none. One of
+    /// `any` whose amount another line lists is that line's.
+    fn done_by(&self, call: NumberCall, second: u8, told: Option<u32>) -> Bounded
+        requires within { is_within self.now.max call ≡ true }
+        requires second { second < 2 }
+        ensures { result ≡ bounds_or_none self.now.max (if is_elsewhere self.now told call then None else op_in self.now.max second told call) }
+    {
+        if self.is_elsewhere(told, call) {
+            return Bounded::nowhere();
+        }
+        match self.amount_for(call, told) {
+            Some(n) => bounds_of(call, second, n, self.max()),
+            None => Bounded::nowhere(),
+        }
+    }
+
+    /// Whether an operation has this number.
+    pub fn has_op(&self, k: Operation) -> bool
+        ensures { result ≡ has_op (number_table self.now) k }
+    {
+        // (read for what is known of a number)
+        let _calls = self.calls();
+        self.op_at(k).is_some()
     }
 
     /// The call and the reply of the operation that has this number, where one has it.
@@ -163,4 +182,59 @@ fn first_of(second: u8, only: NumberOp) -> Option<NumberOp>
     ensures { result ≡ slice_get (only ∷ []) second }
 {
     if second == 0 { Some(only) } else { None }
+}
+
+/// The bounds of the first or the second operation of a call with an amount, on numbers from 0 to `max`.
+fn bounds_of(call: NumberCall, second: u8, n: u32, max: u32) -> Bounded
+    requires amount { IsAmountFor max call n }
+    requires second { second < 2 }
+    ensures { result ≡ bounds_or_none max (slice_get (ops_of_call call n) second) }
+{
+    match (call, second) {
+        (NumberCall::Take(_) | NumberCall::TakeAny, 0) => taking(n, max, n),
+        (NumberCall::Give(_) | NumberCall::GiveAny, 0) => giving(0, max - n, n),
+        (NumberCall::Give(_) | NumberCall::GiveAny, _) => reading(max - n + 1, max),
+        (NumberCall::AtLeast(_), 0) => reading(n, max),
+        (NumberCall::Take(_) | NumberCall::TakeAny | NumberCall::AtLeast(_), _) => {
+            reading(0, n - 1)
+        }
+        (NumberCall::Value, 0) => reading(n, n),
+        (NumberCall::Value, _) => Bounded::nowhere(),
+    }
+}
+
+/// An operation that takes an amount.
+fn taking(low: u32, high: u32, amount: u32) -> Bounded
+    ensures { result ≡ taking low high amount }
+{
+    Bounded {
+        low,
+        high,
+        gives: 0,
+        takes: amount,
+    }
+}
+
+/// One that gives an amount.
+fn giving(low: u32, high: u32, amount: u32) -> Bounded
+    ensures { result ≡ giving low high amount }
+{
+    Bounded {
+        low,
+        high,
+        gives: amount,
+        takes: 0,
+    }
+}
+
+/// One that moves nothing.
+fn reading(low: u32, high: u32) -> Bounded
+    ensures { result ≡ reading low high }
+{
+    Bounded {
+        low,
+        high,
+        gives: 0,
+        takes: 0,
+    }
 }

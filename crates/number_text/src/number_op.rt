@@ -1,13 +1,12 @@
-//! The operations of a number: their names, and their bounds.
+//! The operations of a number, and their names.
 
 ghost use Rattle.std.specs.Prelude.{◌≡◌, ◌+◌, ◌≤◌, ◌++◌, true, length, IfSome};
 ghost use Rattle.std.specs.Fmt.{decimal};
 ghost use Rattle.std.specs.List.{list_all};
 ghost use Rattle.type_table.specs.Name.{is_name, is_name_byte};
-ghost use Rattle.number_text.specs.Operations.{op_with, op_names, op_bounds, taking, giving, reading, IsAmountOf};
+ghost use Rattle.number_text.specs.Operations.{op_with, op_names};
 
 use crate::number_call::NumberCall;
-use escrow_laws::Bounded;
 use itoa::Buffer;
 use type_table::{Name, Op};
 
@@ -63,22 +62,6 @@ impl NumberOp {
             NumberOp::Value(_) => NumberCall::Value,
         }
     }
-
-    /// Its bounds on numbers from 0 to `max`.
-    pub fn bounds(self, max: u32) -> Bounded
-        requires { IsAmountOf max self }
-        ensures { result ≡ op_bounds max self }
-    {
-        match self {
-            NumberOp::Take(n) => taking(n, max, n),
-            NumberOp::Short(n) => reading(0, n - 1),
-            NumberOp::Give(n) => giving(0, max - n, n),
-            NumberOp::Full(n) => reading(max - n + 1, max),
-            NumberOp::AtLeast(n) => reading(n, max),
-            NumberOp::Below(n) => reading(0, n - 1),
-            NumberOp::Value(n) => reading(n, n),
-        }
-    }
 }
 
 /// An operation of a call that is named by a word and an amount.
@@ -125,41 +108,5 @@ pub fn named(bytes: &[u8]) -> Name
     match Name::from_bytes(bytes) {
         Some(name) => name,
         None => unreachable!(),
-    }
-}
-
-/// An operation that takes an amount.
-fn taking(low: u32, high: u32, amount: u32) -> Bounded
-    ensures { result ≡ taking low high amount }
-{
-    Bounded {
-        low,
-        high,
-        gives: 0,
-        takes: amount,
-    }
-}
-
-/// One that gives an amount.
-fn giving(low: u32, high: u32, amount: u32) -> Bounded
-    ensures { result ≡ giving low high amount }
-{
-    Bounded {
-        low,
-        high,
-        gives: amount,
-        takes: 0,
-    }
-}
-
-/// One that moves nothing.
-fn reading(low: u32, high: u32) -> Bounded
-    ensures { result ≡ reading low high }
-{
-    Bounded {
-        low,
-        high,
-        gives: 0,
-        takes: 0,
     }
 }

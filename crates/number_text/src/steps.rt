@@ -19,10 +19,7 @@ impl NumberFile {
         number_has_table();
         // (read for what is known of a number)
         let _calls = self.calls();
-        match self.op_done(k) {
-            Some(op) => moved(op.bounds(self.max()), number),
-            None => None,
-        }
+        moved(self.done(k), number)
     }
 }
 

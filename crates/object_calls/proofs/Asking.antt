@@ -1,7 +1,7 @@
 -- What is looked at to answer a call, of a table and of a number.
-use Rattle.std.proofs.Common.{◌≡◌, ℕ, ◌+◌, ◌*◌, ◌/◌, ◌<◌, ◌≤◌, true, nat_lt, List, length, Option, Some, None, IsSome, refl, sym, ap, subst, ◌∙◌, arith}
+use Rattle.std.proofs.Common.{◌≡◌, ℕ, ◌+◌, ◌*◌, ◌/◌, ◌<◌, ◌≤◌, true, nat_lt, List, length, slice_get, Option, Some, None, IsSome, refl, sym, ap, subst, ◌∙◌, arith}
 use Rattle.std.specs.Int.{bit_at}
-use Rattle.std.proofs.lemmas.Bool.{and_parts, and_from, eq-eqb, eqb-true, lt-ltb, ltb-true}
+use Rattle.std.proofs.lemmas.Bool.{false≢true, and_parts, and_from, eq-eqb, eqb-true, lt-ltb, ltb-true}
 use Rattle.std.proofs.lemmas.List.FromFn.{length-map-range_with_len}
 use Rattle.std.proofs.lemmas.Slice.Eq.{bytes_eq-Decides}
 use Rattle.type_table.specs.Limits.{most_ops}
@@ -10,8 +10,10 @@ use Rattle.type_table.specs.Run.{next_of}
 use Rattle.type_table.specs.Table.{Table, next, call_of, has_op, is_same_call}
 use Rattle.number_text.proofs.FirstNamed.{first_named}
 use Rattle.number_text.specs.Called.{IsCalled}
+use Rattle.number_text.specs.declared.number_call.NumberCall.TheVariants.{Value}
+use Rattle.number_text.proofs.Called.{called_itself}
 use Rattle.number_text.specs.NumberFile.{Number, IsNumber}
-use Rattle.number_text.specs.Operations.{op_at, op_count, names_or_none, number_table}
+use Rattle.number_text.specs.Operations.{op_at, op_count, names_or_none, number_table, NumberHasTable}
 use Rattle.table_checker.proofs.TableOps.{op_below}
 use Rattle.object_trait.specs.Meaning.{Meaning, view_of}
 use Rattle.object_trait.specs.Steps.{IsLegalFor}
@@ -124,3 +126,26 @@ module _ (m : Meaning) (t : ℕ) (v : Number) (known : IsNumber v) (is : m.check
         subst (λ T. is_same_call T (beside called place) call.first ≡ true) (sym is)
         (stands.of_call place (in_line v call of_number place low has) (legal_at m t v is seen sees (beside called place) legal));
   }
+
+-- of a number's call that doesn't read the value what is looked at is the call itself
+module _ (m : Meaning) (t : ℕ) (v : Number) (known : IsNumber v) (is : m.checked.file.table ≡ number_table v)
+    (call : Call) (h : IsCall m.checked.file.table call) (tables : NumberHasTable) (other : slice_get v.calls (place_of call.first / 2) ≡ Some Value → ⊥) where
+  its_call : IsCall (number_table v) call
+  its_call = subst (λ T. IsCall T call) is h
+
+  pub other_inside : AreInside m.checked.file.table call
+  other_inside = subst (λ T. AreInside T call) (sym is) (number_inside v call its_call call.first refl)
+
+  pub other_asked : IsAsked m t call.first call
+  other_asked = go (view_of m t) refl
+    where
+      none : view_of m t ≡ None → (k : ℕ) → IsLegalFor m t k → ⊥
+      none sees k legal = false≢true (subst (λ s. IsSome (next_of m.checked.file.table s k)) sees legal)
+
+      go : (o : Option ℕ) → view_of m t ≡ o → IsAsked m t call.first call
+      go (Some seen) sees = called_asked m t v known is call h seen sees call.first (called_itself tables v seen call.first known its_call.least other)
+      go None sees = record {
+        same = refl;
+        covers = λ k same legal. absurd (none sees k legal);
+        of_call = λ place low has legal. absurd (none sees (beside call.first place) legal);
+      }

@@ -11,6 +11,7 @@ pub mod Bits
 pub mod NumberCalls
 pub mod Asking
 pub mod FirstThrough
+pub mod Held
 pub mod Searching
 pub mod OneAnswer
 pub mod WithoutReply

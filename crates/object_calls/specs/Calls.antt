@@ -1,5 +1,5 @@
 -- The calls of a type: of each, its name, its first operation, and the places of its operations as a word of bits.
-use Rattle.std.specs.Prelude.{◌≡◌, ℕ, ◌<◌, ◌≤◌, ◌/◌, ◌&&◌, ◌==◌, nat_lt, List, length, true, Option, Some, is_some}
+use Rattle.std.specs.Prelude.{◌≡◌, All, ℕ, ◌<◌, ◌≤◌, ◌/◌, ◌&&◌, ◌==◌, nat_lt, List, length, true, Option, Some, is_some}
 use Rattle.std.specs.Int.{bit_at}
 use Rattle.std.specs.List.{find}
 use Rattle.std.specs.Option.{option_map}
@@ -39,6 +39,12 @@ pub record IsCallTable (T : Table) (calls : List NamedCall) : Type 0 where
   pub numbered : (name : List ℕ) (c : ℕ) → first_op T name ≡ Some c → is_some (by_number calls c) ≡ true
   pub of_number : (c : ℕ) (call : Call) → by_number calls c ≡ Some call → IsCall T call
 
--- the calls of a type that a table declares; those of a number are worked out when they are asked for
-abbrev pub HoldsCalls : Table → List NamedCall → Type 0
-HoldsCalls T calls = length T.ops ≤ most_ops → IsCallTable T calls
+-- a call by its name
+pub record IsNamedCall (T : Table) (n : NamedCall) : Type 0 where
+  pub named : first_op T n.name ≡ Some n.call.first
+  pub call : IsCall T n.call
+
+-- the calls of a type that are held: of a table all of them, of a number some, and the others are worked out when they are asked for
+pub record HoldsCalls (T : Table) (calls : List NamedCall) : Type 0 where
+  pub all : length T.ops ≤ most_ops → IsCallTable T calls
+  pub some : most_ops < length T.ops → All (IsNamedCall T) calls

@@ -1,14 +1,16 @@
 //! The calls of a type, and how one of them is found.
 
-ghost use Rattle.std.specs.Prelude.{◌≡◌, ◌≤◌, ◌<◌, ◌++◌, [], ◌∷◌, ℕ, List, length, Some, IsSome, IfOk, IfSome, OnOk};
+ghost use Rattle.std.specs.Prelude.{◌≡◌, All, ◌≤◌, ◌<◌, ◌++◌, [], ◌∷◌, ℕ, List, length, Some, IsSome, IfOk, IfSome, OnOk};
 ghost use Rattle.type_table.specs.Table.{first_op};
 ghost use Rattle.std.specs.Option.{option_map};
 ghost use Rattle.table_checker.specs.Declarations.{table_of};
-ghost use Rattle.object_calls.specs.Calls.{by_name, by_number, IsCall, IsCallTable, HoldsCalls};
+ghost use Rattle.object_calls.specs.Calls.{by_name, by_number, IsCall, IsNamedCall, HoldsCalls};
+ghost use Rattle.number_text.specs.Operations.{number_table};
 ghost use Rattle.object_calls.specs.Collected.{place_of, AreCallsOf};
 
 use crate::call::{Call, NamedCall};
 use crate::number_calls::{call_by_name, call_by_number};
+use number_text::NumberFile;
 use std::alloc::{AllocError, Global};
 use std::marker::Model;
 use table_checker::{Declaration, DeclaredType};
@@ -30,7 +32,7 @@ impl Model for CallTable {
 }
 
 impl CallTable {
-    /// The calls of a type that is declared so: of a table all of them. Those of a number take no memory.
+    /// The calls of a type that is declared so: of a table all of them, of a number those that its lines name.
     ///
     /// # Errors
     ///
@@ -40,15 +42,13 @@ impl CallTable {
     {
         match declared.declaration() {
             Declaration::Table(file) => CallTable::of_table(alloc, &file.table),
-            Declaration::Number(_) => Ok(CallTable {
-                calls: Vec::new(alloc),
-            }),
+            Declaration::Number(number) => CallTable::of_number(alloc, number),
         }
     }
 
     /// Those of a table.
     fn of_table(alloc: Global, table: &TypeTable) -> Result<CallTable, AllocError>
-        ensures { IfOk result (IsCallTable table.now) }
+        ensures { IfOk result (HoldsCalls table.now) }
     {
         // (read for its clause on what is known of a table)
         let count = table.op_count();
@@ -60,17 +60,31 @@ impl CallTable {
         Ok(CallTable { calls })
     }
 
+    /// Those of a number that its lines name.
+    fn of_number(alloc: Global, number: &NumberFile) -> Result<CallTable, AllocError>
+        ensures { IfOk result (HoldsCalls (number_table number.now)) }
+    {
+        let mut calls = Vec::new(alloc);
+        for row in number.rows() {
+            add_named(&mut calls, number, row.call)?;
+        }
+        Ok(CallTable { calls })
+    }
+
     /// The call with this name of the type that is declared so.
     pub fn by_name(&self, declared: &DeclaredType, name: &[u8]) -> Option<Call>
         requires { HoldsCalls (table_of declared.now) self.now }
         ensures named { option_map (λ (c : Call). c.first) result ≡ first_op (table_of declared.now) name.now }
         ensures call { IfSome result (IsCall (table_of declared.now)) }
     {
+        if let Some(call) = self.held_by_name(name) {
+            return Some(call);
+        }
         match declared.declaration() {
             Declaration::Table(file) => {
                 // (read for its clause on what is known of a table)
                 let _states = file.table.states();
-                self.held_by_name(name)
+                None
             }
             Declaration::Number(number) => call_by_name(number, name),
         }
@@ -82,17 +96,20 @@ impl CallTable {
         ensures named { (name : List ℕ) → first_op (table_of declared.now) name ≡ Some c → IsSome result }
         ensures call { IfSome result (λ call. (call.first ≡ c) × IsCall (table_of declared.now) call) }
     {
+        if let Some(call) = self.held_by_number(c) {
+            return Some(call);
+        }
         match declared.declaration() {
             Declaration::Table(file) => {
                 // (read for its clause on what is known of a table)
                 let _states = file.table.states();
-                self.held_by_number(c)
+                None
             }
             Declaration::Number(number) => call_by_number(number, c),
         }
     }
 
-    /// The call of a table with this name.
+    /// The call that is held with this name.
     fn held_by_name(&self, name: &[u8]) -> Option<Call>
         ensures { result ≡ by_name self.now name.now }
     {
@@ -103,7 +120,7 @@ impl CallTable {
         Some(named.call)
     }
 
-    /// The call of a table with this number.
+    /// The call that is held with this number.
     fn held_by_number(&self, c: Operation) -> Option<Call>
         ensures exact { result ≡ by_number self.now c }
         ensures number { IfSome result (λ call. call.first ≡ c) }
@@ -129,6 +146,20 @@ fn add_operation(calls: &mut Vec<NamedCall>, name: Name, k: u8) -> Result<(), Al
             };
             calls.push(NamedCall { name, call })?;
         }
+    }
+    Ok(())
+}
+
+/// Adds the call of a number that a name asks for, where there is one and it isn't held yet.
+fn add_named(calls: &mut Vec<NamedCall>, number: &NumberFile, name: Name) -> Result<(), AllocError>
+    requires { All (IsNamedCall (number_table number.now)) calls.old.items }
+    ensures { OnOk result (All (IsNamedCall (number_table number.now)) calls.new.items) }
+{
+    if place_of(calls, name).is_some() {
+        return Ok(());
+    }
+    if let Some(call) = call_by_name(number, name.as_bytes()) {
+        calls.push(NamedCall { name, call })?;
     }
     Ok(())
 }

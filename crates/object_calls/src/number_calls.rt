@@ -1,4 +1,4 @@
-//! The calls of a number, which are worked out when they are asked for.
+//! The calls of a number, worked out of its lines.
 
 ghost use Rattle.std.specs.Prelude.{◌≡◌, ◌<◌, ℕ, List, Some, IsSome, IfSome};
 ghost use Rattle.std.specs.Option.{option_map};

@@ -1,6 +1,6 @@
 -- What a request does to a store, and what it is answered.
 use Rattle.std.specs.Prelude.{◌≡◌, ℕ, Bool, ◌==◌, nat_le, List, length, MatchBool, MatchOption, Option, Some, None, slice_get, option_and_then, if◌then◌else◌, Result, Ok, Err}
-use Rattle.type_table.specs.Table.{Table, has_op}
+use Rattle.type_table.specs.Table.{op_of}
 use Rattle.type_table.specs.declared.op.Op.{Op}
 use Rattle.object_trait.specs.Object.{Object}
 use Rattle.object_calls.specs.declared.answer.Answer as calls
@@ -31,13 +31,9 @@ abbrev pub done_or : AnswerLine → Result (Unit {0}) Refusal → AnswerLine
 done_or answer (Ok u) = answer
 done_or answer (Err refusal) = Refused refusal
 
--- operation k of a table, where it is one of the type's
-abbrev pub op_in : Table → ℕ → Option Op
-op_in T k = if has_op T k then slice_get T.ops k else None
-
 -- operation k of the object at x
 abbrev pub op_at : Stored → ℕ → ℕ → Option Op
-op_at s x k = option_and_then (λ (o : Object). op_in o.table k) (slice_get (objects s) x)
+op_at s x k = option_and_then (λ (o : Object). op_of o.table k) (slice_get (objects s) x)
 
 -- its reply
 abbrev pub reply_of : Option Op → AnswerLine

@@ -32,7 +32,7 @@ use type_table::runs_along;
 /// `kept` says it. A store can't be dropped: `close` is its one end.
 pub struct Store<R: Recovery> {
     pub(crate) objects: Vec<R>,
-    // The calls of each object's type; those of a number are worked out.
+    // The calls of each object's type; those of a number that no line names are worked out.
     pub(crate) calls: Vec<CallTable>,
     pub(crate) transactions: OpenTransactions,
     // The events that were forgotten, which only contracts read, and how many they are.

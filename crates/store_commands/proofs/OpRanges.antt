@@ -15,13 +15,12 @@ use Rattle.number_text.specs.Operations.{op_at}
 use Rattle.number_text.specs.declared.number_op.NumberOp.{NumberOp}
 use Rattle.number_text.proofs.Tables.{below_count, found, has_what_is_there}
 use Rattle.table_checker.specs.Checked.{Checked}
-use Rattle.table_checker.specs.Declarations.{table_of}
+use Rattle.table_checker.specs.Declarations.{table_of, IsFitDeclaration}
 use Rattle.table_checker.specs.declared.declared_type.Declaration.{Declaration}
 use Rattle.table_checker.specs.declared.declared_type.Declaration.TheVariants as declared
 use Rattle.store_text.specs.declared.line.ObjectLine.{ObjectLine}
 use Rattle.object_types.specs.Types.{AreTypesOf}
 use Rattle.script_run.specs.Laws.{AreOpsInRange, IsOpInRange}
-use Rattle.command_files.specs.Files.{IsFitDeclaration}
 
 -- ---- one operation
 

@@ -1,11 +1,11 @@
 -- The types of the objects that a text names, by the TYPE words beside it, and why there are none.
 use Rattle.std.specs.Prelude.{◌≡◌, ◌⊎◌, ℕ, List, All, map, IfSome, Result, Ok, Err}
 use Rattle.table_checker.specs.Checked.{Checked}
+use Rattle.table_checker.specs.Declarations.{IsFitDeclaration}
 use Rattle.table_checker.specs.declared.declared_type.Declaration.{Declaration}
 use Rattle.table_checker.specs.declared.refusal.CheckRefusal.{CheckRefusal}
 use Rattle.store_text.specs.declared.line.ObjectLine.{ObjectLine}
 use Rattle.command_files.specs.Answers.{Refuses}
-use Rattle.command_files.specs.Files.{IsFitDeclaration}
 use Rattle.command_files.specs.declared.fault.Fault.{Fault}
 use Rattle.object_types.specs.Types.{AreTypesOf, IsAccepted, IsFirstWith, value_of}
 use Rattle.object_types.specs.declared.object_fault.ObjectFault.TheVariants.{NoType, NeedsEscrow, Refused as RefusedType}

@@ -2,7 +2,7 @@
 
 ghost use Rattle.std.specs.Prelude.{◌≡◌, ℕ, List, All, map, IfOk, IfErr};
 ghost use Rattle.command_files.specs.Answers.{Refuses};
-ghost use Rattle.command_files.specs.Files.{IsFitDeclaration};
+ghost use Rattle.table_checker.specs.Declarations.{IsFitDeclaration};
 ghost use Rattle.store_files.specs.Histories.{AreHistoriesAt, IsFirstFaultyHistory};
 ghost use Rattle.store_files.specs.Types.{AreDeclaredAt, AreReadAt, IsFirstFaultyDeclaration, IsFirstFaultyOf};
 

@@ -1,5 +1,5 @@
 -- A checked type that begins at another state.
-use Rattle.std.proofs.Common.{◌≡◌, ℕ, ◌-◌, ◌<◌, ◌≤◌, Bool, true, false, not, ◌&&◌, List, [], ◌∷◌, length, Option, Some, None, refl, sym, ap, subst, ◌∙◌, inl, inr, arith}
+use Rattle.std.proofs.Common.{◌≡◌, ℕ, ◌-◌, ◌<◌, ◌≤◌, Bool, true, false, List, length, refl, sym, subst, ◌∙◌, inl, inr}
 use Rattle.std.specs.Prelude.{slice_index_or}
 use Rattle.std.proofs.lemmas.Bool.{false≢true, cases_lt, ltb-true}
 use Rattle.std.proofs.lemmas.List.{get_or_past}
@@ -7,7 +7,6 @@ use Rattle.equi_cert.specs.Relation.{relates}
 use Rattle.equi_cert.specs.Simulation.{IsSimulation}
 use Rattle.type_table.specs.Table.{Table, IsTable, next, table_at}
 use Rattle.type_table.specs.StateSet.{has}
-use Rattle.type_table.specs.ConflictTable.{conflicts}
 use Rattle.type_table.specs.declared.kind.Kind.{Kind}
 use Rattle.type_table.specs.declared.kind.Kind.TheVariants as kinds
 use Rattle.type_table.specs.declared.table_kind.TableKind.{TableKind}
@@ -17,8 +16,8 @@ use Rattle.escrow_laws.specs.declared.bounded.Bounded.{Bounded}
 use Rattle.type_text.specs.TypeFile.{file_at, conflicts_of}
 use Rattle.type_text.specs.declared.type_file.TypeFile.{TypeFile}
 use Rattle.table_checker.specs.Checked.{IsCheckedBy, IsCommuting, IsNumericType, IsStrongBy, set_by, condition_of, strong_condition_of}
-use Rattle.table_checker.specs.Condition.{passes, passes_forward, passes_backward, passes_both_ways, fails_at, AreInside, PassesEverywhere}
-use Rattle.table_checker.specs.Reach.{leaves_at, NeverLeaves}
+use Rattle.table_checker.specs.Condition.{passes, passes_forward, passes_backward, passes_both_ways, PassesEverywhere}
+use Rattle.table_checker.specs.Reach.{NeverLeaves}
 use Rattle.table_checker.specs.declared.condition.Condition.{Condition}
 use Rattle.table_checker.specs.declared.condition.Condition.TheVariants.{Forward, Backward, BackwardBothWays}
 use Rattle.table_checker.specs.At.{AtIsChecked, AtIsStrong}

@@ -1,10 +1,15 @@
 -- Numbers are accepted, and their files at another value.
-use Rattle.std.proofs.Common.{◌≡◌, ℕ, ◌+◌, ◌-◌, List, refl, sym, ap, subst, ◌∙◌, arith}
+use Rattle.std.proofs.Common.{◌≡◌, ℕ, ◌+◌, ◌-◌, inl, inr, List, [], ◌∷◌, ◌++◌, length, Some, slice_get, refl, sym, ap, subst, ◌∙◌, arith}
+use Rattle.std.proofs.Math.Seq.{get_or-append_seam}
+use Rattle.std.proofs.lemmas.Bool.{cases_lt}
+use Rattle.std.proofs.lemmas.Option.{slice_get-get_or, slice_get_within}
+use Rattle.std.proofs.lemmas.List.{length-append}
+use Rattle.type_table.proofs.Elements.{slice_get-front}
 use Rattle.type_table.specs.Table.{Table as TableValue}
 use Rattle.escrow_laws.specs.Bounds.{AreBounds, bounds_of}
 use Rattle.escrow_laws.specs.declared.bounded.Bounded.{Bounded}
 use Rattle.number_text.specs.NumberFile.{Number, number_at}
-use Rattle.number_text.specs.Operations.{number_bounds, number_table, NumberHasTable, NumberTellsBounds}
+use Rattle.number_text.specs.Operations.{number_table, NumberHasTable, NumberTellsBounds}
 use Rattle.type_text.specs.TypeFile.{file_at}
 use Rattle.type_table.specs.declared.kind.Kind.{Kind}
 use Rattle.type_table.specs.declared.kind.Kind.TheVariants.{Escrow}
@@ -45,8 +50,26 @@ declared_for-at kind (Numbers v) s is = is
 -- and the bounds that are held are its
 pub holds_bounds-at : (kind : Kind) (d : Declaration) (s : ℕ) (bounds : List Bounded) → HoldsBounds kind d bounds → HoldsBounds kind (declared_at d s) bounds
 holds_bounds-at kind (Table file) s bounds holds = λ escrow. holds escrow ∙ sym (bounds-at file.table s)
-holds_bounds-at kind (Numbers v) s bounds holds = tt
+holds_bounds-at kind (Numbers v) s bounds holds = λ k b at. ap (λ (bs : List Bounded). slice_get bs k) (bounds-at (number_table v) s) ∙ holds k b at
 
 -- what is held of a table is its bounds
 pub held_of_table : (kind : Kind) (d : Declaration) (bounds : List Bounded) (file : TypeFile) → HoldsBounds kind d bounds → d ≡ Table file → kind ≡ Escrow → bounds ≡ bounds_of file.table
 held_of_table kind d bounds file holds is escrow = subst (λ e. HoldsBounds kind e bounds) is holds escrow
+
+-- what is held of a number is its bounds
+pub held_of_number : (kind : Kind) (d : Declaration) (bounds : List Bounded) (v : Number) → HoldsBounds kind d bounds → d ≡ Numbers v → HoldsBounds Escrow (Numbers v) bounds
+held_of_number kind d bounds v holds is = subst (λ e. HoldsBounds kind e bounds) is holds
+
+-- and bounds are held with those of the next operation
+pub holds_more : (all bounds : List Bounded) (b : Bounded) → ((k : ℕ) (d : Bounded) → slice_get bounds k ≡ Some d → slice_get all k ≡ Some d) → slice_get all (length bounds) ≡ Some b
+    → (k : ℕ) (d : Bounded) → slice_get (bounds ++ b ∷ []) k ≡ Some d → slice_get all k ≡ Some d
+holds_more all bounds b holds next k d is = elim (cases_lt k (length bounds)) [
+  | inl below ↦ holds k d (sym (slice_get-front bounds (b ∷ []) k below) ∙ is)
+  | inr from ↦
+      let more = length-append bounds (b ∷ []) in
+      let within = slice_get_within (bounds ++ b ∷ []) k d is in
+      let last : k ≡ length bounds = omega (arith, within, from, more) in
+      let seam : slice_get (bounds ++ b ∷ []) (length bounds) ≡ Some b =
+      slice_get-get_or (bounds ++ b ∷ []) (length bounds) b (omega (arith, more)) ∙ ap Some (get_or-append_seam bounds b [] b) in
+      ap (slice_get all) last ∙ next ∙ sym seam ∙ ap (slice_get (bounds ++ b ∷ [])) (sym last) ∙ is
+]

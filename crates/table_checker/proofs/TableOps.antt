@@ -1,10 +1,10 @@
 -- The operations of a table by their numbers.
-use Rattle.std.proofs.Common.{◌≡◌, ℕ, zero, suc, ◌<◌, ◌≤◌, true, false, leb, ltb, ◌&&◌, ◌/◌, List, [], ◌∷◌, map, length, get_or, slice_get, Option, Some, None, is_some, refl, sym, ap, ◌∙◌, inl, inr, arith}
+use Rattle.std.proofs.Common.{◌≡◌, ℕ, zero, suc, ◌<◌, ◌≤◌, true, false, leb, ltb, ◌&&◌, ◌/◌, List, [], ◌∷◌, map, length, get_or, slice_get, Some, None, refl, sym, ap, ◌∙◌, inl, inr, arith}
 use Rattle.std.proofs.lemmas.Bool.{false≢true, cases_lt, lt-ltb, leb-true, and_parts}
 use Rattle.std.specs.List.{list_all}
 use Rattle.type_table.specs.Name.{is_name, is_name_byte}
 use Rattle.type_table.specs.Operation.{operation_at, place_of, amount_of, amount_by, operation-again}
-use Rattle.type_table.specs.Table.{Table, call_of, has_op}
+use Rattle.type_table.specs.Table.{Table, has_op}
 use Rattle.type_table.specs.declared.op.Op.{Op}
 
 -- the name at a place, where there is one

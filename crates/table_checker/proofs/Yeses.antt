@@ -1,5 +1,5 @@
 -- The answers of the parts of the check, for each kind.
-use Rattle.std.proofs.Common.{◌≡◌, true, Result, Ok, Err, OnOk}
+use Rattle.std.proofs.Common.{Result, Ok, Err, OnOk}
 use Rattle.type_table.specs.Kind.{of_table}
 use Rattle.type_table.specs.declared.kind.Kind.{Kind}
 use Rattle.type_table.specs.declared.table_kind.TableKind.{TableKind}

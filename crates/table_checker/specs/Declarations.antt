@@ -1,11 +1,11 @@
 -- What declares a type: a table's file, or a number, whose table is written nowhere.
-use Rattle.std.specs.Prelude.{◌≡◌, ℕ, ◌+◌, nat_eq, Bool, true, List, [], ◌∷◌, map, replicate, suc, refl}
+use Rattle.std.specs.Prelude.{◌≡◌, ℕ, ◌+◌, nat_eq, true, List, [], ◌∷◌, map, replicate, suc, refl, Some, slice_get}
 use Rattle.std.proofs.Common.{add-one, ap, sym, ◌∙◌}
 use Rattle.std.proofs.lemmas.List.{length-map, length-replicate}
 use Rattle.std.specs.List.{range_with_len}
 use Rattle.std.proofs.lemmas.List.FromFn.{length-map-range_with_len}
 use Rattle.equi_cert.specs.Relation.{rows_by}
-use Rattle.type_table.specs.Table.{Table as TableValue}
+use Rattle.type_table.specs.Table.{Table as TableValue, IsTable}
 use Rattle.type_table.specs.declared.kind.Kind.{Kind}
 use Rattle.type_table.specs.declared.kind.Kind.TheVariants.{Undo, Intentions, Escrow}
 use Rattle.type_table.specs.declared.op.Op.{Op}
@@ -48,6 +48,11 @@ abbrev pub declared_at : Declaration → ℕ → Declaration
 declared_at (Table file) s = Table (file_at file s)
 declared_at (Numbers number) s = Numbers (number_at number s)
 
+-- whatever a text was, it declares a table or a number, whose parts are in their ranges
+abbrev pub IsFitDeclaration : Declaration → Type 0
+IsFitDeclaration (Table file) = IsTable file.table
+IsFitDeclaration (Numbers number) = IsNumber number
+
 -- a number is declared for escrow alone
 abbrev pub IsDeclaredFor : Kind → Declaration → Type 0
 IsDeclaredFor kind (Table file) = Unit {0}
@@ -58,10 +63,10 @@ abbrev pub rows_of : Declaration → List Op
 rows_of (Table file) = file.table.ops
 rows_of (Numbers number) = number_rows number
 
--- for escrow the bounds of a table's operations are held; those of a number are worked out
+-- for escrow the bounds of a table's operations are held, and of a number those of the first ones; the others are worked out
 abbrev pub HoldsBounds : Kind → Declaration → List Bounded → Type 0
 HoldsBounds kind (Table file) bounds = kind ≡ Escrow → bounds ≡ bounds_of file.table
-HoldsBounds kind (Numbers number) bounds = Unit {0}
+HoldsBounds kind (Numbers number) bounds = (k : ℕ) (b : Bounded) → slice_get bounds k ≡ Some b → slice_get (bounds_of (number_table number)) k ≡ Some b
 
 -- what is known of an accepted type: what was tested, that only for escrow it is a number, and the bounds that are held
 pub record IsAccepted (kind : Kind) (declared : Declaration) (bounds : List Bounded) : Type 0 where

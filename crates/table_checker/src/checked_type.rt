@@ -6,6 +6,8 @@ ghost use Rattle.type_table.specs.declared.kind.Kind.TheVariants as kinds;
 ghost use Rattle.escrow_laws.specs.Bounds.{AreBounds, bounds_of};
 ghost use Rattle.number_text.specs.Operations.{number_ops, number_table};
 ghost use Rattle.table_checker.specs.Checked.{condition_of};
+ghost use Rattle.table_checker.specs.Declarations.{HoldsBounds};
+ghost use Rattle.table_checker.specs.declared.declared_type.Declaration.TheVariants.{Number as Numbers};
 
 use crate::condition::Condition;
 use crate::declared_type::{Declaration, DeclaredType};
@@ -24,7 +26,7 @@ use type_text::TypeFile;
 pub struct CheckedType {
     kind: Kind,
     declared: DeclaredType,
-    // For escrow those of the type's operations, and else those of none.
+    // For escrow those of the type's operations, of a number the first ones, and else those of none.
     bounds: OpBounds,
 }
 
@@ -78,12 +80,13 @@ impl CheckedType {
         ensures { result ≡ record { kind = kinds.Escrow; file = number_file number } }
     {
         number_is_checked();
+        let bounds = first_bounds(&number);
         // (read for its clause on what is known of a number)
         let _calls = number.calls();
         CheckedType {
             kind: Kind::Escrow,
             declared: DeclaredType::number(number),
-            bounds: OpBounds::none(),
+            bounds,
         }
     }
 
@@ -227,7 +230,7 @@ impl CheckedType {
     {
         match self.declared.declaration() {
             Declaration::Table(file) => held_at(&file.table, &self.bounds, k),
-            Declaration::Number(number) => bounded_of(number, k),
+            Declaration::Number(number) => held_or_worked_out(number, &self.bounds, k),
         }
     }
 
@@ -286,6 +289,29 @@ fn held_at(table: &TypeTable, bounds: &OpBounds, k: Operation) -> Bounded
     // (read for its clause on what is known of a table)
     let _states = table.states();
     bounds.as_slice()[usize::from(k.place())]
+}
+
+/// The bounds of a number's operation: those of the first ones are held, and the others are worked out.
+fn held_or_worked_out(number: &NumberFile, bounds: &OpBounds, k: Operation) -> Bounded
+    requires bounds { HoldsBounds kinds.Escrow (Numbers number.now) bounds.now }
+    requires operation { k < length (number_ops number.now) }
+    ensures { slice_get (bounds_of (number_table number.now)) k ≡ Some result }
+{
+    match (k.amount(), bounds.as_slice().get(usize::from(k.place()))) {
+        (None, Some(held)) => *held,
+        _ => bounded_of(number, k),
+    }
+}
+
+/// The bounds of a number's first operations, which have no amount: as many as a table may have.
+fn first_bounds(number: &NumberFile) -> OpBounds
+    ensures { HoldsBounds kinds.Escrow (Numbers number.now) result }
+{
+    let mut bounds = OpBounds::none();
+    for place in 0..64 {
+        bounds.push(bounded_of(number, Operation::listed(place)));
+    }
+    bounds
 }
 
 /// The bounds of a number's operation, which are those that its table's steps tell.

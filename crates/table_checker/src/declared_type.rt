@@ -114,6 +114,16 @@ impl DeclaredType {
         }
     }
 
+    /// Whether operation k is one of the type's.
+    pub fn has_op(&self, k: Operation) -> bool
+        ensures { result ≡ has_op (table_of self.now) k }
+    {
+        match &self.declaration {
+            Declaration::Table(file) => op_of(&file.table, k).is_some(),
+            Declaration::Number(number) => number.has_op(k),
+        }
+    }
+
     /// The first operation of the call with this name, where there is such a call.
     pub fn first_op(&self, name: &[u8]) -> Option<Operation>
         ensures { result ≡ first_op (table_of self.now) name.now }

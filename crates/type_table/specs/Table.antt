@@ -41,6 +41,10 @@ call_of T k = slice_index_or (map (λ (o : Op). o.call) T.ops) k []
 abbrev pub has_op : Table → ℕ → Bool
 has_op T k = nat_lt 0 (length (call_of T k))
 
+-- operation k, where it is one of the type's
+abbrev pub op_of : Table → ℕ → Option Op
+op_of T k = if has_op T k then slice_get T.ops k else None
+
 -- some operation has this place
 abbrev pub HasPlace : Table → ℕ → Type 0
 HasPlace T place = (k : ℕ) × (place_of k ≡ place) × (has_op T k ≡ true)

@@ -43,8 +43,8 @@ fn counter(alloc: Global) -> Result<Store<Object>, Fail> {
 fn run<R: Recovery>(store: &mut Store<R>) -> Result<[Answer; 3], Refusal> {
     let first = store.begin(0)?;
     let second = store.begin(1)?;
-    let up = store.call(0, first, 0, "inc:1")?; // Reply(0): from 0 to 1
-    let beside = store.call(1, second, 0, "inc:1")?; // Reply(0): to 2, beside the first
+    let up = store.call(0, first, 0, "inc:1")?; // Reply: from 0 to 1
+    let beside = store.call(1, second, 0, "inc:1")?; // Reply: to 2, beside the first
     let down = store.call(1, second, 0, "dec:1")?; // Busy(0): the first one's up is in the way
     store.abort(0, first)?; // takes that up out of the middle
     store.commit(1, second)?;

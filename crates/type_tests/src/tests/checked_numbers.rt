@@ -70,8 +70,10 @@ fn a_number_of_any_amounts_is_accepted(rt: HostRuntime) {
     assert!(rt; purse.is_strong() && purse.initial() == 20 && purse.greatest() == 100);
     assert!(rt; purse.declared().rows().len() == 9 && purse.op(Operation::listed(0)).is_none());
     for (place, amount, row) in &OF_ANY {
-        assert!(rt; is_bounded(&purse, Operation::with(*place, *amount), *row));
+        let k = Operation::with(*place, *amount);
+        assert!(rt; purse.declared().has_op(k) && is_bounded(&purse, k, *row));
     }
+    assert!(rt; !purse.declared().has_op(Operation::with(0, 101)));
 }
 
 /// The next number of one of the numbers under one of the operations, where it is legal there.

@@ -157,7 +157,7 @@ fn operations_have_names_and_bounds(rt: HostRuntime) {
     for (numbered, call, reply, wanted) in &OPS {
         let k = operation_of(*numbered);
         let op = stock.op(k).expect(&rt, "no operation");
-        assert!(rt; is_named(&op, call, reply) && stock.has_place(k.place()));
+        assert!(rt; is_named(&op, call, reply) && stock.has_op(k) && stock.has_place(k.place()));
         let bounds = bounds_of(&stock, k).expect(&rt, "no bounds");
         assert!(rt; are_bounds(&bounds, *wanted));
     }
@@ -168,7 +168,7 @@ fn other_numbers_are_no_operations(rt: HostRuntime) {
     let stock = number_of(&rt, STOCK);
     for numbered in &NO_OPS {
         let k = operation_of(*numbered);
-        assert!(rt; stock.op(k).is_none() && stock.op_at(k).is_none());
+        assert!(rt; stock.op(k).is_none() && stock.op_at(k).is_none() && !stock.has_op(k));
     }
     assert!(rt; stock.has_place(10) && !stock.has_place(11) && !stock.has_place(255));
 }

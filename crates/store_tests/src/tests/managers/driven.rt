@@ -16,7 +16,7 @@ const MOST_ENTRIES: usize = 1000;
 pub fn has<R: Recovery>(object: &R, k: Operation) -> bool
     ensures { result ≡ true → k < length (R.meaning object.now).checked.file.table.ops }
 {
-    object.declared().op(k).is_some()
+    object.declared().has_op(k)
 }
 
 /// Whether t may execute operation k at an object with this log.

@@ -1,5 +1,4 @@
 use Rattle.std.proofs.Common.{rules}
-use Rattle.table_checker.specs.Checked.{IsCommuting}
 use Rattle.table_checker.proofs.checker.answer_of.Goals as goal
 
 pub commuting-requires : goal.commuting-requires

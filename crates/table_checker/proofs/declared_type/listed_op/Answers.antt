@@ -1,6 +1,5 @@
-use Rattle.std.proofs.Common.{◌≡◌, ◌<◌, List, length, get_or, slice_get, Some, sym, ap, subst, ◌∙◌, arith}
+use Rattle.std.proofs.Common.{◌≡◌, List, length, get_or, slice_get, Some, sym, ap, ◌∙◌, arith}
 use Rattle.std.proofs.lemmas.Option.{slice_get-get_or}
-use Rattle.std.proofs.lemmas.Bool.{and_parts, leb-true}
 use Rattle.type_table.specs.declared.op.Op.{Op}
 use Rattle.table_checker.proofs.TableOps.{op_found, name_length}
 use Rattle.table_checker.proofs.declared_type.listed_op.Goals as goal

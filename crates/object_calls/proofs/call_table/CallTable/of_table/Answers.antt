@@ -18,4 +18,4 @@ pub returns : goal.returns
 returns c =
     let T = c.args.table.now in
     let all : take c.loop-k.k (names_of T.ops) ≡ names_of T.ops = take_all c.loop-k.k (names_of T.ops) (omega (arith, c.op_count-count.ensures.exact, length-map T.ops (λ (o : Op). o.call))) in
-    is_call_table T c.op_count-count.ensures.table.ops_fit c.loop-k.calls.items (rw all at (rw c.ops-ops.ensures at c.loop-k.invariant))
+    record { all = λ few. is_call_table T c.op_count-count.ensures.table.ops_fit c.loop-k.calls.items (rw all at (rw c.ops-ops.ensures at c.loop-k.invariant)); some = λ many. absurd (omega (arith, many, c.op_count-count.ensures.table.ops_fit)) }

@@ -1,11 +1,9 @@
-use Rattle.std.proofs.Common.{◌≡◌, true, List, sym, subst, ap, ◌∙◌}
+use Rattle.std.proofs.Common.{◌≡◌, true, sym, subst, ap, ◌∙◌}
 use Rattle.type_text.specs.TypeFile.{file_at}
 use Rattle.type_text.specs.declared.type_file.TypeFile.{TypeFile}
-use Rattle.escrow_laws.specs.declared.bounded.Bounded.{Bounded}
 use Rattle.table_checker.specs.Checked.{Checked, IsCheckedBy}
 use Rattle.table_checker.specs.At.{is_inside, checked_at}
-use Rattle.table_checker.specs.Declarations.{file_of, declared_at, IsDeclaredFor, HoldsBounds, IsAccepted}
-use Rattle.table_checker.specs.declared.declared_type.Declaration.{Declaration}
+use Rattle.table_checker.specs.Declarations.{file_of, declared_at, IsAccepted}
 use Rattle.table_checker.proofs.Declared.{file_of-at, declared_for-at, holds_bounds-at}
 use Rattle.table_checker.proofs.checked_type.CheckedType.at.Goals as goal
 

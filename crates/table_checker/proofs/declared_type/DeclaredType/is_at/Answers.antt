@@ -1,4 +1,4 @@
-use Rattle.std.proofs.Common.{◌≡◌, ap, sym, ◌∙◌}
+use Rattle.std.proofs.Common.{ap, sym, ◌∙◌}
 use Rattle.type_text.specs.TypeFile.{file_at}
 use Rattle.table_checker.specs.Declarations.{file_of, number_file}
 use Rattle.table_checker.specs.declared.declared_type.Declaration.{Declaration}
