@@ -24,7 +24,7 @@ use Rattle.audit_laws.specs.Laws.{LivingPrecedes}
 -- ---- places for numbers
 
 abbrev placed_kind : ℕ → EventKind → EventKind
-placed_kind p (Op t x k) = Op t x p
+placed_kind p (Op k t x) = Op p t x
 placed_kind p (Begin t) = Begin t
 placed_kind p (Busy c t x u) = Busy c t x u
 placed_kind p (kind.None t x c) = kind.None t x c
@@ -39,7 +39,7 @@ placed p (e ∷ K) = (record { worker = e.worker; kind = placed_kind p e.kind })
 -- ---- what stays, whatever the numbers of operations
 
 op-placed : (t p : ℕ) (happened : EventKind) → is_op_of t (placed_kind p happened) ≡ is_op_of t happened
-op-placed t p (Op u x k) = refl
+op-placed t p (Op k u x) = refl
 op-placed t p (Begin u) = refl
 op-placed t p (Busy c u x v) = refl
 op-placed t p (kind.None u x c) = refl
@@ -48,7 +48,7 @@ op-placed t p (Abort u) = refl
 op-placed t p (Rollback u n) = refl
 
 taken-placed : (t p : ℕ) (happened : EventKind) → taken_back t (placed_kind p happened) ≡ taken_back t happened
-taken-placed t p (Op u x k) = refl
+taken-placed t p (Op k u x) = refl
 taken-placed t p (Begin u) = refl
 taken-placed t p (Busy c u x v) = refl
 taken-placed t p (kind.None u x c) = refl
@@ -57,7 +57,7 @@ taken-placed t p (Abort u) = refl
 taken-placed t p (Rollback u n) = refl
 
 aborted-placed : (p : ℕ) (happened : EventKind) → aborted_by (placed_kind p happened) ≡ aborted_by happened
-aborted-placed p (Op u x k) = refl
+aborted-placed p (Op k u x) = refl
 aborted-placed p (Begin u) = refl
 aborted-placed p (Busy c u x v) = refl
 aborted-placed p (kind.None u x c) = refl
@@ -89,13 +89,13 @@ record IsAt (p : ℕ) (K : List Event) (f : Entry) : Type 0 where
   pub survives : stays f.by after ≡ true
 
 -- of the first event
-at-first : (p w t x k : ℕ) (K : List Event) → AllByRecursion (IsAt p ((record { worker = w; kind = Op t x k }) ∷ K)) (survivor_op (Op t x p) (placed (suc p) K))
+at-first : (p w t x k : ℕ) (K : List Event) → AllByRecursion (IsAt p ((record { worker = w; kind = Op k t x }) ∷ K)) (survivor_op (Op p t x) (placed (suc p) K))
 at-first p w t x k K =
     elim (cases_Bool (stays t (placed (suc p) K))) [
       | inl is ↦ rw is (
         record {
           before = [];
-          happened = record { worker = w; kind = Op t x k };
+          happened = record { worker = w; kind = Op k t x };
           after = K;
           whole = refl;
           place = omega arith;
@@ -111,7 +111,7 @@ at-event : (p : ℕ) (e : Event) (K : List Event) → AllByRecursion (IsAt p (e 
 at-event p e K = at-kind e.worker e.kind
   where
     at-kind : (w : ℕ) (happened : EventKind) → AllByRecursion (IsAt p ((record { worker = w; kind = happened }) ∷ K)) (survivor_op (placed_kind p happened) (placed (suc p) K))
-    at-kind w (Op t x k) = at-first p w t x k K
+    at-kind w (Op k t x) = at-first p w t x k K
     at-kind w (Begin t) = tt
     at-kind w (Busy c t x u) = tt
     at-kind w (kind.None t x c) = tt
@@ -184,7 +184,7 @@ dated-kept H t (suc n) (c ∷ D) (g ∷ V) known =
 -- one more event, which follows B
 dated-step : (H B : List Event) (happened : EventKind) (D : List Dated) (V : List Entry) → take (length B) H ≡ B → AreDatedBy H D V
     → AreDatedBy H (dated_after (commits B) D happened) (survive_after V (placed_kind (length B) happened))
-dated-step H B (Op t x k) D V front known = dated-more H D V _ _ known refl (ap commits (sym front))
+dated-step H B (Op k t x) D V front known = dated-more H D V _ _ known refl (ap commits (sym front))
 dated-step H B (Abort t) D V front known = dated-kept H t 0 D V known
 dated-step H B (Rollback t n) D V front known =
     rw (dated-of H t D V known) (dated-kept H t (length (of t V) - n) D V known)

@@ -38,8 +38,8 @@ event_of words happened pass is =
 
 read_by : (w : ℕ) (happened : EventKind) → w ≤ 255 → AreSmall happened → event_at (words_by w happened) ≡ Some (record { worker = w; kind = happened })
 read_by w (kind.Begin t) few small = event_of (words_by w (kind.Begin t)) (kind.Begin t) (numbers_pass t 0 w small (omega arith) few) refl
-read_by w (kind.Op t x k) few small =
-    event_of (words_by w (kind.Op t x k)) (kind.Op t x k) (numbers_pass t 0 w small.0 (omega arith) few) (ap (option_map (kind.Op t x)) (operation_found k small.1))
+read_by w (kind.Op k t x) few small =
+    event_of (words_by w (kind.Op k t x)) (kind.Op k t x) (numbers_pass t 0 w small.0 (omega arith) few) (ap (option_map (λ operation. kind.Op operation t x)) (operation_found k small.1))
 read_by w (kind.Busy c t x u) few small =
     event_of (words_by w (kind.Busy c t x u)) (kind.Busy c t x u) (numbers_pass t u w small.0 small.2 few) (ap (option_map (λ d. kind.Busy d t x u)) (place_found c small.1))
 read_by w (kind.None t x c) few small =

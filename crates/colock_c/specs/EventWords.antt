@@ -10,7 +10,7 @@ use Rattle.colock_c.specs.declared.event_words.ColockEvent.{ColockEvent}
 -- what happened by a worker. What a kind doesn't have is 0. Of a call without a reply the number is the place of its first operation
 abbrev pub words_by : ℕ → EventKind → ColockEvent
 words_by w (kind.Begin t) = record { transaction = t; other = 0; op = 0; object = 0; kind = 0; worker = w; reserved = 0 }
-words_by w (kind.Op t x k) = record { transaction = t; other = 0; op = k; object = x; kind = 1; worker = w; reserved = 0 }
+words_by w (kind.Op k t x) = record { transaction = t; other = 0; op = k; object = x; kind = 1; worker = w; reserved = 0 }
 words_by w (kind.Busy c t x u) = record { transaction = t; other = u; op = c; object = x; kind = 2; worker = w; reserved = 0 }
 words_by w (kind.None t x c) = record { transaction = t; other = 0; op = c; object = x; kind = 3; worker = w; reserved = 0 }
 words_by w (kind.Commit t) = record { transaction = t; other = 0; op = 0; object = 0; kind = 4; worker = w; reserved = 0 }
@@ -34,7 +34,7 @@ place_at c = if nat_lt c places then Some c else None
 abbrev pub happened_at : ColockEvent → Option EventKind
 happened_at w =
     if w.kind == 0 then Some (kind.Begin w.transaction)
-    else (if w.kind == 1 then option_map (kind.Op w.transaction w.object) (operation_of w.op)
+    else (if w.kind == 1 then option_map (λ operation. kind.Op operation w.transaction w.object) (operation_of w.op)
     else (if w.kind == 2 then option_map (λ c. kind.Busy c w.transaction w.object w.other) (place_at w.op)
     else (if w.kind == 3 then option_map (kind.None w.transaction w.object) (place_at w.op)
     else (if w.kind == 4 then Some (kind.Commit w.transaction)
@@ -48,7 +48,7 @@ event_at w = if are_numbers w then option_map (λ happened. record { worker = w.
 -- an event whose numbers are such
 abbrev pub AreSmall : EventKind → Type 0
 AreSmall (kind.Begin t) = t ≤ 4294967295
-AreSmall (kind.Op t x k) = (t ≤ 4294967295) × (k < operation_count)
+AreSmall (kind.Op k t x) = (t ≤ 4294967295) × (k < operation_count)
 AreSmall (kind.Busy c t x u) = (t ≤ 4294967295) × (c < places) × (u ≤ 4294967295)
 AreSmall (kind.None t x c) = (t ≤ 4294967295) × (c < places)
 AreSmall (kind.Commit t) = t ≤ 4294967295

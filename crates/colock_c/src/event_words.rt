@@ -106,7 +106,7 @@ fn happened_at(words: ColockEvent) -> Option<EventKind>
 
 /// An operation with this number was executed.
 fn executed_at(t: u32, x: u32, op: u64) -> Option<EventKind>
-    ensures { result ≡ option_map (kinds.Op t x) (operation_of op) }
+    ensures { result ≡ option_map (λ k. kinds.Op k t x) (operation_of op) }
 {
     let k = operation_of(op)?;
     Some(EventKind::Op { t, x, k })

@@ -22,7 +22,7 @@ began-zero : (happened : List EventKind) (t : ℕ) → slice_index_or (beginners
 began-zero [] t = refl
 began-zero (Begin n ∷ more) zero = refl
 began-zero (Begin n ∷ more) (suc t) = began-zero more t
-began-zero (Op n x k ∷ more) t = began-zero more t
+began-zero (Op k n x ∷ more) t = began-zero more t
 began-zero (Busy c n x u ∷ more) t = began-zero more t
 began-zero (None n x c ∷ more) t = began-zero more t
 began-zero (Commit n ∷ more) t = began-zero more t

@@ -81,7 +81,7 @@ module _ (objects : List Object) (x : ℕ) (along : RunsAlong) (ends : LegalEnds
 
   -- an operation may be done that is legal after the view and that nothing held keeps out
   may_do : (s : Summary) (t k : ℕ) (v : List ℕ) → is_open s t ≡ true → ops (view o.kind s x t) ≡ v → IsLegalAt o (v ++ k ∷ [])
-      → AllByRecursion (λ e. conflicts_with o s x t k e ≡ false) (at_object x s.survives) → May objects s (Op t x k)
+      → AllByRecursion (λ e. conflicts_with o s x t k e ≡ false) (at_object x s.survives) → May objects s (Op k t x)
   may_do s t k v open_now is legal free =
       let allowed : MayDo (Some o) s x t k = (op-there v k legal, rw is legal, free) in
       (open_now, subst (λ (found : Option Object). MayDo found s x t k) (sym there) allowed)
@@ -122,7 +122,7 @@ module _ (objects : List Object) (x : ℕ) (along : RunsAlong) (ends : LegalEnds
       and-more false b c h = refl
 
   -- after an operation
-  after-one : (s : Summary) (t k : ℕ) → summary_after s (Op t x k) ≡ with_surviving s (s.survives ++ (record { by = t; at = x; op = k }) ∷ [])
+  after-one : (s : Summary) (t k : ℕ) → summary_after s (Op k t x) ≡ with_surviving s (s.survives ++ (record { by = t; at = x; op = k }) ∷ [])
   after-one s t k = rw (append-nil s.committed, append-nil s.aborted) refl
 
   alone_runs : (s : Summary) (t : ℕ) (r : List ℕ) (rest : List EventKind) → is_open s t ≡ true → IsAlone s t → Goes o.table (ops (view o.kind s x t)) r
@@ -227,10 +227,10 @@ module _ (objects : List Object) (x : ℕ) (along : RunsAlong) (ends : LegalEnds
     -- up to the two operations
     prefix_runs : (rest : List EventKind) → IsLetIn → IsLegalAt o (w ++ q ∷ []) → IsLegalAt o (view_of_2 o.kind ++ p ∷ [])
         → RunsFrom objects (record { begun = 3; committed = 0 ∷ []; aborted = []; survives = survived }) rest
-        → RunsFrom objects (summary []) (Begin 0 ∷ (by x 0 w ++ (Commit 0 ∷ Begin 1 ∷ Begin 2 ∷ Op 1 x q ∷ Op 2 x p ∷ rest)))
+        → RunsFrom objects (summary []) (Begin 0 ∷ (by x 0 w ++ (Commit 0 ∷ Begin 1 ∷ Begin 2 ∷ Op q 1 x ∷ Op p 2 x ∷ rest)))
     prefix_runs rest free q_legal p_legal on = (
       refl,
-      alone_runs (record { begun = 1; committed = []; aborted = []; survives = [] }) 0 w (Commit 0 ∷ Begin 1 ∷ Begin 2 ∷ Op 1 x q ∷ Op 2 x p ∷ rest) refl tt
+      alone_runs (record { begun = 1; committed = []; aborted = []; survives = [] }) 0 w (Commit 0 ∷ Begin 1 ∷ Begin 2 ∷ Op q 1 x ∷ Op p 2 x ∷ rest) refl tt
           (rw (view_0 o.kind) (goes_from [] w (legal-front o.table (Some o.table.initial) w (q ∷ []) q_legal)))
           (refl, (refl, (refl, (may_do with_0 1 q w refl (view_1 o.kind) q_legal free_1, (may_do with_1 2 p (view_of_2 o.kind) refl (view_2 o.kind) p_legal (free_2 free), on))))),
     )
@@ -264,7 +264,7 @@ module _ (objects : List Object) (x : ℕ) (along : RunsAlong) (ends : LegalEnds
         summary (breaking x first second w p q r) ≡ record { begun = 4; committed = 0 ∷ first ∷ second ∷ 3 ∷ []; aborted = []; survives = survived ++ done_by x 3 r }
     summary_at_end first second r =
         let last : List EventKind = by x 3 r ++ Commit 3 ∷ [] in
-        let middle : List EventKind = Commit 0 ∷ Begin 1 ∷ Begin 2 ∷ Op 1 x q ∷ Op 2 x p ∷ Commit first ∷ Commit second ∷ Begin 3 ∷ last in
+        let middle : List EventKind = Commit 0 ∷ Begin 1 ∷ Begin 2 ∷ Op q 1 x ∷ Op p 2 x ∷ Commit first ∷ Commit second ∷ Begin 3 ∷ last in
         summary-events [] (Begin 0 ∷ (by x 0 w ++ middle))
         ∙ summary_from-by (record { begun = 1; committed = []; aborted = []; survives = [] }) 0 w middle
         ∙ summary_from-by (ended first second) 3 r (Commit 3 ∷ [])
@@ -332,7 +332,7 @@ module _ (objects : List Object) (x : ℕ) (along : RunsAlong) (ends : LegalEnds
       let p_legal : IsLegalAt o ((w ++ q ∷ []) ++ p ∷ []) = rw (append_assoc w (q ∷ []) (p ∷ [])) q_then_p in
       let q_legal : IsLegalAt o (w ++ q ∷ []) = legal-front o.table begin (w ++ q ∷ []) (p ∷ []) p_legal in
       let rest : List EventKind = Commit 2 ∷ Commit 1 ∷ Begin 3 ∷ (by x 3 r ++ Commit 3 ∷ []) in
-      runs-events objects [] (Begin 0 ∷ (by x 0 w ++ (Commit 0 ∷ Begin 1 ∷ Begin 2 ∷ Op 1 x q ∷ Op 2 x p ∷ rest)))
+      runs-events objects [] (Begin 0 ∷ (by x 0 w ++ (Commit 0 ∷ Begin 1 ∷ Begin 2 ∷ Op q 1 x ∷ Op p 2 x ∷ rest)))
       (prefix_runs objects x along ends o there named w p q rest (let_in Undo undo (λ V. free)) q_legal (seen_legal Undo undo p_legal)
       (tail_runs objects x along ends o there named w p q 2 1 r refl refl refl refl refl (goes_on Undo undo (ended objects x along ends o there named w p q 2 1) (rw (view_3_undo (ended objects x along ends o there named w p q 2 1) refl) (goes_from objects x along ends o there named (w ++ q ∷ p ∷ []) r both)))))
 
@@ -363,7 +363,7 @@ module _ (objects : List Object) (x : ℕ) (along : RunsAlong) (ends : LegalEnds
   pub one_two_runs : o.kind ≡ Intentions → IsLegalAt o (w ++ q ∷ []) → IsLegalAt o (w ++ p ∷ []) → Goes o.table (w ++ q ∷ p ∷ []) r → IsRun objects (breaking x 1 2 w p q r)
   one_two_runs deferred q_legal p_legal goes =
       let rest : List EventKind = Commit 1 ∷ Commit 2 ∷ Begin 3 ∷ (by x 3 r ++ Commit 3 ∷ []) in
-      runs-events objects [] (Begin 0 ∷ (by x 0 w ++ (Commit 0 ∷ Begin 1 ∷ Begin 2 ∷ Op 1 x q ∷ Op 2 x p ∷ rest)))
+      runs-events objects [] (Begin 0 ∷ (by x 0 w ++ (Commit 0 ∷ Begin 1 ∷ Begin 2 ∷ Op q 1 x ∷ Op p 2 x ∷ rest)))
       (prefix_runs objects x along ends o there named w p q rest (let_in objects x along ends o there named w p q r free Intentions deferred (λ V. free)) q_legal (seen_legal objects x along ends o there named w p q r free Intentions deferred p_legal)
       (tail_runs objects x along ends o there named w p q 1 2 r refl refl refl refl refl (goes_on objects x along ends o there named w p q r free Intentions deferred (ended objects x along ends o there named w p q 1 2) (rw view_one_two goes))))
 
@@ -371,6 +371,6 @@ module _ (objects : List Object) (x : ℕ) (along : RunsAlong) (ends : LegalEnds
   pub two_one_runs : o.kind ≡ Intentions → IsLegalAt o (w ++ q ∷ []) → IsLegalAt o (w ++ p ∷ []) → Goes o.table (w ++ p ∷ q ∷ []) r → IsRun objects (breaking x 2 1 w p q r)
   two_one_runs deferred q_legal p_legal goes =
       let rest : List EventKind = Commit 2 ∷ Commit 1 ∷ Begin 3 ∷ (by x 3 r ++ Commit 3 ∷ []) in
-      runs-events objects [] (Begin 0 ∷ (by x 0 w ++ (Commit 0 ∷ Begin 1 ∷ Begin 2 ∷ Op 1 x q ∷ Op 2 x p ∷ rest)))
+      runs-events objects [] (Begin 0 ∷ (by x 0 w ++ (Commit 0 ∷ Begin 1 ∷ Begin 2 ∷ Op q 1 x ∷ Op p 2 x ∷ rest)))
       (prefix_runs objects x along ends o there named w p q rest (let_in objects x along ends o there named w p q r free Intentions deferred (λ V. free)) q_legal (seen_legal objects x along ends o there named w p q r free Intentions deferred p_legal)
       (tail_runs objects x along ends o there named w p q 2 1 r refl refl refl refl refl (goes_on objects x along ends o there named w p q r free Intentions deferred (ended objects x along ends o there named w p q 2 1) (rw view_two_one goes))))

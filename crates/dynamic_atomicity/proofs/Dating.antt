@@ -47,7 +47,7 @@ dated-snoc H e = dated_from-snoc [] [] H e
 
 plain-after : (C : List ℕ) (D : List Dated) (happened : EventKind) → plain (dated_after C D happened) ≡ survive_after (plain D) happened
 plain-after C D (Begin t) = refl
-plain-after C D (Op t x k) = plain-append D ((record { entry = record { by = t; at = x; op = k }; after = C }) ∷ [])
+plain-after C D (Op k t x) = plain-append D ((record { entry = record { by = t; at = x; op = k }; after = C }) ∷ [])
 plain-after C D (Busy c t x u) = refl
 plain-after C D (kind.None t x c) = refl
 plain-after C D (Commit t) = refl
@@ -139,7 +139,7 @@ module _ (strikes : FirmAfterStrike) (objects : List Object) (x : ℕ) (o : Obje
   step : (H : List Event) (happened : EventKind) → plain (here (dated H)) ≡ at_object x (surviving H) → AreInRun (summary H) → May objects (summary H) happened → Firm (summary H)
       → AreDated o (commits H) (here (dated H)) → AreDated o (commits H ++ committed_by happened) (here (dated_after (commits H) (dated H) happened))
   step H (Begin t) are known may firm h = same_committed (commits H) (here (dated H)) h
-  step H (Op t y k) are known may firm h = same_committed (commits H) _ (⊎_elim
+  step H (Op k t y) are known may firm h = same_committed (commits H) _ (⊎_elim
       (λ (at_x : (y == x) ≡ true). subst (λ z. AreDated o (commits H) (here (dated H ++ (record { entry = record { by = t; at = z; op = k }; after = commits H }) ∷ []))) (sym (eqb-true y x at_x))
       (op_here (summary H) (dated H) t k are known may.0 (subst (λ z. MayDo (slice_get objects z) (summary H) z t k) (eqb-true y x at_x) may.1) firm h))
       (λ (elsewhere : (y == x) ≡ false). rw (filter-apart (λ (d : Dated). d.entry.at == x) (dated H) (record { entry = record { by = t; at = y; op = k }; after = commits H }) elsewhere) h)

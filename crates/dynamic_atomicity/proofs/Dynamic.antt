@@ -66,11 +66,11 @@ Tells H d = (t : ℕ) → is_among d.after t ≡ true → Precedes d.entry.at H 
 each_event : (G : List Event) (e : Event) (happened : EventKind) → e.kind ≡ happened → AllByRecursion (Tells (G ++ e ∷ [])) (dated G)
     → AllByRecursion (Tells (G ++ e ∷ [])) (dated_after (commits G) (dated G) happened)
 each_event G e (Begin t) is h = h
-each_event G e (Op t x k) is h =
+each_event G e (Op k t x) is h =
     each-append (Tells (G ++ e ∷ [])) (dated G) ((record { entry = record { by = t; at = x; op = k }; after = commits G }) ∷ []) h
     ((λ u before. record { before = G; happened = e; behind = []; whole = refl; ended = before; operation = rw is mine }), tt)
   where
-    mine : is_op_at x t (Op t x k) ≡ true
+    mine : is_op_at x t (Op k t x) ≡ true
     mine = simp (eq-eqb x x refl, eq-eqb t t refl)
 each_event G e (Busy c t x u) is h = h
 each_event G e (kind.None t x c) is h = h
@@ -93,7 +93,7 @@ keeps-living objects H x ts run keeps =
 -- each committed once
 once_after : (objects : List Object) (G : List Event) (happened : EventKind) → May objects (summary G) happened → AreOnce (commits G) → AreOnce (commits G ++ committed_by happened)
 once_after objects G (Begin t) may once = rw (append-nil (commits G)) once
-once_after objects G (Op t x k) may once = rw (append-nil (commits G)) once
+once_after objects G (Op k t x) may once = rw (append-nil (commits G)) once
 once_after objects G (Busy c t x u) may once = rw (append-nil (commits G)) once
 once_after objects G (kind.None t x c) may once = rw (append-nil (commits G)) once
 once_after objects G (Commit t) may once = once-more (commits G) t (open_is_uncommitted (summary G) t may) once
@@ -111,7 +111,7 @@ follows objects start (f ∷ before) e behind run = rw (append_assoc start (f �
 -- the transaction of an operation is open
 op_is_open : (objects : List Object) (s : Summary) (x u : ℕ) (happened : EventKind) → is_op_at x u happened ≡ true → May objects s happened → is_open s u ≡ true
 op_is_open objects s x u (Begin t) is may = absurd (false≢true is)
-op_is_open objects s x u (Op t y k) is may =
+op_is_open objects s x u (Op k t y) is may =
     elim (cases_Bool (y == x)) [
       | inl at_x ↦ rw (eqb-true t u (simp at_x at is)) at may.0
       | inr elsewhere ↦ absurd (false≢true (simp elsewhere at is))

@@ -106,7 +106,7 @@ module _ (N : Names) where
   -- a list grows at its end
   longer : (K : List ℕ) (i : ℕ) (happened : EventKind) → IsFront K (first_after N K i happened)
   longer K i (Begin t) = front-itself K
-  longer K i (Op t x k) = front-itself K
+  longer K i (Op k t x) = front-itself K
   longer K i (Busy c t x u) = front-itself K
   longer K i (kind.None t x c) = front-itself K
   longer K i (Abort t) = front-itself K
@@ -130,7 +130,7 @@ module _ (N : Names) where
   -- each once
   after-once : (K : List ℕ) (i : ℕ) (happened : EventKind) → AreOnce K → AreOnce (first_after N K i happened)
   after-once K i (Begin t) once = once
-  after-once K i (Op t x k) once = once
+  after-once K i (Op k t x) once = once
   after-once K i (Busy c t x u) once = once
   after-once K i (kind.None t x c) once = once
   after-once K i (Abort t) once = once
@@ -162,7 +162,7 @@ module _ (N : Names) where
   from_after : (M : List At) (m : At) (happened : EventKind) (T : ℕ) → m.event.kind ≡ happened → (is_among (first_commits N M) T ≡ true → HasCommitted M T)
       → is_among (first_after N (first_commits N M) m.store happened) T ≡ true → HasCommitted (M ++ m ∷ []) T
   from_after M m (Begin t) T is h among = committed-longer M m T (h among)
-  from_after M m (Op t x k) T is h among = committed-longer M m T (h among)
+  from_after M m (Op k t x) T is h among = committed-longer M m T (h among)
   from_after M m (Busy c t x u) T is h among = committed-longer M m T (h among)
   from_after M m (kind.None t x c) T is h among = committed-longer M m T (h among)
   from_after M m (Abort t) T is h among = committed-longer M m T (h among)
@@ -200,7 +200,7 @@ module _ (N : Names) where
   -- and each commit's transaction is one of them
   has_after : (K : List ℕ) (i t : ℕ) (happened : EventKind) → is_among (committed_by happened) t ≡ true → is_among (first_after N K i happened) (N.whole i t) ≡ true
   has_after K i t (Begin u) is = absurd (false≢true is)
-  has_after K i t (Op u x k) is = absurd (false≢true is)
+  has_after K i t (Op k u x) is = absurd (false≢true is)
   has_after K i t (Busy c u x v) is = absurd (false≢true is)
   has_after K i t (kind.None u x c) is = absurd (false≢true is)
   has_after K i t (Abort u) is = absurd (false≢true is)
@@ -301,7 +301,7 @@ module _ (N : Names) where
 
     op_of_it : (x u : ℕ) (happened : EventKind) → is_op_at x u happened ≡ true → is_op_of u happened ≡ true
     op_of_it x u (Begin t) is = absurd (false≢true is)
-    op_of_it x u (Op t y k) is = elim (cases_Bool (y == x)) [ inl at_x ↦ simp at_x at is | inr elsewhere ↦ absurd (false≢true (simp elsewhere at is)) ]
+    op_of_it x u (Op k t y) is = elim (cases_Bool (y == x)) [ inl at_x ↦ simp at_x at is | inr elsewhere ↦ absurd (false≢true (simp elsewhere at is)) ]
     op_of_it x u (Busy c t y v) is = absurd (false≢true is)
     op_of_it x u (kind.None t y c) is = absurd (false≢true is)
     op_of_it x u (Commit t) is = absurd (false≢true is)

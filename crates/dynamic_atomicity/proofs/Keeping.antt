@@ -35,7 +35,7 @@ all-among P (v ∷ C) s each among = elim (cases_Bool (v == s)) [
 ]
 
 -- at an operation of v
-pub keeps-op : (x : ℕ) (ts C : List ℕ) (v k : ℕ) → AllByRecursion (λ t. comes_first ts t v ≡ true) C → (t u : ℕ) → is_among C t ≡ true → is_op_at x u (Op v x k) ≡ true → comes_first ts t u ≡ true
+pub keeps-op : (x : ℕ) (ts C : List ℕ) (v k : ℕ) → AllByRecursion (λ t. comes_first ts t v ≡ true) C → (t u : ℕ) → is_among C t ≡ true → is_op_at x u (Op k v x) ≡ true → comes_first ts t u ≡ true
 keeps-op x ts C v k each t u ended operation = rw (eqb-true v u (simp (eq-eqb x x refl) at operation)) at (all-among (λ t. comes_first ts t v ≡ true) C t each ended)
 
 keeps-by : (x : ℕ) (ts C : List ℕ) (v : ℕ) (r : List ℕ) (rest : List EventKind) → AllByRecursion (λ t. comes_first ts t v ≡ true) C → KeepsFrom x ts C (events rest) → KeepsFrom x ts C (events (by x v r ++ rest))
@@ -50,7 +50,7 @@ pub keeps_breaking : (x : ℕ) (ts : List ℕ) (first second : ℕ) (w : List �
 keeps_breaking x ts first second w p q r one two three =
     keeps_from x ts (breaking x first second w p q r) (
       none x ts [],
-      keeps-by x ts [] 0 w (Commit 0 ∷ Begin 1 ∷ Begin 2 ∷ Op 1 x q ∷ Op 2 x p ∷ Commit first ∷ Commit second ∷ Begin 3 ∷ (by x 3 r ++ Commit 3 ∷ [])) tt (
+      keeps-by x ts [] 0 w (Commit 0 ∷ Begin 1 ∷ Begin 2 ∷ Op q 1 x ∷ Op p 2 x ∷ Commit first ∷ Commit second ∷ Begin 3 ∷ (by x 3 r ++ Commit 3 ∷ [])) tt (
         none x ts [],
         (
           none x ts (0 ∷ []),

@@ -28,12 +28,12 @@ StepsHaveOps T = (s k : ℕ) → IsSome (next T s k) → has_op T k ≡ true
 
 -- these operations, by t, at the object at x
 abbrev pub by : ℕ → ℕ → List ℕ → List EventKind
-by x t ks = map (λ k. Op t x k) ks
+by x t ks = map (λ k. Op k t x) ks
 
 -- at x, transaction 0 leads to a state by w and commits; 1 executes q, and 2, while 1 is open, p; both commit, in this order; and 3 runs r
 abbrev pub breaking : ℕ → ℕ → ℕ → List ℕ → ℕ → ℕ → List ℕ → List Event
 breaking x first second w p q r =
-    events (Begin 0 ∷ (by x 0 w ++ (Commit 0 ∷ Begin 1 ∷ Begin 2 ∷ Op 1 x q ∷ Op 2 x p ∷ Commit first ∷ Commit second ∷ Begin 3 ∷ (by x 3 r ++ Commit 3 ∷ []))))
+    events (Begin 0 ∷ (by x 0 w ++ (Commit 0 ∷ Begin 1 ∷ Begin 2 ∷ Op q 1 x ∷ Op p 2 x ∷ Commit first ∷ Commit second ∷ Begin 3 ∷ (by x 3 r ++ Commit 3 ∷ []))))
 
 -- each operation is legal after v and those before it
 abbrev pub Goes : Table → List ℕ → List ℕ → Type 0

@@ -36,7 +36,7 @@ pub record IsOrderOf (committed ts : List ℕ) : Type 0 where
 
 -- an operation of u at x
 abbrev pub is_op_at : ℕ → ℕ → EventKind → Bool
-is_op_at x u (Op t y k) = if y == x then t == u else false
+is_op_at x u (Op k t y) = if y == x then t == u else false
 is_op_at x u _ = false
 
 -- t precedes u at x: some operation of u there comes after t's commit (Weihl's precedes, at one object)
@@ -68,7 +68,7 @@ plain D = map (λ d. d.entry) D
 
 -- after one more event, C having committed
 abbrev pub dated_after : List ℕ → List Dated → EventKind → List Dated
-dated_after C D (Op t x k) = D ++ (record { entry = record { by = t; at = x; op = k }; after = C }) ∷ []
+dated_after C D (Op k t x) = D ++ (record { entry = record { by = t; at = x; op = k }; after = C }) ∷ []
 dated_after C D (Abort t) = keep_first (dated_by t) 0 D
 dated_after C D (Rollback t n) = keep_first (dated_by t) (length (filter (dated_by t) D) - n) D
 dated_after C D _ = D

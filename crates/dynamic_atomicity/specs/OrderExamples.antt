@@ -54,15 +54,15 @@ loose_account = record {
 
 -- q by transaction 0 and p by transaction 1, and the first commits first
 abbrev pub one_way_other : List Event
-one_way_other = events (Begin 0 ∷ Begin 1 ∷ Op 0 0 1 ∷ Op 1 0 0 ∷ Commit 0 ∷ Commit 1 ∷ [])
+one_way_other = events (Begin 0 ∷ Begin 1 ∷ Op 1 0 0 ∷ Op 0 1 0 ∷ Commit 0 ∷ Commit 1 ∷ [])
 
 -- q by 0 and p by 1, both open; 1 commits first, and 2 runs r
 abbrev pub parting_history : List Event
-parting_history = events (Begin 0 ∷ Begin 1 ∷ Op 0 0 1 ∷ Op 1 0 0 ∷ Commit 1 ∷ Commit 0 ∷ Begin 2 ∷ Op 2 0 2 ∷ Commit 2 ∷ [])
+parting_history = events (Begin 0 ∷ Begin 1 ∷ Op 1 0 0 ∷ Op 0 1 0 ∷ Commit 1 ∷ Commit 0 ∷ Begin 2 ∷ Op 2 2 0 ∷ Commit 2 ∷ [])
 
 -- one takes 5 and another gives 5, which are both open, and the second commits first; then a third takes 5
 abbrev pub fives_history : List Event
-fives_history = events (Begin 0 ∷ Begin 1 ∷ Op 0 0 0 ∷ Op 1 0 2 ∷ Commit 1 ∷ Commit 0 ∷ Begin 2 ∷ Op 2 0 0 ∷ Commit 2 ∷ [])
+fives_history = events (Begin 0 ∷ Begin 1 ∷ Op 0 0 0 ∷ Op 2 1 0 ∷ Commit 1 ∷ Commit 0 ∷ Begin 2 ∷ Op 0 2 0 ∷ Commit 2 ∷ [])
 
 -- ---- several stores
 
@@ -77,5 +77,5 @@ at_store i happened = record { store = i; event = record { worker = 0; kind = ha
 abbrev pub two_stores : List At
 two_stores =
     at_store 0 (Begin 0) ∷ at_store 1 (Begin 0) ∷ at_store 0 (Begin 1) ∷ at_store 1 (Begin 1)
-    ∷ at_store 0 (Op 0 0 0) ∷ at_store 1 (Op 1 0 0) ∷ at_store 0 (Op 1 0 0) ∷ at_store 1 (Op 0 0 0)
+    ∷ at_store 0 (Op 0 0 0) ∷ at_store 1 (Op 0 1 0) ∷ at_store 0 (Op 0 1 0) ∷ at_store 1 (Op 0 0 0)
     ∷ at_store 0 (Commit 0) ∷ at_store 1 (Commit 1) ∷ at_store 0 (Commit 1) ∷ at_store 1 (Commit 0) ∷ []

@@ -46,7 +46,7 @@ commit-of (Commit t) s done is =
     let same : done ≡ record { number = t; operations = operations_of t s } = same_Some done (record { number = t; operations = operations_of t s }) is in
     (ap (λ (c : Committed). Commit c.number) (sym same), rw same refl)
 commit-of (Begin t) s done is = absurd (none-some done (sym is))
-commit-of (Op t x k) s done is = absurd (none-some done (sym is))
+commit-of (Op k t x) s done is = absurd (none-some done (sym is))
 commit-of (Busy c t x u) s done is = absurd (none-some done (sym is))
 commit-of (kind.None t x c) s done is = absurd (none-some done (sym is))
 commit-of (Abort t) s done is = absurd (none-some done (sym is))
@@ -56,7 +56,7 @@ commit-of (Rollback t n) s done is = absurd (none-some done (sym is))
 pub none-of : (happened : EventKind) (s : Summary) → None ≡ committed_as happened s → committed_by happened ≡ []
 none-of (Commit t) s is = absurd (none-some (record { number = t; operations = operations_of t s }) is)
 none-of (Begin t) s is = refl
-none-of (Op t x k) s is = refl
+none-of (Op k t x) s is = refl
 none-of (Busy c t x u) s is = refl
 none-of (kind.None t x c) s is = refl
 none-of (Abort t) s is = refl

@@ -68,7 +68,7 @@ kept-none u at committed more taken date e K op none is known =
 
 -- an operation of u
 kept-op : (u w x k at committed taken date : ℕ) (K : List Event) → IsKeptOf u (at + 1) committed K taken date
-    → IsKeptOf u at committed ((record { worker = w; kind = Op u x k }) ∷ K) (taken - 1) (if taken == 0 then max date committed else date)
+    → IsKeptOf u at committed ((record { worker = w; kind = Op k u x }) ∷ K) (taken - 1) (if taken == 0 then max date committed else date)
 kept-op u w x k at committed taken date K known =
     let same : date ≡ date_from u (committed + 0) K = known.same ∙ ap (λ n. date_from u n K) (omega arith) in
     record {
@@ -178,7 +178,7 @@ module _ (H : List Event) (at : ℕ) (e : Event) (here : slice_get H at ≡ Some
           subst P same-count (kept-of (at + 1) H old u known low)
 
       -- an operation
-      pub dates-op : (t x k : ℕ) → e.kind ≡ Op t x k → new.taken_back.items ≡ set old.taken_back.items t (get_or old.taken_back.items t 0 - 1)
+      pub dates-op : (t x k : ℕ) → e.kind ≡ Op k t x → new.taken_back.items ≡ set old.taken_back.items t (get_or old.taken_back.items t 0 - 1)
           → new.dates.items ≡ set old.dates.items t (if get_or old.taken_back.items t 0 == 0 then max (get_or old.dates.items t 0) old.committed else get_or old.dates.items t 0)
           → AreDatesFrom at H new
       dates-op t x k is taken dates =
@@ -197,7 +197,7 @@ module _ (H : List Event) (at : ℕ) (e : Event) (here : slice_get H at ≡ Some
                 kept-same u at n (e ∷ K) _ (taken_now u) _ (if get_or old.taken_back.items u 0 == 0 then max (get_or old.dates.items u 0) n else get_or old.dates.items u 0)
                 (ap (λ l. get_or l u 0) taken ∙ set-here old.taken_back.items t u (taken_now u) taken_now same (omega (arith, both, many, low)) refl)
                 (ap (λ l. get_or l u 0) dates ∙ set-here old.dates.items t u _ date_now same (omega (arith, many, low)) date_is)
-                (kept-kind u at n e K (Op u x k) _ _ (is ∙ ap (λ v. Op v x k) (eqb-true t u same))
+                (kept-kind u at n e K (Op k u x) _ _ (is ∙ ap (λ v. Op k v x) (eqb-true t u same))
                 (kept-op u e.worker x k at n (get_or old.taken_back.items u 0) (get_or old.dates.items u 0) K (kept-here u (omega (arith, many, low)))))
             | inr other ↦
                 kept-same u at n (e ∷ K) _ (get_or old.taken_back.items u 0) _ (get_or old.dates.items u 0)

@@ -60,7 +60,7 @@ place-before types kept x place there = there-before (λ table. IsPlace table pl
 -- so what may come next at these may come next at those
 event-before : (types : List Checked) (kept : List ℕ) (s : Summary) (e : EventKind) → ContinuesHistory (tables (types_at types kept)) s e → ContinuesHistory (tables types) s e
 event-before types kept s (Begin t) may = may
-event-before types kept s (Op t x k) may = (may.0, operation-before types kept x k may.1)
+event-before types kept s (Op k t x) may = (may.0, operation-before types kept x k may.1)
 event-before types kept s (Busy c t x u) may = (may.0, place-before types kept x c may.1)
 event-before types kept s (kind.None t x c) may = (may.0, place-before types kept x c may.1)
 event-before types kept s (Commit t) may = may

@@ -67,9 +67,9 @@ module _ (law : MovedRowsAgree) (tables : List Table) (old new : List (Option (L
 
   module _ (t : ℕ) (its : List Executed) (there : slice_get old t ≡ Some (Some its)) where
     pub op_taken : (x k : ℕ) → IsOperation (slice_get tables x) k → new ≡ set old t (Some (its ++ (record { x = x; k = k }) ∷ []))
-        → Takes tables old (Op t x k) (Ok tt) new
+        → Takes tables old (Op k t x) (Ok tt) new
     op_taken x k operation becomes =
-        (None, taken (Op t x k) None (λ s known. ((opened old s t known its there, operation), refl)) record { its = its; was = there; becomes = becomes })
+        (None, taken (Op k t x) None (λ s known. ((opened old s t known its there, operation), refl)) record { its = its; was = there; becomes = becomes })
 
     pub busy_taken : (c x u : ℕ) → IsPlace (slice_get tables x) c → new ≡ old → Takes tables old (Busy c t x u) (Ok tt) new
     busy_taken c x u place same = (None, taken (Busy c t x u) None (λ s known. ((opened old s t known its there, place), refl)) same)
@@ -99,7 +99,7 @@ module _ (law : MovedRowsAgree) (tables : List Table) (old new : List (Option (L
 module _ (tables : List Table) (old new : List (Option (List Executed))) (t : ℕ) where
   -- those of a transaction that ended
   module _ (there : slice_get old t ≡ Some None) where
-    pub op_closed : (x k : ℕ) → Judges tables old (Op t x k) (Err Bad) new
+    pub op_closed : (x k : ℕ) → Judges tables old (Op k t x) (Err Bad) new
     op_closed x k = λ H known may. closed old (summary H) t known there may.0
 
     pub busy_closed : (c x u : ℕ) → Judges tables old (Busy c t x u) (Err Bad) new

@@ -36,7 +36,7 @@ goes-more tables before (f ∷ H) e goes may =
 pub there-after : (tables : List Table) (s : Summary) (happened : EventKind) → ContinuesHistory tables s happened
     → AllByRecursion (λ (e : Entry). IsOperation (slice_get tables e.at) e.op) s.survives → AllByRecursion (λ (e : Entry). IsOperation (slice_get tables e.at) e.op) (summary_next s happened).survives
 there-after tables s (Begin t) may known = known
-there-after tables s (Op t x k) may known = each-append (λ (e : Entry). IsOperation (slice_get tables e.at) e.op) s.survives ((record { by = t; at = x; op = k }) ∷ []) known (may.1, tt)
+there-after tables s (Op k t x) may known = each-append (λ (e : Entry). IsOperation (slice_get tables e.at) e.op) s.survives ((record { by = t; at = x; op = k }) ∷ []) known (may.1, tt)
 there-after tables s (Busy c t x u) may known = known
 there-after tables s (kind.None t x c) may known = known
 there-after tables s (Commit t) may known = known
@@ -64,7 +64,7 @@ other-than-open s t u opened committed =
 -- the operations of a committed transaction are the same after any event
 pub same-own : OwnAfter → (tables : List Table) (s : Summary) (happened : EventKind) (u : ℕ) → ContinuesHistory tables s happened → is_among s.committed u ≡ true → of u (summary_next s happened).survives ≡ of u s.survives
 same-own own tables s (Begin t) u may committed = refl
-same-own own tables s (Op t x k) u may committed = rw (other-than-open s t u may.0 committed) at (own s (Op t x k) u)
+same-own own tables s (Op k t x) u may committed = rw (other-than-open s t u may.0 committed) at (own s (Op k t x) u)
 same-own own tables s (Busy c t x v) u may committed = refl
 same-own own tables s (kind.None t x c) u may committed = refl
 same-own own tables s (Commit t) u may committed = refl
@@ -74,7 +74,7 @@ same-own own tables s (Rollback t n) u may committed = rw (other-than-open s t u
 -- a commit is the last in commit order
 committed-after : (s : Summary) (happened : EventKind) → (summary_next s happened).committed ≡ s.committed ++ committed_by happened
 committed-after s (Begin t) = sym (append-nil s.committed)
-committed-after s (Op t x k) = sym (append-nil s.committed)
+committed-after s (Op k t x) = sym (append-nil s.committed)
 committed-after s (Busy c t x u) = sym (append-nil s.committed)
 committed-after s (kind.None t x c) = sym (append-nil s.committed)
 committed-after s (Commit t) = refl

@@ -23,10 +23,10 @@ pub has : (k : ℕ) (op : NumberOp) → op_at purse k ≡ Some op → has_op (nu
 has k op is = sym (has_what_is_there purse k purse_is) ∙ ap is_some is
 
 -- what it has none for is bad
-pub bad : (k : ℕ) → op_at purse k ≡ None → IsBadFirst (kind.Op 0 0 k)
+pub bad : (k : ℕ) → op_at purse k ≡ None → IsBadFirst (kind.Op k 0 0)
 bad k none = record {
   history = (refl, tt);
-  event = record { worker = 0; kind = kind.Op 0 0 k };
+  event = record { worker = 0; kind = kind.Op k 0 0 };
   there = refl;
   bad = λ may. false≢true (ap is_some (sym none) ∙ (has_what_is_there purse k purse_is ∙ may.1));
 }

@@ -74,18 +74,18 @@ module _ (old new : List (Option (List Executed))) (s now : Summary) (known : Ar
 
 module _ (old new : List (Option (List Executed))) (s : Summary) (known : AreRows old s) where
   -- an operation
-  rows-op : (t x k : ℕ) → AreInRun (summary_next s (Op t x k)) → is_open s t ≡ true → ((u : ℕ) → of u (summary_next s (Op t x k)).survives ≡ own_after u s (Op t x k))
-      → RowsMove (Op t x k) old new → AreRows new (summary_next s (Op t x k))
+  rows-op : (t x k : ℕ) → AreInRun (summary_next s (Op k t x)) → is_open s t ≡ true → ((u : ℕ) → of u (summary_next s (Op k t x)).survives ≡ own_after u s (Op k t x))
+      → RowsMove (Op k t x) old new → AreRows new (summary_next s (Op k t x))
   rows-op t x k in_run open_now own move =
-      rows-moved old new s (summary_next s (Op t x k)) known in_run t (λ its. Some (its ++ (record { x = x; k = k }) ∷ [])) move refl
-      (λ its was. open-row (its ++ (record { x = x; k = k }) ∷ []) t (summary_next s (Op t x k)) open_now (operations its was))
+      rows-moved old new s (summary_next s (Op k t x)) known in_run t (λ its. Some (its ++ (record { x = x; k = k }) ∷ [])) move refl
+      (λ its was. open-row (its ++ (record { x = x; k = k }) ∷ []) t (summary_next s (Op k t x)) open_now (operations its was))
       (λ u other. refl)
       (λ u other. own u ∙ rw other refl)
     where
-      mine : of t (summary_next s (Op t x k)).survives ≡ of t s.survives ++ (record { by = t; at = x; op = k }) ∷ []
+      mine : of t (summary_next s (Op k t x)).survives ≡ of t s.survives ++ (record { by = t; at = x; op = k }) ∷ []
       mine = own t ∙ rw (eq-eqb t t refl) refl
 
-      operations : (its : List Executed) → its ≡ operations_of t s → its ++ (record { x = x; k = k }) ∷ [] ≡ operations_of t (summary_next s (Op t x k))
+      operations : (its : List Executed) → its ≡ operations_of t s → its ++ (record { x = x; k = k }) ∷ [] ≡ operations_of t (summary_next s (Op k t x))
       operations its was =
           ap (λ those. those ++ (record { x = x; k = k }) ∷ []) was
           ∙ sym (map-append plain (of t s.survives) ((record { by = t; at = x; op = k }) ∷ []))
@@ -140,7 +140,7 @@ rows-after : (tables : List Table) (old new : List (Option (List Executed))) (s 
     → ((u : ℕ) → is_open (summary_next s happened) u ≡ is_open_after s happened u) → ((u : ℕ) → of u (summary_next s happened).survives ≡ own_after u s happened)
     → RowsMove happened old new → AreRows new (summary_next s happened)
 rows-after tables old new s (Begin t) known in_run may opens own move = rows-begin old new s known t in_run may opens move
-rows-after tables old new s (Op t x k) known in_run may opens own move = rows-op old new s known t x k in_run may.0 own move
+rows-after tables old new s (Op k t x) known in_run may opens own move = rows-op old new s known t x k in_run may.0 own move
 rows-after tables old new s (Busy c t x u) known in_run may opens own move = subst (λ rows. AreRows rows s) (sym move) known
 rows-after tables old new s (kind.None t x c) known in_run may opens own move = subst (λ rows. AreRows rows s) (sym move) known
 rows-after tables old new s (Commit t) known in_run may opens own move = rows-end old new s (summary_next s (Commit t)) known in_run t refl opens (λ u other. refl) move

@@ -50,7 +50,7 @@ same-places tables states x place = same-at (λ table. IsPlace table place) (λ 
 -- and the same events may come next
 same-events : (tables : List Table) (states : List ℕ) (s : Summary) (e : EventKind) → ContinuesHistory (tables_at tables states) s e ≡ ContinuesHistory tables s e
 same-events tables states s (Begin t) = refl
-same-events tables states s (Op t x k) = rw (same-operations tables states x k) refl
+same-events tables states s (Op k t x) = rw (same-operations tables states x k) refl
 same-events tables states s (Busy c t x u) = rw (same-places tables states x c) refl
 same-events tables states s (kind.None t x c) = rw (same-places tables states x c) refl
 same-events tables states s (Commit t) = refl

@@ -35,7 +35,7 @@ operations-there tables H rows t known =
 pub nothing-committed : (happened : EventKind) (s : Summary) → ((t : ℕ) → happened ≡ Commit t → ⊥) → None ≡ committed_as happened s
 nothing-committed (Commit t) s other = absurd (other t refl)
 nothing-committed (Begin t) s other = refl
-nothing-committed (Op t x k) s other = refl
+nothing-committed (Op k t x) s other = refl
 nothing-committed (Busy c t x u) s other = refl
 nothing-committed (kind.None t x c) s other = refl
 nothing-committed (Abort t) s other = refl

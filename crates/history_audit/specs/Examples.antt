@@ -27,7 +27,7 @@ too_many_history = events (Begin 0 ∷ Op 0 0 0 ∷ Rollback 0 2 ∷ [])
 
 -- one counts down at object 1, and then at object 0 up, down and down, and commits: both last downs aren't legal
 abbrev pub two_stops_history : List Event
-two_stops_history = events (Begin 0 ∷ Op 0 1 1 ∷ Op 0 0 0 ∷ Op 0 0 1 ∷ Op 0 0 1 ∷ Commit 0 ∷ [])
+two_stops_history = events (Begin 0 ∷ Op 1 0 1 ∷ Op 0 0 0 ∷ Op 1 0 0 ∷ Op 1 0 0 ∷ Commit 0 ∷ [])
 
 -- its operations
 abbrev pub two_stops : List Executed
@@ -44,7 +44,7 @@ stop_at x place = record { object = x; place = place }
 
 -- one counts up at both counters while another begins and commits
 abbrev pub two_ups : List Event
-two_ups = events (Begin 0 ∷ Op 0 1 0 ∷ Begin 1 ∷ Op 0 0 0 ∷ Commit 1 ∷ [])
+two_ups = events (Begin 0 ∷ Op 0 0 1 ∷ Begin 1 ∷ Op 0 0 0 ∷ Commit 1 ∷ [])
 
 -- its rows: transaction 0 has two operations, and transaction 1 ended
 abbrev pub two_ups_rows : List (Option (List Executed))
@@ -56,7 +56,7 @@ one_up_rows = Some (operation 1 0 ∷ []) ∷ None ∷ []
 
 -- one counts up and commits, and in the next history one counts down and commits
 abbrev pub up_then_down : List (List Event)
-up_then_down = events (Begin 0 ∷ Op 0 0 0 ∷ Commit 0 ∷ []) ∷ events (Begin 0 ∷ Op 0 0 1 ∷ Commit 0 ∷ []) ∷ []
+up_then_down = events (Begin 0 ∷ Op 0 0 0 ∷ Commit 0 ∷ []) ∷ events (Begin 0 ∷ Op 1 0 0 ∷ Commit 0 ∷ []) ∷ []
 
 -- ---- a number
 
@@ -76,12 +76,12 @@ value n = operation_at 6 (Some n)
 -- one gives 7 and takes 2, while another gives 1 and commits first; then a third reads 6 and takes 3
 abbrev pub purse_history : List Event
 purse_history =
-    events (Begin 0 ∷ Op 0 0 (give_any 7) ∷ Begin 1 ∷ Op 1 0 (give_any 1) ∷ Op 0 0 (take_any 2) ∷ Commit 1 ∷ Commit 0
-    ∷ Begin 2 ∷ Op 2 0 (value 6) ∷ Op 2 0 0 ∷ Commit 2 ∷ [])
+    events (Begin 0 ∷ Op (give_any 7) 0 0 ∷ Begin 1 ∷ Op (give_any 1) 1 0 ∷ Op (take_any 2) 0 0 ∷ Commit 1 ∷ Commit 0
+    ∷ Begin 2 ∷ Op (value 6) 2 0 ∷ Op 0 2 0 ∷ Commit 2 ∷ [])
 
 -- one gives 5, another takes 4 and commits first
 abbrev pub early_history : List Event
-early_history = events (Begin 0 ∷ Op 0 0 (give_any 5) ∷ Begin 1 ∷ Op 1 0 (take_any 4) ∷ Commit 1 ∷ Commit 0 ∷ [])
+early_history = events (Begin 0 ∷ Op (give_any 5) 0 0 ∷ Begin 1 ∷ Op (take_any 4) 1 0 ∷ Commit 1 ∷ Commit 0 ∷ [])
 
 -- the purse's first transaction has begun, and this can't follow
 abbrev pub IsBadFirst : EventKind → Type 0
@@ -89,4 +89,4 @@ IsBadFirst event = IsFirstBad one_purse (events (Begin 0 ∷ event ∷ [])) 1
 
 -- one counts up at a counter, and says an amount
 abbrev pub amount_history : List Event
-amount_history = events (Begin 0 ∷ Op 0 0 (operation_at 0 (Some 1)) ∷ [])
+amount_history = events (Begin 0 ∷ Op (operation_at 0 (Some 1)) 0 0 ∷ [])

@@ -13,7 +13,7 @@ use Rattle.history_audit.specs.Rows.{AreRows, committed_in}
 -- the rows have to grow for the event
 abbrev pub takes_memory : EventKind → Bool
 takes_memory (Begin t) = true
-takes_memory (Op t x k) = true
+takes_memory (Op k t x) = true
 takes_memory _ = false
 
 -- The event is judged after every list of events with which the old rows agree. Where it is taken it can follow there, the new rows

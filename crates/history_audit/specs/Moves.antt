@@ -18,7 +18,7 @@ pub record IsRowMoved (old new : List (Option (List Executed))) (t : ℕ) (moved
 -- rollback strikes the last n operations of its row; and other events change nothing
 abbrev pub RowsMove : EventKind → List (Option (List Executed)) → List (Option (List Executed)) → Type 0
 RowsMove (Begin t) old new = new ≡ old ++ Some [] ∷ []
-RowsMove (Op t x k) old new = IsRowMoved old new t (λ its. Some (its ++ (record { x = x; k = k }) ∷ []))
+RowsMove (Op k t x) old new = IsRowMoved old new t (λ its. Some (its ++ (record { x = x; k = k }) ∷ []))
 RowsMove (Commit t) old new = IsRowMoved old new t (λ its. None)
 RowsMove (Abort t) old new = IsRowMoved old new t (λ its. None)
 RowsMove (Rollback t n) old new = IsRowMoved old new t (λ its. Some (take (length its - n) its))

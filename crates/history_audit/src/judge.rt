@@ -128,7 +128,7 @@ impl Judge {
 
     // An operation of an open transaction.
     fn op(&mut self, types: &[&DeclaredType], t: u32, x: u32, k: Operation) -> Verdict
-        ensures judged { Takes (map (λ t. table_of t.now) types.now) self.old (kind.Op t x k) result self.new }
+        ensures judged { Takes (map (λ t. table_of t.now) types.now) self.old (kind.Op k t x) result self.new }
         ensures kept { OnErr result (self.new ≡ self.old) }
     {
         moved_rows_agree();

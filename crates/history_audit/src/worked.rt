@@ -110,7 +110,7 @@ pub fn events_are_judged()
     ensures takes_back { Judges two_counters two_ups_rows (kind.Rollback 0 1) (Ok None) one_up_rows }
     ensures begins { Judges two_counters two_ups_rows (kind.Begin 2) (Ok None) (two_ups_rows ++ Some [] ∷ []) }
     ensures misnumbered { Judges two_counters two_ups_rows (kind.Begin 3) (Err fault.Bad) two_ups_rows }
-    ensures ended { Judges two_counters two_ups_rows (kind.Op 1 0 0) (Err fault.Bad) two_ups_rows }
+    ensures ended { Judges two_counters two_ups_rows (kind.Op 0 1 0) (Err fault.Bad) two_ups_rows }
     ensures overdone { Judges two_counters two_ups_rows (kind.Rollback 0 3) (Err fault.Bad) two_ups_rows }
     ensures no_memory { Judges two_counters two_ups_rows (kind.Commit 0) (Err fault.NoMemory) two_ups_rows → ⊥ }
     ensures not_handed_out { Judges two_counters two_ups_rows (kind.Commit 0) (Ok None) (None ∷ None ∷ []) → ⊥ }

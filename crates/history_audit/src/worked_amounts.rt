@@ -31,14 +31,14 @@ pub fn taken_before_it_is_given()
 /// No operation is one of `take any` or of `value` that comes without an amount, or one that is listed and comes with one;
 /// nor is one whose amount is out of its range, 1 to 9, or 0 to 9 for `value`. No operation of a table has an amount.
 pub fn operations_that_are_bad()
-    ensures without { IsBadFirst (kind.Op 0 0 2) }
-    ensures value_without { IsBadFirst (kind.Op 0 0 6) }
-    ensures listed_with { IsBadFirst (kind.Op 0 0 (operation_at 0 (Some 3))) }
-    ensures nothing { IsBadFirst (kind.Op 0 0 (take_any 0)) }
-    ensures too_much { IsBadFirst (kind.Op 0 0 (take_any 10)) }
-    ensures too_much_given { IsBadFirst (kind.Op 0 0 (give_any 10)) }
-    ensures value_past { IsBadFirst (kind.Op 0 0 (value 10)) }
-    ensures second_of_value { IsBadFirst (kind.Op 0 0 (operation_at 7 (Some 1))) }
+    ensures without { IsBadFirst (kind.Op 2 0 0) }
+    ensures value_without { IsBadFirst (kind.Op 6 0 0) }
+    ensures listed_with { IsBadFirst (kind.Op (operation_at 0 (Some 3)) 0 0) }
+    ensures nothing { IsBadFirst (kind.Op (take_any 0) 0 0) }
+    ensures too_much { IsBadFirst (kind.Op (take_any 10) 0 0) }
+    ensures too_much_given { IsBadFirst (kind.Op (give_any 10) 0 0) }
+    ensures value_past { IsBadFirst (kind.Op (value 10) 0 0) }
+    ensures second_of_value { IsBadFirst (kind.Op (operation_at 7 (Some 1)) 0 0) }
     ensures at_a_table { IsFirstBad (counter ∷ []) amount_history 1 }
 {}
 

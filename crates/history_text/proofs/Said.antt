@@ -21,14 +21,14 @@ objects_said [] happened = no_object happened
 objects_said (o ∷ objects) happened = ap (λ rest. o ∷ rest) (objects_said objects happened)
 
 -- the line of an operation says its place and its amount
-op_again : (w t x k : ℕ) (amount : Option ℕ) → event_of (op_line w t x k amount) ≡ record { worker = w; kind = kind.Op t x (operation_at k amount) }
+op_again : (w t x k : ℕ) (amount : Option ℕ) → event_of (op_line w t x k amount) ≡ record { worker = w; kind = kind.Op (operation_at k amount) t x }
 op_again w t x k None = refl
 op_again w t x k (Some n) = refl
 
 -- the line of an event says it
 pub event_again : (w : ℕ) (k : EventKind) → event_of (line_at w k) ≡ record { worker = w; kind = k }
 event_again w (kind.Begin t) = refl
-event_again w (kind.Op t x k) = op_again w t x (place_of k) (amount_of k) ∙ ap (λ p. record { worker = w; kind = kind.Op t x p }) (operation-again k)
+event_again w (kind.Op k t x) = op_again w t x (place_of k) (amount_of k) ∙ ap (λ p. record { worker = w; kind = kind.Op p t x }) (operation-again k)
 event_again w (kind.Busy c t x u) = refl
 event_again w (kind.None t x c) = refl
 event_again w (kind.Commit t) = refl

@@ -105,8 +105,8 @@ event w kind = record { worker = w; kind = kind }
 -- the event that a line says
 abbrev pub event_of : EventLine → Event
 event_of (Begin w t) = event w (kind.Begin t)
-event_of (Op w t x k) = event w (kind.Op t x k)
-event_of (OpOf w t x k n) = event w (kind.Op t x (operation_at k (Some n)))
+event_of (Op w t x k) = event w (kind.Op k t x)
+event_of (OpOf w t x k n) = event w (kind.Op (operation_at k (Some n)) t x)
 event_of (Busy w t x c u) = event w (kind.Busy c t x u)
 event_of (Nothing w t x c) = event w (kind.None t x c)
 event_of (Commit w t) = event w (kind.Commit t)
@@ -121,7 +121,7 @@ op_line w t x k (Some n) = OpOf w t x k n
 -- the line of a kind of event at a worker's call
 abbrev pub line_at : ℕ → EventKind → EventLine
 line_at w (kind.Begin t) = Begin w t
-line_at w (kind.Op t x k) = op_line w t x (place_of k) (amount_of k)
+line_at w (kind.Op k t x) = op_line w t x (place_of k) (amount_of k)
 line_at w (kind.Busy c t x u) = Busy w t x c u
 line_at w (kind.None t x c) = Nothing w t x c
 line_at w (kind.Commit t) = Commit w t

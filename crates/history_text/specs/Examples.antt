@@ -62,11 +62,11 @@ abbrev pub some_events : List Event
 some_events =
     at_worker 0 (kind.Begin 0)
     ∷ at_worker 255 (kind.Begin 1)
-    ∷ at_worker 0 (kind.Op 0 1 63)
+    ∷ at_worker 0 (kind.Op 63 0 1)
     ∷ at_worker 255 (kind.Busy 2 1 1 0)
     ∷ at_worker 255 (kind.None 1 0 3)
     ∷ at_worker 0 (kind.Rollback 0 1)
-    ∷ at_worker 0 (kind.Op 0 0 (operation_at 2 (Some 4294967295)))
+    ∷ at_worker 0 (kind.Op (operation_at 2 (Some 4294967295)) 0 0)
     ∷ at_worker 0 (kind.Commit 0)
     ∷ at_worker 255 (kind.Abort 1)
     ∷ []

@@ -12,4 +12,4 @@ pub struct HistoryFile {
 // Bytes for each line: at most 64 of the value, and at most 160 while it is read. The list of events
 // doubles as it grows, so three times as much as they take may be there at once; at its end it is cut to
 // its length, beside a list of at most twice as much.
-const _: () = prove!(size_of::<Event>() == 24 && 3 * size_of::<Event>() <= 160);
+const _: () = prove!(size_of::<Event>() == 20 && 3 * size_of::<Event>() <= 160);

@@ -14,9 +14,9 @@ event_keyed n e = (Null ∷ event_columns e, refl)
 
 pub event_read_back : (n : ℕ) (e : EventKind) → event_told (event_row n e) ≡ e
 event_read_back n (Begin t) = refl
-event_read_back n (Op t x k) = told (amount_of k) ∙ ap (Op t x) (operation-again k)
+event_read_back n (Op k t x) = told (amount_of k) ∙ ap (λ k. Op k t x) (operation-again k)
   where
-    told : (amount : Option ℕ) → Op t x (operation_at (place_of k) (amount_in (amount_value amount))) ≡ Op t x (operation_at (place_of k) amount)
+    told : (amount : Option ℕ) → Op (operation_at (place_of k) (amount_in (amount_value amount))) t x ≡ Op (operation_at (place_of k) amount) t x
     told option.None = refl
     told (option.Some m) = refl
 event_read_back n (Busy c t x u) = refl

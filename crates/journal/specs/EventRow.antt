@@ -48,7 +48,7 @@ amount_in _ = None
 
 abbrev pub event_columns : EventKind → Row
 event_columns (kind.Begin t) = columns word.Begin t Null Null Null
-event_columns (kind.Op t x k) = columns word.Op t (Int (pos x)) (Int (pos (place_of k))) (amount_value (amount_of k))
+event_columns (kind.Op k t x) = columns word.Op t (Int (pos x)) (Int (pos (place_of k))) (amount_value (amount_of k))
 event_columns (kind.Busy c t x u) = columns word.Busy t (Int (pos x)) (Int (pos c)) (Int (pos u))
 event_columns (kind.None t x c) = columns word.None t (Int (pos x)) (Int (pos c)) Null
 event_columns (kind.Commit t) = columns word.Commit t Null Null Null
@@ -62,7 +62,7 @@ event_row n e = Int (pos n) ∷ Null ∷ event_columns e
 -- the event of this kind with these numbers, of which the last may be none
 abbrev pub event_of : Option EventWord → ℕ → ℕ → ℕ → Value → EventKind
 event_of (Some word.Begin) t x k n = kind.Begin t
-event_of (Some word.Op) t x k n = kind.Op t x (operation_at k (amount_in n))
+event_of (Some word.Op) t x k n = kind.Op (operation_at k (amount_in n)) t x
 event_of (Some word.Busy) t x k n = kind.Busy k t x (number_in n)
 event_of (Some word.None) t x k n = kind.None t x k
 event_of (Some word.Commit) t x k n = kind.Commit t

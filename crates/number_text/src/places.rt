@@ -36,7 +36,7 @@ impl NumberFile {
     }
 
     /// Whether the line of a place reads the value.
-    fn reads_value(&self, place: u8) -> bool
+    pub fn reads_value(&self, place: u8) -> bool
         ensures { (result ≡ true) ↔ (slice_get self.now.calls (place / 2) ≡ Some NumberCall.Value) }
     {
         matches!(

@@ -1,7 +1,6 @@
 //! The answer of a call at one object.
 
-ghost use Rattle.std.specs.Prelude.{◌≡◌, ◌↔◌, ◌/◌, ℕ, true, Some, slice_get};
-ghost use Rattle.number_text.specs.declared.number_call.NumberCall.TheVariants.{Value};
+ghost use Rattle.std.specs.Prelude.{◌≡◌, ℕ};
 ghost use Rattle.object_calls.specs.Calls.{IsCall};
 ghost use Rattle.object_calls.specs.Asked.{beside, AreInside, IsAsked};
 ghost use Rattle.object_calls.specs.Answers.{busy_with, answer_of};
@@ -9,7 +8,7 @@ ghost use Rattle.object_calls.specs.Answers.{busy_with, answer_of};
 use crate::answer::Answer;
 use crate::call::Call;
 use crate::lowest::take_lowest;
-use number_text::{NumberCall, NumberFile, number_has_table};
+use number_text::number_has_table;
 use object_trait::Recovery;
 use table_checker::Declaration;
 use type_table::Operation;
@@ -64,7 +63,7 @@ fn asked_at<R: Recovery>(object: &R, t: u32, call: Call) -> Call
             number_has_table();
             // (read for what is known of a number)
             let _calls = number.calls();
-            if !reads_value(number, call.first.place()) {
+            if !number.reads_value(call.first.place()) {
                 return call;
             }
             Call {
@@ -73,16 +72,6 @@ fn asked_at<R: Recovery>(object: &R, t: u32, call: Call) -> Call
             }
         }
     }
-}
-
-/// Whether the line of a place reads the value.
-fn reads_value(number: &NumberFile, place: u8) -> bool
-    ensures { (result ≡ true) ↔ (slice_get number.now.calls (place / 2) ≡ Some Value) }
-{
-    matches!(
-        number.calls().get(usize::from(place / 2)),
-        Some(NumberCall::Value)
-    )
 }
 
 /// The operation at another place with the same amount.

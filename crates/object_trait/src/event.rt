@@ -17,8 +17,8 @@ pub struct Event {
 pub enum EventKind {
     /// Transaction t began.
     Begin { t: u32 },
-    /// Transaction t executed operation k at object x.
-    Op { t: u32, x: u32, k: Operation },
+    /// Transaction t executed operation k at object x (its operation first: so an event has 20 bytes).
+    Op { k: Operation, t: u32, x: u32 },
     /// Each operation of call c that was legal for t at x conflicted with an operation of another
     /// open transaction, the first of them with one of u.
     Busy { c: u8, t: u32, x: u32, u: u32 },

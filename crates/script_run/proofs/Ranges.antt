@@ -18,7 +18,7 @@ use Rattle.script_run.specs.Laws.{AreOpsInRange, IsOpInRange, RunIsInRange}
 
 -- the operation of an event is in range
 abbrev OpInRange : EventKind → Type 0
-OpInRange (kind.Op t x k) = IsOpInRange k
+OpInRange (kind.Op k t x) = IsOpInRange k
 OpInRange _ = Unit {0}
 
 module _ (objects : List Object) (fit : (x : ℕ) (o : Object) → slice_get objects x ≡ Some o → AreOpsInRange o.table) where
@@ -29,7 +29,7 @@ module _ (objects : List Object) (fit : (x : ℕ) (o : Object) → slice_get obj
 
   op-in : (s : Summary) (happened : EventKind) → May objects s happened → OpInRange happened
   op-in s (kind.Begin t) may = tt
-  op-in s (kind.Op t x k) may = done-in s x t k (slice_get objects x) refl may.1
+  op-in s (kind.Op k t x) may = done-in s x t k (slice_get objects x) refl may.1
   op-in s (kind.Busy c t x u) may = tt
   op-in s (kind.None t x c) may = tt
   op-in s (kind.Commit t) may = tt
@@ -64,7 +64,7 @@ module _ (n objects : ℕ) (few : n ≤ 1000000) (few_objects : objects ≤ 256)
 
   event-in : (w : ℕ) (happened : EventKind) → w ≤ 255 → AreBelow objects 64 n happened → OpInRange happened → is_in_range (line_at w happened) ≡ true
   event-in w (kind.Begin t) by low op = and_from _ _ (worker-in w by) (transaction-in t low)
-  event-in w (kind.Op t x k) by low op = line-in w t x (place_of k) (amount_of k) by low.0 low.1 op.place op.amount
+  event-in w (kind.Op k t x) by low op = line-in w t x (place_of k) (amount_of k) by low.0 low.1 op.place op.amount
   event-in w (kind.Busy c t x u) by low op =
       and_from _ _ (and_from _ _ (and_from _ _ (and_from _ _ (worker-in w by) (transaction-in t low.0)) (object-in x low.1)) (operation-in c low.2)) (transaction-in u low.3)
   event-in w (kind.None t x c) by low op =

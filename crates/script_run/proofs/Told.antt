@@ -64,7 +64,7 @@ op-tells w t x k (Some n) = refl
 -- nor is that of any event
 pub event-tells : (H : List Event) (happened : EventKind) → tells (event_turn H happened) ≡ true
 event-tells H (kind.Begin t) = refl
-event-tells H (kind.Op t x k) = op-tells 0 t x (place_of k) (amount_of k)
+event-tells H (kind.Op k t x) = op-tells 0 t x (place_of k) (amount_of k)
 event-tells H (kind.Busy c t x u) = refl
 event-tells H (kind.None t x c) = refl
 event-tells H (kind.Commit t) = refl

@@ -31,8 +31,8 @@ pub fn a_full_history_refuses()
 
 /// The line of an operation has its place, and its amount where it has one.
 pub fn lines_of_operations()
-    ensures listed { line_of (event_turn [] (Op 0 1 2)) ≡ codes "op 0 0 1 2\n" }
-    ensures amount { line_of (event_turn [] (Op 0 1 (operation_at 2 (Some 4294967295)))) ≡ codes "op 0 0 1 2 4294967295\n" }
+    ensures listed { line_of (event_turn [] (Op 2 0 1)) ≡ codes "op 0 0 1 2\n" }
+    ensures amount { line_of (event_turn [] (Op (operation_at 2 (Some 4294967295)) 0 1)) ≡ codes "op 0 0 1 2 4294967295\n" }
 {}
 
 /// A history's text has places below 64, and amounts of 32 bits.

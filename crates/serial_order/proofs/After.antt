@@ -20,7 +20,7 @@ use Rattle.serial_order.proofs.Runs.{after_event, transactions_in_run}
 -- the kind of an event says what is seen after it
 of_kind : (s : Summary) (happened : EventKind) → summary_after s happened ≡ summary_next s happened
 of_kind s (Begin t) = rw (append-nil s.committed, append-nil s.aborted) refl
-of_kind s (Op t x k) = rw (append-nil s.committed, append-nil s.aborted) refl
+of_kind s (Op k t x) = rw (append-nil s.committed, append-nil s.aborted) refl
 of_kind s (Busy c t x u) = rw (append-nil s.committed, append-nil s.aborted) refl
 of_kind s (kind.None t x c) = rw (append-nil s.committed, append-nil s.aborted) refl
 of_kind s (Commit t) = rw (append-nil s.aborted) refl
@@ -90,7 +90,7 @@ open-abort s t u =
 -- any event that continues the history
 open-continues : (tables : List Table) (s : Summary) (happened : EventKind) → AreInRun s → ContinuesHistory tables s happened → (u : ℕ) → is_open (summary_next s happened) u ≡ is_open_after s happened u
 open-continues tables s (Begin t) known may u = rw may (open-begin s u known)
-open-continues tables s (Op t x k) known may u = refl
+open-continues tables s (Op k t x) known may u = refl
 open-continues tables s (Busy c t x v) known may u = refl
 open-continues tables s (kind.None t x c) known may u = refl
 open-continues tables s (Commit t) known may u = open-commit s t u

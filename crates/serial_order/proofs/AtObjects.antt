@@ -76,7 +76,7 @@ module _ (objects : List Object) (x : ℕ) (o : Object) (there : slice_get objec
   -- each event
   step : (s : Summary) (happened : EventKind) → AreInRun s → May objects s happened → At s → At (summary_after s happened)
   step s (Begin t) known may h = same_committed _ _ h
-  step s (Op t y k) known may h = same_committed _ _ (⊎_elim
+  step s (Op k t y) known may h = same_committed _ _ (⊎_elim
       (λ (here : (y == x) ≡ true). subst (λ z. F s.committed (at_object x (s.survives ++ (record { by = t; at = z; op = k }) ∷ []))) (sym (eqb-true y x here))
       (op_here s t k known (may.0) (subst (λ z. MayDo (slice_get objects z) s z t k) (eqb-true y x here) (may.1)) h))
       (λ (elsewhere : (y == x) ≡ false). op_elsewhere s t y k elsewhere h)

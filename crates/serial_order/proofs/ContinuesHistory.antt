@@ -26,7 +26,7 @@ busy_with_operation (Some o) s x t c u may = (may.0, may.1, may.2.least.0)
 -- what the machine allows continues a history
 pub continues_history : (objects : List Object) (s : Summary) (happened : EventKind) → May objects s happened → ContinuesHistory (map (λ (o : Object). o.table) objects) s happened
 continues_history objects s (Begin t) may = may
-continues_history objects s (Op t x k) may = (may.0, rw (slice_get-map (λ (o : Object). o.table) objects x) (does_operation (slice_get objects x) s x t k may.1))
+continues_history objects s (Op k t x) may = (may.0, rw (slice_get-map (λ (o : Object). o.table) objects x) (does_operation (slice_get objects x) s x t k may.1))
 continues_history objects s (Busy c t x u) may = (may.0, rw (slice_get-map (λ (o : Object). o.table) objects x) (busy_with_operation (slice_get objects x) s x t c u may.1))
 continues_history objects s (kind.None t x c) may = (may.0, rw (slice_get-map (λ (o : Object). o.table) objects x) (none_of_operation (slice_get objects x) s x t c may.1))
 continues_history objects s (Commit t) may = may

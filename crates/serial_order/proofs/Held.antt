@@ -57,7 +57,7 @@ module _ (objects : List Object) (s : Summary) (x : ℕ) (known : AreInRun s) wh
           differs t low = grind (arith, nat_tests, low)
 
   -- an operation of an open transaction
-  held-op : (t y k : ℕ) → is_open s t ≡ true → held_at x (summary_next s (Op t y k)) ≡ cond (y == x) (held_at x s ++ (record { by = t; at = y; op = k }) ∷ []) (held_at x s)
+  held-op : (t y k : ℕ) → is_open s t ≡ true → held_at x (summary_next s (Op k t y)) ≡ cond (y == x) (held_at x s ++ (record { by = t; at = y; op = k }) ∷ []) (held_at x s)
   held-op t y k open_now =
       let entry : Entry = record { by = t; at = y; op = k } in
       elim (cases_Bool (y == x)) [
@@ -97,7 +97,7 @@ module _ (objects : List Object) (s : Summary) (x : ℕ) (known : AreInRun s) wh
 
 pub held_after_one : HeldAfter
 held_after_one objects s (Begin t) x known may = held-left objects s x known (Begin t) may (at_object x s.survives) ∙ ap (λ n. filter (λ (e : Entry). e.by == n || is_open s e.by) (at_object x s.survives)) may ∙ held-begin objects s x known
-held_after_one objects s (Op t y k) x known may = held-op objects s x known t y k may.0
+held_after_one objects s (Op k t y) x known may = held-op objects s x known t y k may.0
 held_after_one objects s (Busy c t y u) x known may = refl
 held_after_one objects s (kind.None t y c) x known may = refl
 held_after_one objects s (Commit t) x known may = held-left objects s x known (Commit t) may (at_object x s.survives) ∙ held-end objects s x known t
@@ -140,7 +140,7 @@ own-strike V t u n =
 
 pub own_after_one : OwnAfter
 own_after_one s (Begin u) t = refl
-own_after_one s (Op u y k) t = own-op s t u y k
+own_after_one s (Op k u y) t = own-op s t u y k
 own_after_one s (Busy c u y v) t = refl
 own_after_one s (kind.None u y c) t = refl
 own_after_one s (Commit u) t = refl

@@ -13,7 +13,7 @@ use Rattle.serial_order.specs.declared.entry.Entry.{Entry}
 -- an event adds one operation at most
 pub after-length : (V : List Entry) (happened : EventKind) → length (survive_after V happened) ≤ length V + 1
 after-length V (kind.Begin t) = omega arith
-after-length V (kind.Op t x k) = omega (arith, length-append V ((record { by = t; at = x; op = k }) ∷ []))
+after-length V (kind.Op k t x) = omega (arith, length-append V ((record { by = t; at = x; op = k }) ∷ []))
 after-length V (kind.Busy c t x u) = omega arith
 after-length V (kind.None t x c) = omega arith
 after-length V (kind.Commit t) = omega arith

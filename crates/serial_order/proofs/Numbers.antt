@@ -22,7 +22,7 @@ use Rattle.serial_order.proofs.Living.{after-length}
 -- bounds may be raised
 below-more : (objects ops n : ℕ) (happened : EventKind) → AreBelow objects ops n happened → AreBelow objects ops (n + 1) happened
 below-more objects ops n (Begin t) h = omega (arith, h)
-below-more objects ops n (Op t x k) h = (omega (arith, h.0), h.1, h.2)
+below-more objects ops n (Op k t x) h = (omega (arith, h.0), h.1, h.2)
 below-more objects ops n (Busy c t x u) h = (omega (arith, h.0), h.1, h.2, omega (arith, h.3))
 below-more objects ops n (kind.None t x c) h = (omega (arith, h.0), h.1, h.2)
 below-more objects ops n (Commit t) h = omega (arith, h)
@@ -54,7 +54,7 @@ module _ (objects : List Object) (ops : ℕ) (few : (x : ℕ) (o : Object) → s
   -- an event that may come next, where no more transactions began and no more operations survive than there are events
   next-below : (s : Summary) (n : ℕ) (happened : EventKind) → AreInRun s → s.begun ≤ n → length s.survives ≤ n → May objects s happened → Below (n + 1) happened
   next-below s n (Begin t) known begun lives may = omega (arith, begun, may)
-  next-below s n (Op t x k) known begun lives may =
+  next-below s n (Op k t x) known begun lives may =
       let there = op-below s x t k (slice_get objects x) refl may.1 in
       (omega (arith, (of_open s t may.0).began, begun), there.0, there.1)
   next-below s n (Busy c t x u) known begun lives may =

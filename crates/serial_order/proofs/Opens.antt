@@ -99,7 +99,7 @@ begun-count s now same =
 -- after any event that may come next
 counts-after : (objects : List Object) (s : Summary) (happened : EventKind) → AreInRun s → May objects s happened → CountsTo happened (open_count s) (open_count (summary_next s happened))
 counts-after objects s (Begin t) known may = begun-count s (is_open (summary_next s (Begin t))) (λ u. open-after objects s (Begin t) known may u ∙ ap (λ n. u == n || is_open s u) may)
-counts-after objects s (Op t x k) known may = refl
+counts-after objects s (Op k t x) known may = refl
 counts-after objects s (Busy c t x v) known may = refl
 counts-after objects s (kind.None t x c) known may = refl
 counts-after objects s (Commit t) known may = ended-count s (is_open (summary_next s (Commit t))) t may (open-after objects s (Commit t) known may)
@@ -121,7 +121,7 @@ begun-by (e ∷ H) =
   where
     of_kind : (happened : EventKind) → length (beginner e.worker happened) + begins H ≡ length (cond (is_begin happened) (e ∷ filter (λ (f : Event). is_begin f.kind) H) (filter (λ (f : Event). is_begin f.kind) H))
     of_kind (Begin t) = omega arith
-    of_kind (Op t x k) = zero-add (begins H)
+    of_kind (Op k t x) = zero-add (begins H)
     of_kind (Busy c t x u) = zero-add (begins H)
     of_kind (kind.None t x c) = zero-add (begins H)
     of_kind (Commit t) = zero-add (begins H)
@@ -142,7 +142,7 @@ module _ (objects : List Object) where
   -- by each event that may come next
   there-after : (s : Summary) (happened : EventKind) → May objects s happened → AllByRecursion IsThere s.survives → AllByRecursion IsThere (survive_after s.survives happened)
   there-after s (Begin t) may known = known
-  there-after s (Op t x k) may known = each-append IsThere s.survives ((record { by = t; at = x; op = k }) ∷ []) known ((continues_history objects s (Op t x k) may).1, tt)
+  there-after s (Op k t x) may known = each-append IsThere s.survives ((record { by = t; at = x; op = k }) ∷ []) known ((continues_history objects s (Op k t x) may).1, tt)
   there-after s (Busy c t x u) may known = known
   there-after s (kind.None t x c) may known = known
   there-after s (Commit t) may known = known

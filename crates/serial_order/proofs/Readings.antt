@@ -39,11 +39,11 @@ stays-same t K e none zeroth = rw (stays-snoc t K e, none, zeroth, append-nil (a
 -- where t doesn't abort, a further rollback of n reaches as much further back as it takes back more operations of t than stay
 module _ (t n : ℕ) where
   -- of the operations of another transaction none is of t
-  of_other : (u x k : ℕ) (K : List Event) → (u == t) ≡ false → length (of t (survivor_op (Op u x k) K)) ≡ 0
+  of_other : (u x k : ℕ) (K : List Event) → (u == t) ≡ false → length (of t (survivor_op (Op k u x) K)) ≡ 0
   of_other u x k K other = elim (cases_Bool (stays u K)) [ inl is ↦ simp (is, other) refl | inr isnt ↦ rw isnt refl ]
 
   -- one of its own counts where it stays
-  of_own : (x k : ℕ) (K : List Event) → is_among (aborts K) t ≡ false → length (of t (survivor_op (Op t x k) K)) ≡ cond (not (nat_lt 0 (reach t K 0))) 1 0
+  of_own : (x k : ℕ) (K : List Event) → is_among (aborts K) t ≡ false → length (of t (survivor_op (Op k t x) K)) ≡ cond (not (nat_lt 0 (reach t K 0))) 1 0
   of_own x k K none = rw (stays-reach t K, none) (by_reach (nat_lt 0 (reach t K 0)))
     where
       by_reach : (far : Bool) → length (of t (if not far then (record { by = t; at = x; op = k }) ∷ [] else [])) ≡ cond (not far) 1 0
@@ -57,14 +57,14 @@ module _ (t n : ℕ) where
       ≡ ((taken_back t happened + reach t K 0) - op_count t happened) + (n - (length (of t (survivor_op happened K)) + length (of t (survivors K))))
 
   -- an operation of t
-  own-step : (x k : ℕ) (K : List Event) → is_among (aborts K) t ≡ false → reach t K n ≡ reach t K 0 + (n - length (of t (survivors K))) → Further (Op t x k) K
+  own-step : (x k : ℕ) (K : List Event) → is_among (aborts K) t ≡ false → reach t K n ≡ reach t K 0 + (n - length (of t (survivors K))) → Further (Op k t x) K
   own-step x k K none known = rw (of_own x k K none, eq-eqb t t refl) grind (arith, nat_tests, known)
 
   -- each event
   reach-step : (happened : EventKind) (K : List Event) → is_among (aborts K) t ≡ false → reach t K n ≡ reach t K 0 + (n - length (of t (survivors K))) → Further happened K
-  reach-step (Op u x k) K none known =
+  reach-step (Op k u x) K none known =
       elim (cases_Bool (u == t)) [
-        | inl same ↦ subst (λ v. Further (Op v x k) K) (sym (eqb-true u t same)) (own-step x k K none known)
+        | inl same ↦ subst (λ v. Further (Op k v x) K) (sym (eqb-true u t same)) (own-step x k K none known)
         | inr other ↦ rw (of_other u x k K other, other) grind (arith, known)
       ]
   reach-step (Rollback u m) K none known = grind (arith, known)
@@ -86,7 +86,7 @@ module _ (t n : ℕ) where
 -- where it leaves what stays, its own operation is one more
 module _ (e : Event) (same : (t : ℕ) (K : List Event) → stays t (K ++ e ∷ []) ≡ stays t K) where
   op-same : (happened : EventKind) (K : List Event) → survivor_op happened (K ++ e ∷ []) ≡ survivor_op happened K
-  op-same (Op t x k) K = rw (same t K) refl
+  op-same (Op k t x) K = rw (same t K) refl
   op-same (Begin t) K = refl
   op-same (Busy c t x u) K = refl
   op-same (kind.None t x c) K = refl
@@ -101,7 +101,7 @@ module _ (e : Event) (same : (t : ℕ) (K : List Event) → stays t (K ++ e ∷ 
 -- after an abort what is of other transactions
 op-abort : (w t : ℕ) (happened : EventKind) (K : List Event) →
     survivor_op happened (K ++ (record { worker = w; kind = Abort t }) ∷ []) ≡ filter (λ e. not (is_by t e)) (survivor_op happened K)
-op-abort w t (Op u x k) K = rw (stays-snoc u K (record { worker = w; kind = Abort t }), is_among-snoc (aborts K) t u, eqb-sym t u, stays-reach u K)
+op-abort w t (Op k u x) K = rw (stays-snoc u K (record { worker = w; kind = Abort t }), is_among-snoc (aborts K) t u, eqb-sym t u, stays-reach u K)
     (by_tests (is_among (aborts K) u) (nat_lt 0 (reach u K 0)) (u == t) refl)
   where
     by_tests : (aborted far same : Bool) → (u == t) ≡ same →
@@ -168,7 +168,7 @@ IsRolledBack w t n happened K =
     ≡ keep_first (is_by t) (length (of t (survivor_op happened K ++ survivors K)) - n) (survivor_op happened K ++ survivors K)
 
 -- after an operation of another transaction
-other-rollback : (w t n u x k : ℕ) (K : List Event) → (u == t) ≡ false → IsRolledBack w t n (Op u x k) K
+other-rollback : (w t n u x k : ℕ) (K : List Event) → (u == t) ≡ false → IsRolledBack w t n (Op k u x) K
 other-rollback w t n u x k K other =
     let e : Event = record { worker = w; kind = Rollback t n } in
     let none : (taken_back u e.kind + 0) - op_count u e.kind ≡ 0 = rw (eqb-sym t u, other) refl in
@@ -183,7 +183,7 @@ other-rollback w t n u x k K other =
     by_stay false = refl
 
 -- after one of its own
-own-rollback : (w t n x k : ℕ) (K : List Event) → IsRolledBack w t n (Op t x k) K
+own-rollback : (w t n x k : ℕ) (K : List Event) → IsRolledBack w t n (Op k t x) K
 own-rollback w t n x k K =
     let e : Event = record { worker = w; kind = Rollback t n } in
     let taken : (taken_back t e.kind + 0) - op_count t e.kind ≡ n = rw (eq-eqb t t refl) (omega arith) in
@@ -205,9 +205,9 @@ own-rollback w t n x k K =
 
 -- after each event
 op-rollback : (w t n : ℕ) (happened : EventKind) (K : List Event) → IsRolledBack w t n happened K
-op-rollback w t n (Op u x k) K =
+op-rollback w t n (Op k u x) K =
     elim (cases_Bool (u == t)) [
-      | inl same ↦ subst (λ v. IsRolledBack w t n (Op v x k) K) (sym (eqb-true u t same)) (own-rollback w t n x k K)
+      | inl same ↦ subst (λ v. IsRolledBack w t n (Op k v x) K) (sym (eqb-true u t same)) (own-rollback w t n x k K)
       | inr other ↦ other-rollback w t n u x k K other
     ]
 op-rollback w t n (Begin u) K = refl
@@ -224,7 +224,7 @@ survivors-rollback w t n (f ∷ H) = rw (survivors-rollback w t n H) (op-rollbac
 
 -- so one more event does to what stays what it does to what survives
 one_more : (H : List Event) (w : ℕ) (happened : EventKind) → survivors (H ++ (record { worker = w; kind = happened }) ∷ []) ≡ survive_after (survivors H) happened
-one_more H w (Op t x k) = survivors-same (record { worker = w; kind = Op t x k }) (λ u K. stays-same u K (record { worker = w; kind = Op t x k }) refl (grind (arith))) H
+one_more H w (Op k t x) = survivors-same (record { worker = w; kind = Op k t x }) (λ u K. stays-same u K (record { worker = w; kind = Op k t x }) refl (grind (arith))) H
 one_more H w (Begin t) = survivors-same (record { worker = w; kind = Begin t }) (λ u K. stays-same u K _ refl refl) H ∙ append-nil (survivors H)
 one_more H w (Busy c t x u) = survivors-same (record { worker = w; kind = Busy c t x u }) (λ v K. stays-same v K _ refl refl) H ∙ append-nil (survivors H)
 one_more H w (kind.None t x c) = survivors-same (record { worker = w; kind = kind.None t x c }) (λ u K. stays-same u K _ refl refl) H ∙ append-nil (survivors H)

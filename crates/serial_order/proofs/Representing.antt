@@ -101,7 +101,7 @@ module _ (along : RunsAlong) (x : ℕ) (s : Summary) (old new : Meaning) (repres
   by_nothing e = rw (append-nil s.committed, e) represents
 
   -- an operation, here or elsewhere
-  by_op : (t y k : ℕ) → is_open s t ≡ true → Changes x s (Op t y k) old new → RepresentsAt new x (s.committed ++ []) (at_object x (survive_after s.survives (Op t y k)))
+  by_op : (t y k : ℕ) → is_open s t ≡ true → Changes x s (Op k t y) old new → RepresentsAt new x (s.committed ++ []) (at_object x (survive_after s.survives (Op k t y)))
   by_op t y k open_now change =
       let entry : Entry = record { by = t; at = y; op = k } in
       elim (cases_Bool (y == x)) [
@@ -139,7 +139,7 @@ module _ (along : RunsAlong) (x : ℕ) (s : Summary) (old new : Meaning) (repres
   by_event : (objects : List Object) (happened : EventKind) → May objects s happened → Changes x s happened old new →
       RepresentsAt new x (s.committed ++ committed_by happened) (at_object x (survive_after s.survives happened))
   by_event objects (Begin t) may change = by_nothing change
-  by_event objects (Op t y k) may change = by_op t y k may.0 change
+  by_event objects (Op k t y) may change = by_op t y k may.0 change
   by_event objects (Busy c t y u) may change = by_nothing change
   by_event objects (kind.None t y c) may change = by_nothing change
   by_event objects (Commit t) may change = by_commit t may change

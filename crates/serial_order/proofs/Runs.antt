@@ -77,7 +77,7 @@ after_begin s t h = rw (append-nil s.committed, append-nil s.aborted) record {
 }
 
 -- an operation of an open transaction
-after_op : (s : Summary) (t x k : ℕ) → is_open s t ≡ true → AreInRun s → AreInRun (summary_after s (Op t x k))
+after_op : (s : Summary) (t x k : ℕ) → is_open s t ≡ true → AreInRun s → AreInRun (summary_after s (Op k t x))
 after_op s t x k open_now h = rw (append-nil s.committed, append-nil s.aborted) record {
   committed_began = h.committed_began;
   aborted_began = h.aborted_began;
@@ -121,7 +121,7 @@ after_rollback s t n h = rw (append-nil s.committed, append-nil s.aborted) recor
 -- each event that continues the history keeps it
 pub after_event : (tables : List Table) (s : Summary) (happened : EventKind) → ContinuesHistory tables s happened → AreInRun s → AreInRun (summary_after s happened)
 after_event tables s (Begin t) may h = after_begin s t h
-after_event tables s (Op t x k) may h = after_op s t x k may.0 h
+after_event tables s (Op k t x) may h = after_op s t x k may.0 h
 after_event tables s (Busy c t x u) may h = after_nothing s h
 after_event tables s (kind.None t x c) may h = after_nothing s h
 after_event tables s (Commit t) may h = after_commit s t may h

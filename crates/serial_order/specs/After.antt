@@ -23,7 +23,7 @@ use Rattle.serial_order.specs.Represent.{Represents, IsIdle}
 -- what is seen after the event
 abbrev pub summary_next : Summary → EventKind → Summary
 summary_next s (Begin t) = record s { begun = suc s.begun }
-summary_next s (Op t x k) = record s { survives = s.survives ++ (record { by = t; at = x; op = k }) ∷ [] }
+summary_next s (Op k t x) = record s { survives = s.survives ++ (record { by = t; at = x; op = k }) ∷ [] }
 summary_next s (Commit t) = record s { committed = s.committed ++ t ∷ [] }
 summary_next s (Abort t) = record s { aborted = s.aborted ++ t ∷ []; survives = keep_first (is_by t) 0 s.survives }
 summary_next s (Rollback t n) = record s { survives = keep_first (is_by t) (length (of t s.survives) - n) s.survives }
@@ -93,7 +93,7 @@ BeginnersAfter =
 -- and fewer than the last number
 abbrev pub AreBelow : ℕ → ℕ → ℕ → EventKind → Type 0
 AreBelow objects ops n (Begin t) = t < n
-AreBelow objects ops n (Op t x k) = (t < n) × (x < objects) × (place_of k < ops)
+AreBelow objects ops n (Op k t x) = (t < n) × (x < objects) × (place_of k < ops)
 AreBelow objects ops n (Busy c t x u) = (t < n) × (x < objects) × (c < ops) × (u < n)
 AreBelow objects ops n (kind.None t x c) = (t < n) × (x < objects) × (c < ops)
 AreBelow objects ops n (Commit t) = t < n

@@ -39,7 +39,7 @@ refused o s x t c None = kind.None t x (place_of c)
 refused o s x t c (Some k) = busy_with (blocker o s x t k) t x c
 
 abbrev pub event_of_first : Object → Summary → ℕ → ℕ → ℕ → Option ℕ → EventKind
-event_of_first o s x t c (Some k) = Op t x k
+event_of_first o s x t c (Some k) = Op k t x
 event_of_first o s x t c None = refused o s x t c (first_below (length o.table.ops) (is_reply o s x t c))
 
 -- the event of a call c of t at the object at x: the first operation of the call that is legal and free, in table order

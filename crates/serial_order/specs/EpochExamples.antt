@@ -10,7 +10,7 @@ up = record { history = events (Begin 0 ∷ Op 0 0 0 ∷ Commit 0 ∷ []); kept 
 
 -- transaction 0 of the next one counts down by operation 1
 abbrev pub down : Epoch
-down = record { history = events (Begin 0 ∷ Op 0 0 1 ∷ Commit 0 ∷ []); kept = 0 ∷ [] }
+down = record { history = events (Begin 0 ∷ Op 1 0 0 ∷ Commit 0 ∷ []); kept = 0 ∷ [] }
 
 abbrev pub up_and_down : List Epoch
 up_and_down = up ∷ down ∷ []

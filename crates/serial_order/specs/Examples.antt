@@ -116,52 +116,52 @@ number = record {
 
 -- one takes 5 and another gives 5, which are both open; the first commits, the second aborts, and a third finds nothing to take
 abbrev pub number_history : List Event
-number_history = events (Begin 0 ∷ Begin 1 ∷ Begin 2 ∷ Op 0 0 0 ∷ Op 1 0 2 ∷ Commit 0 ∷ Abort 1 ∷ Op 2 0 1 ∷ Commit 2 ∷ [])
+number_history = events (Begin 0 ∷ Begin 1 ∷ Begin 2 ∷ Op 0 0 0 ∷ Op 2 1 0 ∷ Commit 0 ∷ Abort 1 ∷ Op 1 2 0 ∷ Commit 2 ∷ [])
 
 -- one finds nothing to take, of 5 that it took itself, and another asks to give
 abbrev pub short_history : List Event
-short_history = events (Begin 0 ∷ Begin 1 ∷ Op 0 0 0 ∷ Op 0 0 1 ∷ [])
+short_history = events (Begin 0 ∷ Begin 1 ∷ Op 0 0 0 ∷ Op 1 0 0 ∷ [])
 
 -- q by transaction 0 and p by transaction 1, which commits first
 abbrev pub one_way_history : List Event
-one_way_history = events (Begin 0 ∷ Begin 1 ∷ Op 0 0 1 ∷ Op 1 0 0 ∷ Commit 1 ∷ Commit 0 ∷ [])
+one_way_history = events (Begin 0 ∷ Begin 1 ∷ Op 1 0 0 ∷ Op 0 1 0 ∷ Commit 1 ∷ Commit 0 ∷ [])
 
 -- a and b are put by a committed transaction, and taken by two that are open together
 abbrev pub semiqueue_history : List Event
 semiqueue_history =
-    events (Begin 0 ∷ Op 0 0 0 ∷ Op 0 0 1 ∷ Commit 0 ∷ Begin 1 ∷ Begin 2 ∷ Op 1 0 2 ∷ Op 2 0 3 ∷ Commit 2 ∷ Commit 1 ∷ [])
+    events (Begin 0 ∷ Op 0 0 0 ∷ Op 1 0 0 ∷ Commit 0 ∷ Begin 1 ∷ Begin 2 ∷ Op 2 1 0 ∷ Op 3 2 0 ∷ Commit 2 ∷ Commit 1 ∷ [])
 
 -- two count up, one of them takes it back, and the other can count down
 abbrev pub lock_history : List Event
-lock_history = events (Begin 0 ∷ Begin 1 ∷ Op 0 0 0 ∷ Op 1 0 0 ∷ Rollback 0 1 ∷ Op 1 0 1 ∷ Commit 1 ∷ Commit 0 ∷ [])
+lock_history = events (Begin 0 ∷ Begin 1 ∷ Op 0 0 0 ∷ Op 0 1 0 ∷ Rollback 0 1 ∷ Op 1 1 0 ∷ Commit 1 ∷ Commit 0 ∷ [])
 
 -- one counts up, and another can count down once the first committed
 abbrev pub deferred_history : List Event
-deferred_history = events (Begin 0 ∷ Begin 1 ∷ Op 1 0 0 ∷ kind.None 0 0 1 ∷ Commit 1 ∷ Op 0 0 1 ∷ Commit 0 ∷ [])
+deferred_history = events (Begin 0 ∷ Begin 1 ∷ Op 0 1 0 ∷ kind.None 0 0 1 ∷ Commit 1 ∷ Op 1 0 0 ∷ Commit 0 ∷ [])
 
 -- one counts up at an object, at another and at the first again, and takes the last two back
 abbrev pub two_objects_history : List Event
-two_objects_history = events (Begin 0 ∷ Op 0 0 0 ∷ Op 0 1 0 ∷ Op 0 0 0 ∷ Rollback 0 2 ∷ Commit 0 ∷ [])
+two_objects_history = events (Begin 0 ∷ Op 0 0 0 ∷ Op 0 0 1 ∷ Op 0 0 0 ∷ Rollback 0 2 ∷ Commit 0 ∷ [])
 
 -- one counts up, and before it ends another counts down, which the locks don't admit
 abbrev pub unlocked_history : List Event
-unlocked_history = events (Begin 0 ∷ Begin 1 ∷ Op 0 0 0 ∷ Op 1 0 1 ∷ Commit 1 ∷ Commit 0 ∷ [])
+unlocked_history = events (Begin 0 ∷ Begin 1 ∷ Op 0 0 0 ∷ Op 1 1 0 ∷ Commit 1 ∷ Commit 0 ∷ [])
 
 -- one asks to count down and is answered `None`, and another counts up and commits before it
 abbrev pub refused_history : List Event
-refused_history = events (Begin 0 ∷ Begin 1 ∷ kind.None 0 0 1 ∷ Op 1 0 0 ∷ Commit 1 ∷ Commit 0 ∷ [])
+refused_history = events (Begin 0 ∷ Begin 1 ∷ kind.None 0 0 1 ∷ Op 0 1 0 ∷ Commit 1 ∷ Commit 0 ∷ [])
 
 -- one reads the balance and takes that back, and another pays in and commits before it
 abbrev pub reader_history : List Event
-reader_history = events (Begin 0 ∷ Begin 1 ∷ Op 0 0 1 ∷ Rollback 0 1 ∷ Op 1 0 0 ∷ Commit 1 ∷ Commit 0 ∷ [])
+reader_history = events (Begin 0 ∷ Begin 1 ∷ Op 1 0 0 ∷ Rollback 0 1 ∷ Op 0 1 0 ∷ Commit 1 ∷ Commit 0 ∷ [])
 
 -- two count up, and the first commits
 abbrev pub half_history : List Event
-half_history = events (Begin 0 ∷ Begin 1 ∷ Op 0 0 0 ∷ Op 1 0 0 ∷ Commit 0 ∷ [])
+half_history = events (Begin 0 ∷ Begin 1 ∷ Op 0 0 0 ∷ Op 0 1 0 ∷ Commit 0 ∷ [])
 
 -- one counts up and commits, and then another counts down
 abbrev pub half_deferred_history : List Event
-half_deferred_history = events (Begin 0 ∷ Begin 1 ∷ Op 1 0 0 ∷ Commit 1 ∷ Op 0 0 1 ∷ [])
+half_deferred_history = events (Begin 0 ∷ Begin 1 ∷ Op 0 1 0 ∷ Commit 1 ∷ Op 1 0 0 ∷ [])
 
 -- ---- commands
 

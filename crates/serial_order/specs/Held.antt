@@ -21,7 +21,7 @@ held_at x s = filter (λ e. is_open s e.by) (at_object x s.survives)
 
 -- after an event: an operation is held, the end of a transaction gives up all of its operations, a rollback its last ones there
 abbrev pub held_after : ℕ → Summary → EventKind → List Entry
-held_after x s (Op t y k) = if y == x then held_at x s ++ (record { by = t; at = y; op = k }) ∷ [] else held_at x s
+held_after x s (Op k t y) = if y == x then held_at x s ++ (record { by = t; at = y; op = k }) ∷ [] else held_at x s
 held_after x s (Commit t) = filter (λ e. not (is_by t e)) (held_at x s)
 held_after x s (Abort t) = filter (λ e. not (is_by t e)) (held_at x s)
 held_after x s (Rollback t n) = keep_first (is_by t) (length (of t (held_at x s)) - struck_at x s t n) (held_at x s)
@@ -41,7 +41,7 @@ BlockerIsHeld =
 
 -- the operations of t that survive, over all objects, after an event
 abbrev pub own_after : ℕ → Summary → EventKind → List Entry
-own_after t s (Op u y k) = if u == t then of t s.survives ++ (record { by = u; at = y; op = k }) ∷ [] else of t s.survives
+own_after t s (Op k u y) = if u == t then of t s.survives ++ (record { by = u; at = y; op = k }) ∷ [] else of t s.survives
 own_after t s (Abort u) = if u == t then [] else of t s.survives
 own_after t s (Rollback u n) = if u == t then take (length (of t s.survives) - n) (of t s.survives) else of t s.survives
 own_after t s _ = of t s.survives

@@ -39,7 +39,7 @@ aborts H = flat_map (λ e. aborted_by e.kind) H
 -- the operations that survive after one more event: an abort strikes all of its transaction, a rollback the last n of its
 -- transaction, over all objects together
 abbrev pub survive_after : List Entry → EventKind → List Entry
-survive_after V (Op t x k) = V ++ (record { by = t; at = x; op = k }) ∷ []
+survive_after V (Op k t x) = V ++ (record { by = t; at = x; op = k }) ∷ []
 survive_after V (Abort t) = keep_first (is_by t) 0 V
 survive_after V (Rollback t n) = keep_first (is_by t) (length (of t V) - n) V
 survive_after V _ = V
@@ -78,7 +78,7 @@ IsPlace (Some T) place = HasPlace T place
 -- rollback strikes at least one operation and no more than its transaction has
 abbrev pub ContinuesHistory : List Table → Summary → EventKind → Type 0
 ContinuesHistory tables s (Begin t) = t ≡ s.begun
-ContinuesHistory tables s (Op t x k) = (is_open s t ≡ true) × IsOperation (slice_get tables x) k
+ContinuesHistory tables s (Op k t x) = (is_open s t ≡ true) × IsOperation (slice_get tables x) k
 ContinuesHistory tables s (Busy c t x u) = (is_open s t ≡ true) × IsPlace (slice_get tables x) c
 ContinuesHistory tables s (kind.None t x c) = (is_open s t ≡ true) × IsPlace (slice_get tables x) c
 ContinuesHistory tables s (Commit t) = is_open s t ≡ true

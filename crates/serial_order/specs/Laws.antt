@@ -148,7 +148,7 @@ StopperIsBlocker =
 abbrev pub MachineMayApply : Type 0
 MachineMayApply =
     (objects : List Object) (H : List Event) (w t x k : ℕ) (m : Meaning)
-    → IsRun objects H → MayFollow objects H (record { worker = w; kind = Op t x k }) → slice_get objects x ≡ Some (object m)
+    → IsRun objects H → MayFollow objects H (record { worker = w; kind = Op k t x }) → slice_get objects x ≡ Some (object m)
     → Represents m x H → length m.log < 4294967295 → MayApply m t k
 
 -- ---- the headline

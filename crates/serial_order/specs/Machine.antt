@@ -58,7 +58,7 @@ MayBeBusy (Some o) s x t place u = (c : ℕ) × (place_of c ≡ place) × IsBusy
 -- the event may come next
 abbrev pub May : List Object → Summary → EventKind → Type 0
 May objects s (Begin t) = t ≡ s.begun
-May objects s (Op t x k) = (is_open s t ≡ true) × MayDo (slice_get objects x) s x t k
+May objects s (Op k t x) = (is_open s t ≡ true) × MayDo (slice_get objects x) s x t k
 May objects s (Busy c t x u) = (is_open s t ≡ true) × MayBeBusy (slice_get objects x) s x t c u
 May objects s (kind.None t x c) = (is_open s t ≡ true) × MayHaveNone (slice_get objects x) s x t c
 May objects s (Commit t) = is_open s t ≡ true

@@ -10,7 +10,7 @@ use Rattle.serial_order.specs.declared.entry.Entry.{Entry}
 
 -- the event is an operation of t
 abbrev pub is_op_of : ℕ → EventKind → Bool
-is_op_of t (Op u x k) = u == t
+is_op_of t (Op k u x) = u == t
 is_op_of t _ = false
 
 -- how many operations of t the event takes back, where it is a rollback
@@ -36,7 +36,7 @@ stays t K = not (is_among (aborts K) t) && not (is_rolled_back t K)
 
 -- the operation of the event, where it survives with the events K after it
 abbrev pub survivor_op : EventKind → List Event → List Entry
-survivor_op (Op t x k) K = if stays t K then (record { by = t; at = x; op = k }) ∷ [] else []
+survivor_op (Op k t x) K = if stays t K then (record { by = t; at = x; op = k }) ∷ [] else []
 survivor_op _ K = []
 
 -- each operation that survives by the events after it, in their order

@@ -59,7 +59,7 @@ struck_at x s t n = length (at_object x (drop (length (of t s.survives) - n) (of
 
 -- what the event does to the meaning of the object at x
 abbrev pub Changes : ℕ → Summary → EventKind → Meaning → Meaning → Type 0
-Changes x s (Op t y k) old new = cond (y == x) (new ≡ applied old t k) (new ≡ old)
+Changes x s (Op k t y) old new = cond (y == x) (new ≡ applied old t k) (new ≡ old)
 Changes x s (Commit t) old new = IsCommit old t new
 Changes x s (Abort t) old new = IsAbort old t new
 Changes x s (Rollback t n) old new = IsStrike old t (struck_at x s t n) new

@@ -51,8 +51,8 @@ pub fn the_kept_state_may_allow_less()
 /// the second commits first.
 pub fn two_take_from_a_semiqueue()
     ensures runs { IsRun (undo_semiqueue ∷ []) semiqueue_history }
-    ensures first { event_of_call undo_semiqueue (seen_first 6 semiqueue_history) 0 1 2 ≡ EventKind.Op 1 0 2 }
-    ensures second { event_of_call undo_semiqueue (seen_first 7 semiqueue_history) 0 2 2 ≡ EventKind.Op 2 0 3 }
+    ensures first { event_of_call undo_semiqueue (seen_first 6 semiqueue_history) 0 1 2 ≡ EventKind.Op 2 1 0 }
+    ensures second { event_of_call undo_semiqueue (seen_first 7 semiqueue_history) 0 2 2 ≡ EventKind.Op 3 2 0 }
     ensures commits { commits semiqueue_history ≡ 0 ∷ 2 ∷ 1 ∷ [] }
     ensures serial { serial_at 0 semiqueue_history ≡ entry 0 0 0 ∷ entry 0 0 1 ∷ entry 2 0 3 ∷ entry 1 0 2 ∷ [] }
     ensures state { serial_state undo_semiqueue 0 semiqueue_history ≡ Some 0 }
@@ -63,7 +63,7 @@ pub fn two_take_from_a_semiqueue()
 pub fn what_is_not_committed_is_not_seen()
     ensures runs { IsRun (deferred_counter ∷ []) deferred_history }
     ensures before { event_of_call deferred_counter (seen_first 3 deferred_history) 0 0 1 ≡ EventKind.None 0 0 1 }
-    ensures after { event_of_call deferred_counter (seen_first 5 deferred_history) 0 0 1 ≡ EventKind.Op 0 0 1 }
+    ensures after { event_of_call deferred_counter (seen_first 5 deferred_history) 0 0 1 ≡ EventKind.Op 1 0 0 }
     ensures state { serial_state deferred_counter 0 deferred_history ≡ Some 0 }
 {}
 
@@ -74,7 +74,7 @@ pub fn a_rollback_gives_up_the_lock()
     ensures before { event_of_call undo_counter (seen_first 4 lock_history) 0 1 1 ≡ EventKind.Busy 1 1 0 0 }
     ensures busy { MayFollow (undo_counter ∷ []) (take 4 lock_history) (record { worker = 0; kind = EventKind.Busy 1 1 0 0 }) }
     ensures left { (seen_first 5 lock_history).survives ≡ entry 1 0 0 ∷ [] }
-    ensures after { event_of_call undo_counter (seen_first 5 lock_history) 0 1 1 ≡ EventKind.Op 1 0 1 }
+    ensures after { event_of_call undo_counter (seen_first 5 lock_history) 0 1 1 ≡ EventKind.Op 1 1 0 }
     ensures commits { commits lock_history ≡ 1 ∷ 0 ∷ [] }
     ensures serial { serial_at 0 lock_history ≡ entry 1 0 0 ∷ entry 1 0 1 ∷ [] }
     ensures state { serial_state undo_counter 0 lock_history ≡ Some 0 }
@@ -114,9 +114,9 @@ pub fn a_rollback_goes_over_two_objects()
 /// An operation can't follow where it conflicts with one that another open transaction holds, isn't
 /// legal, or is of a transaction that ended; nor can an answer that a transaction waits for itself.
 pub fn some_events_cannot_follow()
-    ensures conflict { MayFollow (undo_counter ∷ []) (take 3 lock_history) (record { worker = 0; kind = EventKind.Op 1 0 1 }) → ⊥ }
-    ensures illegal { MayFollow (undo_counter ∷ []) (take 2 lock_history) (record { worker = 0; kind = EventKind.Op 1 0 1 }) → ⊥ }
-    ensures ended { MayFollow (undo_counter ∷ []) lock_history (record { worker = 0; kind = EventKind.Op 1 0 0 }) → ⊥ }
+    ensures conflict { MayFollow (undo_counter ∷ []) (take 3 lock_history) (record { worker = 0; kind = EventKind.Op 1 1 0 }) → ⊥ }
+    ensures illegal { MayFollow (undo_counter ∷ []) (take 2 lock_history) (record { worker = 0; kind = EventKind.Op 1 1 0 }) → ⊥ }
+    ensures ended { MayFollow (undo_counter ∷ []) lock_history (record { worker = 0; kind = EventKind.Op 0 1 0 }) → ⊥ }
     ensures itself { MayFollow (undo_counter ∷ []) (take 4 lock_history) (record { worker = 0; kind = EventKind.Busy 1 1 0 1 }) → ⊥ }
 {}
 
@@ -125,7 +125,7 @@ pub fn some_events_cannot_follow()
 pub fn some_lists_are_no_histories()
     ensures unopened { IsHistory (one_way ∷ []) (events (EventKind.Begin 0 ∷ EventKind.Commit 1 ∷ [])) → ⊥ }
     ensures misnumbered { IsHistory (one_way ∷ []) (events (EventKind.Begin 1 ∷ [])) → ⊥ }
-    ensures objectless { IsHistory (one_way ∷ []) (events (EventKind.Begin 0 ∷ EventKind.Op 0 1 0 ∷ [])) → ⊥ }
+    ensures objectless { IsHistory (one_way ∷ []) (events (EventKind.Begin 0 ∷ EventKind.Op 0 0 1 ∷ [])) → ⊥ }
     ensures overdone { IsHistory (one_way ∷ []) (events (EventKind.Begin 0 ∷ EventKind.Rollback 0 1 ∷ [])) → ⊥ }
 {}
 
@@ -233,8 +233,8 @@ pub fn commands_are_replayed()
 
 /// Events with numbers below this many objects, operations and events, and some that have others.
 pub fn numbers_are_below()
-    ensures at_most { AreBelow 2 3 9 (EventKind.Op 8 1 2) }
-    ensures another_object { AreBelow 2 3 9 (EventKind.Op 8 2 2) → ⊥ }
+    ensures at_most { AreBelow 2 3 9 (EventKind.Op 2 8 1) }
+    ensures another_object { AreBelow 2 3 9 (EventKind.Op 2 8 2) → ⊥ }
     ensures nothing_struck { AreBelow 2 3 9 (EventKind.Rollback 8 0) → ⊥ }
 {}
 
@@ -254,11 +254,11 @@ pub fn one_up_and_one_down()
 #[tactic(auto, unfolding(type_table::specs::Table::next, escrow_laws::specs::Bounds::steps_of))]
 pub fn numbers_are_taken_and_given()
     ensures takes { event_of_call number (seen_first 3 number_history) 0 0 0 ≡ EventKind.Op 0 0 0 }
-    ensures gives { event_of_call number (seen_first 4 number_history) 0 1 2 ≡ EventKind.Op 1 0 2 }
+    ensures gives { event_of_call number (seen_first 4 number_history) 0 1 2 ≡ EventKind.Op 2 1 0 }
     ensures kept_from_giving { event_of_call number (seen_first 5 number_history) 0 2 2 ≡ EventKind.Busy 2 2 0 1 }
     ensures kept_from_taking { event_of_call number (seen_first 5 number_history) 0 2 0 ≡ EventKind.Busy 0 2 0 0 }
     ensures not_yet_short { event_of_call number (seen_first 6 number_history) 0 2 0 ≡ EventKind.Busy 0 2 0 1 }
-    ensures short { event_of_call number (seen_first 7 number_history) 0 2 0 ≡ EventKind.Op 2 0 1 }
+    ensures short { event_of_call number (seen_first 7 number_history) 0 2 0 ≡ EventKind.Op 1 2 0 }
     ensures runs { IsRun (number ∷ []) number_history }
 {}
 
@@ -266,5 +266,5 @@ pub fn numbers_are_taken_and_given()
 #[tactic(auto, unfolding(type_table::specs::Table::next, escrow_laws::specs::Bounds::steps_of))]
 pub fn a_short_reply_is_held()
     ensures held { event_of_call number (summary short_history) 0 1 2 ≡ EventKind.Busy 2 1 0 0 }
-    ensures own { event_of_call number (summary short_history) 0 0 2 ≡ EventKind.Op 0 0 2 }
+    ensures own { event_of_call number (summary short_history) 0 0 2 ≡ EventKind.Op 2 0 0 }
 {}

@@ -46,7 +46,7 @@ found-passes (suc n) test k is = found-or-passes test n k (first_below n test) (
 
 -- the operation of an event
 abbrev op-of : EventKind → Option ℕ
-op-of (kind.Op t x k) = Some k
+op-of (kind.Op k t x) = Some k
 op-of _ = None
 
 busy-no-op : (found : Option Entry) (t x c : ℕ) → op-of (busy_with found t x c) ≡ None
@@ -85,7 +85,7 @@ of-call-or t x (Some e) = IsOfCall t x e
 
 one-call : (happened : EventKind) (t x u y : ℕ) → IsOfCall t x happened → IsOfCall u y happened → ◌≡◌ {A = ℕ × ℕ} (t, x) (u, y)
 one-call (kind.Begin n) t x u y a b = absurd a
-one-call (kind.Op n z k) t x u y a b = rw (sym a.0 ∙ b.0, sym a.1 ∙ b.1) refl
+one-call (kind.Op k n z) t x u y a b = rw (sym a.0 ∙ b.0, sym a.1 ∙ b.1) refl
 one-call (kind.Busy c n z v) t x u y a b = rw (sym a.0 ∙ b.0, sym a.1 ∙ b.1) refl
 one-call (kind.None n z c) t x u y a b = rw (sym a.0 ∙ b.0, sym a.1 ∙ b.1) refl
 one-call (kind.Commit n) t x u y a b = absurd a
@@ -110,23 +110,23 @@ call-alone os s t x happened of (command.Rollback u n) is = absurd (subst (λ (e
 -- ---- the call of an operation
 
 -- the name of a call that makes an operation finds that operation's call
-pub op-alone : (at : Option Object) (s : Summary) (t x k : ℕ) (name : List ℕ) → call_event at s x t (call_at at name) ≡ Some (kind.Op t x k)
+pub op-alone : (at : Option Object) (s : Summary) (t x k : ℕ) (name : List ℕ) → call_event at s x t (call_at at name) ≡ Some (kind.Op k t x)
     → (c : ℕ) × (call_at at name ≡ Some c) × (op_call_at at k ≡ Some c)
-op-alone None s t x k name is = absurd (none-some (kind.Op t x k) is)
+op-alone None s t x k name is = absurd (none-some (kind.Op k t x) is)
 op-alone (Some o) s t x k name is = found (first_op o.table name) refl is
   where
-    found : (first : Option ℕ) → first_op o.table name ≡ first → call_event (Some o) s x t first ≡ Some (kind.Op t x k)
+    found : (first : Option ℕ) → first_op o.table name ≡ first → call_event (Some o) s x t first ≡ Some (kind.Op k t x)
         → (c : ℕ) × (first_op o.table name ≡ Some c) × (op_call_at (Some o) k ≡ Some c)
-    found None finds makes = absurd (none-some (kind.Op t x k) makes)
+    found None finds makes = absurd (none-some (kind.Op k t x) makes)
     found (Some c) finds makes =
-        let of = and_parts _ _ (op-of-call o s x t c k (ap op-of (same_Some (event_of_call o s x t c) (kind.Op t x k) makes))) in
+        let of = and_parts _ _ (op-of-call o s x t c k (ap op-of (same_Some (event_of_call o s x t c) (kind.Op k t x) makes))) in
         let call : call_of o.table k ≡ name = (bytes_eq-Decides (call_of o.table k) (call_of o.table c)).0 of.1 ∙ named o.table name c finds in
         (c, finds, ap (first_op o.table) call ∙ finds)
 
 -- so t's call of an operation makes it where some command does
-pub op-made : (s : Stored) (e : Event) (t x k c : ℕ) → e.kind ≡ kind.Op t x k → op_call_at (slice_get (objects s) x) k ≡ Some c → IsByCall s e t x c
+pub op-made : (s : Stored) (e : Event) (t x k c : ℕ) → e.kind ≡ kind.Op k t x → op_call_at (slice_get (objects s) x) k ≡ Some c → IsByCall s e t x c
 op-made s e t x k c is finds made =
-    let call = call-alone (objects s) (summary s.history) t x (kind.Op t x k) (refl, refl) made.command (made.makes ∙ ap Some is) in
+    let call = call-alone (objects s) (summary s.history) t x (kind.Op k t x) (refl, refl) made.command (made.makes ∙ ap Some is) in
     let its = op-alone (slice_get (objects s) x) (summary s.history) t x k call.0 call.2 in
     let one : its.0 ≡ c = same_Some its.0 c (sym its.2 ∙ finds) in (
       call.0,
@@ -135,9 +135,9 @@ op-made s e t x k c is finds made =
     )
 
 -- and where no call has the operation none does
-pub op-not-made : (s : Stored) (e : Event) (t x k : ℕ) → e.kind ≡ kind.Op t x k → op_call_at (slice_get (objects s) x) k ≡ None → IsMade s e → ⊥
+pub op-not-made : (s : Stored) (e : Event) (t x k : ℕ) → e.kind ≡ kind.Op k t x → op_call_at (slice_get (objects s) x) k ≡ None → IsMade s e → ⊥
 op-not-made s e t x k is none made =
-    let call = call-alone (objects s) (summary s.history) t x (kind.Op t x k) (refl, refl) made.command (made.makes ∙ ap Some is) in
+    let call = call-alone (objects s) (summary s.history) t x (kind.Op k t x) (refl, refl) made.command (made.makes ∙ ap Some is) in
     let its = op-alone (slice_get (objects s) x) (summary s.history) t x k call.0 call.2 in
     none-some its.0 (sym none ∙ its.2)
 

@@ -23,7 +23,7 @@ use Rattle.store.specs.declared.stray.Stray.{Stray}
 
 -- the event is that of a call of t at x
 abbrev pub IsOfCall : ℕ → ℕ → EventKind → Type 0
-IsOfCall t x (kind.Op u y k) = (u ≡ t) × (y ≡ x)
+IsOfCall t x (kind.Op k u y) = (u ≡ t) × (y ≡ x)
 IsOfCall t x (kind.Busy c u y v) = (u ≡ t) × (y ≡ x)
 IsOfCall t x (kind.None u y c) = (u ≡ t) × (y ≡ x)
 IsOfCall t x _ = ⊥

@@ -19,7 +19,7 @@ use Rattle.store.specs.Calls.{Comes, ComesIf, CallsIf}
 -- ---- one event says one answer
 
 pub answer-of : EventKind → Answer
-answer-of (kind.Op t x k) = answer.Reply k
+answer-of (kind.Op k t x) = answer.Reply k
 answer-of (kind.Busy c t x u) = answer.Busy u
 answer-of _ = answer.None
 

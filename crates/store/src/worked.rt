@@ -61,7 +61,7 @@ pub fn a_state_may_not_be_the_kept_one()
 
 /// Each event says its answer.
 pub fn an_answer_is_told_by_its_event()
-    ensures reply { Answers (stored two_left_open) 9 0 1 0 (Ok (Answer.Reply 0)) (stored (two_left_open ++ by 9 (EventKind.Op 0 1 0) ∷ [])) }
+    ensures reply { Answers (stored two_left_open) 9 0 1 0 (Ok (Answer.Reply 0)) (stored (two_left_open ++ by 9 (EventKind.Op 0 0 1) ∷ [])) }
     ensures busy { Answers (stored two_left_open) 9 2 1 0 (Ok (Answer.Busy 0)) (stored (two_left_open ++ by 9 (EventKind.Busy 0 2 1 0) ∷ [])) }
     ensures none { Answers (stored two_left_open) 9 2 1 1 (Ok Answer.None) (stored (two_left_open ++ by 9 (EventKind.None 2 1 1) ∷ [])) }
 {}
@@ -76,17 +76,17 @@ pub fn a_number_of_no_call_is_refused()
 /// An event is made where a command makes it: of a transaction that ended nothing does.
 #[tactic(auto, unfolding(type_table::specs::Table::next))]
 pub fn an_event_is_made_or_not()
-    ensures made { IsMade (stored (take 1 one_up)) (by 7 (EventKind.Op 0 1 0)) }
+    ensures made { IsMade (stored (take 1 one_up)) (by 7 (EventKind.Op 0 0 1)) }
     ensures ended { IsMade (stored one_up) (by 7 (EventKind.Commit 0)) → ⊥ }
-    ensures another { IsMade (stored (take 1 one_up)) (by 7 (EventKind.Op 0 1 1)) → ⊥ }
+    ensures another { IsMade (stored (take 1 one_up)) (by 7 (EventKind.Op 1 0 1)) → ⊥ }
 {}
 
 /// A store that follows an event has it after the others, or is as it was.
 pub fn a_store_follows_or_stays()
-    ensures follows { Follows (stored (take 1 one_up)) (by 7 (EventKind.Op 0 1 0)) (Ok tt) (stored (take 2 one_up)) }
+    ensures follows { Follows (stored (take 1 one_up)) (by 7 (EventKind.Op 0 0 1)) (Ok tt) (stored (take 2 one_up)) }
     ensures stays { Follows (stored one_up) (by 7 (EventKind.Commit 0)) (Err Stray.NotMade) (stored one_up) }
-    ensures not_without_it { Follows (stored (take 1 one_up)) (by 7 (EventKind.Op 0 1 0)) (Ok tt) (stored (take 1 one_up)) → ⊥ }
-    ensures not_for_nothing { Follows (stored (take 1 one_up)) (by 7 (EventKind.Op 0 1 0)) (Err Stray.NotMade) (stored (take 1 one_up)) → ⊥ }
+    ensures not_without_it { Follows (stored (take 1 one_up)) (by 7 (EventKind.Op 0 0 1)) (Ok tt) (stored (take 1 one_up)) → ⊥ }
+    ensures not_for_nothing { Follows (stored (take 1 one_up)) (by 7 (EventKind.Op 0 0 1)) (Err Stray.NotMade) (stored (take 1 one_up)) → ⊥ }
 {
     an_event_is_made_or_not();
 }

@@ -82,7 +82,7 @@ module _ (s : Stored) (checked : (x : ℕ) (c : Checked) → slice_get s.types x
 
 commit_below : (n k m : ℕ) (happened : EventKind) → AreBelow n k m happened → AllByRecursion (λ t. t < m) (committed_by happened)
 commit_below n k m (kind.Begin t) low = tt
-commit_below n k m (kind.Op t x o) low = tt
+commit_below n k m (kind.Op o t x) low = tt
 commit_below n k m (kind.Busy c t x u) low = tt
 commit_below n k m (kind.None t x c) low = tt
 commit_below n k m (kind.Commit t) low = (low, tt)

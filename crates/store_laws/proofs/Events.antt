@@ -64,7 +64,7 @@ begin_moves = λ old new H w t kept meanings rows.
 module _ (old new : Keeping) (H : List Event) (kept : IsKept old H) (t y op : ℕ) where
   -- at the objects
   op-objects : (was : Meaning) → slice_get old.meanings y ≡ Some was → new.meanings ≡ set old.meanings y (applied was t op)
-      → (x : ℕ) (m n : Meaning) → slice_get old.meanings x ≡ Some m → slice_get new.meanings x ≡ Some n → Changes x (summary H) (Op t y op) m n
+      → (x : ℕ) (m n : Meaning) → slice_get old.meanings x ≡ Some m → slice_get new.meanings x ≡ Some n → Changes x (summary H) (Op op t y) m n
   op-objects was there becomes x m n before is =
       elim (cases-set old.meanings y (applied was t op) x n (ap (λ ms. slice_get ms x) (sym becomes) ∙ is)) [
         | inl here ↦
@@ -165,7 +165,7 @@ types_stay = λ old new H e moves.
 -- how much room an event takes, where this many are open before and after it
 room : (happened : EventKind) (before now n : ℕ) → CountsTo happened before now → n + 1 + now ≡ n + before + takes happened
 room (Begin t) before now n counts = omega (arith, counts)
-room (Op t x k) before now n counts = omega (arith, counts)
+room (Op k t x) before now n counts = omega (arith, counts)
 room (Busy c t x u) before now n counts = omega (arith, counts)
 room (kind.None t x c) before now n counts = omega (arith, counts)
 room (Commit t) before now n counts = omega (arith, counts)

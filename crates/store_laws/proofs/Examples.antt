@@ -40,10 +40,10 @@ begins = record {
 }
 
 -- counts up at the second object
-counts : Moves begun counted (take 1 one_up) (record { worker = 7; kind = Op 0 1 0 })
+counts : Moves begun counted (take 1 one_up) (record { worker = 7; kind = Op 0 0 1 })
 counts = record {
   as_many = refl;
-  objects = both-change (summary (take 1 one_up)) (Op 0 1 0) _ _ _ _ refl refl;
+  objects = both-change (summary (take 1 one_up)) (Op 0 0 1) _ _ _ _ refl refl;
   rows = record { row = by_seven []; was = refl; becomes = refl };
 }
 
@@ -82,7 +82,7 @@ changes-second change a b c second = record { as_many = refl; changed = at-secon
     first change a b c (suc (suc x)) outside = refl
 
 -- the transaction counts up
-pub counts-by_law : OpMoves → IsKept begun (take 1 one_up) → Moves begun counted (take 1 one_up) (record { worker = 7; kind = Op 0 1 0 })
+pub counts-by_law : OpMoves → IsKept begun (take 1 one_up) → Moves begun counted (take 1 one_up) (record { worker = 7; kind = Op 0 0 1 })
 counts-by_law moves kept =
     moves begun counted (take 1 one_up) 7 0 1 0 (by_seven []) (object.counter_at Intentions 0 []) kept refl refl refl refl
 
@@ -110,7 +110,7 @@ module _ (stays : StaysKept) (new : IsKept new_counters []) where
 
   pub counted-kept : IsKept counted (take 2 one_up)
   unfolding next
-  counted-kept = stays begun counted (take 1 one_up) (record { worker = 7; kind = Op 0 1 0 }) begun-kept (refl, (refl, refl, tt)) counts (omega arith)
+  counted-kept = stays begun counted (take 1 one_up) (record { worker = 7; kind = Op 0 0 1 }) begun-kept (refl, (refl, refl, tt)) counts (omega arith)
 
   pub committed-kept : IsKept committed one_up
   committed-kept = stays counted committed (take 2 one_up) (record { worker = 7; kind = Commit 0 }) counted-kept refl commits (omega arith)

@@ -24,7 +24,7 @@ use Rattle.store_laws.specs.Kept.{objects_of, IsObject}
 -- an event leaves the object's type
 pub same-type : (x : ℕ) (s : Summary) (happened : EventKind) (old new : Meaning) → Changes x s happened old new → new.checked ≡ old.checked
 same-type x s (Begin t) old new change = ap (λ (m : Meaning). m.checked) change
-same-type x s (Op t y k) old new change =
+same-type x s (Op k t y) old new change =
     elim (cases_Bool (y == x)) [
       | inl here ↦ ap (λ (m : Meaning). m.checked) (rw here at change)
       | inr elsewhere ↦ ap (λ (m : Meaning). m.checked) (rw elsewhere at change)
@@ -57,13 +57,13 @@ object-at ms x m there =
 module _ (applies : SoundAfterApply) (commits : SoundAfterCommit) (strikes : SoundAfterStrike) where
   -- an event keeps a meaning sound, where an operation of its may be executed
   sound-after : (x : ℕ) (s : Summary) (happened : EventKind) (old new : Meaning) → IsCovered (object old) → IsSound old
-      → ((t k : ℕ) → happened ≡ Op t x k → MayApply old t k) → Changes x s happened old new → IsSound new
+      → ((t k : ℕ) → happened ≡ Op k t x → MayApply old t k) → Changes x s happened old new → IsSound new
   sound-after x s (Begin t) old new covered sound may change = subst IsSound (sym change) sound
-  sound-after x s (Op t y k) old new covered sound may change =
+  sound-after x s (Op k t y) old new covered sound may change =
       elim (cases_Bool (y == x)) [
         | inl here ↦
             subst IsSound (sym (rw here at change))
-            (applies old t k covered sound (may t k (ap (λ z. Op t z k) (eqb-true y x here))))
+            (applies old t k covered sound (may t k (ap (λ z. Op k t z) (eqb-true y x here))))
         | inr elsewhere ↦ subst IsSound (sym (rw elsewhere at change)) sound
       ]
   sound-after x s (Busy c t y u) old new covered sound may change = subst IsSound (sym change) sound

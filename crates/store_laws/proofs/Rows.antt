@@ -84,18 +84,18 @@ module _ (old new : List (Option Row)) (s : Summary) (B : List ℕ) (known : Are
   rows-same same = subst (λ rows. AreRows rows s B) (sym same) known
 
   -- an operation
-  rows-op : (t x k : ℕ) → is_open s t ≡ true → ((u : ℕ) → of u (summary_next s (Op t x k)).survives ≡ own_after u s (Op t x k))
-      → IsRowMoved old new t (λ r. Some (at_too x r)) → AreRows new (summary_next s (Op t x k)) B
+  rows-op : (t x k : ℕ) → is_open s t ≡ true → ((u : ℕ) → of u (summary_next s (Op k t x)).survives ≡ own_after u s (Op k t x))
+      → IsRowMoved old new t (λ r. Some (at_too x r)) → AreRows new (summary_next s (Op k t x)) B
   rows-op t x k open_now own move =
-      rows-moved old new t (λ r. Some (at_too x r)) s (summary_next s (Op t x k)) B known move refl
-      (λ r was. open-row (at_too x r) t (summary_next s (Op t x k)) B open_now (was.worker r refl) (places r (was.places r refl)))
+      rows-moved old new t (λ r. Some (at_too x r)) s (summary_next s (Op k t x)) B known move refl
+      (λ r was. open-row (at_too x r) t (summary_next s (Op k t x)) B open_now (was.worker r refl) (places r (was.places r refl)))
       (λ u other. refl)
       (λ u other. own u ∙ rw other refl)
     where
-      mine : of t (summary_next s (Op t x k)).survives ≡ of t s.survives ++ (record { by = t; at = x; op = k }) ∷ []
+      mine : of t (summary_next s (Op k t x)).survives ≡ of t s.survives ++ (record { by = t; at = x; op = k }) ∷ []
       mine = own t ∙ rw (eq-eqb t t refl) refl
 
-      places : (r : Row) → r.places ≡ places_of t s → r.places ++ x ∷ [] ≡ places_of t (summary_next s (Op t x k))
+      places : (r : Row) → r.places ≡ places_of t s → r.places ++ x ∷ [] ≡ places_of t (summary_next s (Op k t x))
       places r was =
           ap (λ ps. ps ++ x ∷ []) was
           ∙ sym (map-append (λ (e : Entry). e.at) (of t s.survives) ((record { by = t; at = x; op = k }) ∷ []))
@@ -164,7 +164,7 @@ pub rows-after : (objects : List Object) (old new : List (Option Row)) (s : Summ
     → ((u : ℕ) → is_open (summary_next s happened) u ≡ is_open_after s happened u) → ((u : ℕ) → of u (summary_next s happened).survives ≡ own_after u s happened)
     → RowsMove w happened old new → AreRows new (summary_next s happened) (B ++ beginner w happened)
 rows-after objects old new s B w (Begin t) known in_run workers may opens own move = rows-begin old new s B known w t in_run workers may opens move
-rows-after objects old new s B w (Op t x k) known in_run workers may opens own move = rw (append-nil B) (rows-op old new s B known t x k may.0 own move)
+rows-after objects old new s B w (Op k t x) known in_run workers may opens own move = rw (append-nil B) (rows-op old new s B known t x k may.0 own move)
 rows-after objects old new s B w (Busy c t x u) known in_run workers may opens own move = rw (append-nil B) (rows-same old new s B known move)
 rows-after objects old new s B w (kind.None t x c) known in_run workers may opens own move = rw (append-nil B) (rows-same old new s B known move)
 rows-after objects old new s B w (Commit t) known in_run workers may opens own move =

@@ -38,7 +38,7 @@ abbrev pub OpMoves : Type 0
 OpMoves =
     (old new : Keeping) (H : List Event) (w t x op : ℕ) (row : Row) (m : Meaning) → IsKept old H → IsOpenRow old t row
     → slice_get old.meanings x ≡ Some m → new.meanings ≡ set old.meanings x (applied m t op)
-    → new.rows ≡ set old.rows t (Some (at_too x row)) → Moves old new H (record { worker = w; kind = Op t x op })
+    → new.rows ≡ set old.rows t (Some (at_too x row)) → Moves old new H (record { worker = w; kind = Op op t x })
 
 -- the event of an end of t
 abbrev pub end_event : End → ℕ → EventKind

@@ -37,7 +37,7 @@ by_seven places = record { worker = 7; places = places }
 
 abbrev pub one_up : List Event
 one_up =
-    (record { worker = 7; kind = Begin 0 }) ∷ (record { worker = 7; kind = Op 0 1 0 }) ∷ (record { worker = 7; kind = Commit 0 }) ∷ []
+    (record { worker = 7; kind = Begin 0 }) ∷ (record { worker = 7; kind = Op 0 0 1 }) ∷ (record { worker = 7; kind = Commit 0 }) ∷ []
 
 -- before it
 abbrev pub new_counters : Keeping
@@ -66,8 +66,8 @@ committed = record {
 -- worker 3 begins a transaction, and worker 7 another, which counts up at each of two objects and takes the last back
 abbrev pub one_back : List Event
 one_back =
-    (record { worker = 3; kind = Begin 0 }) ∷ (record { worker = 7; kind = Begin 1 }) ∷ (record { worker = 7; kind = Op 1 0 0 })
-    ∷ (record { worker = 7; kind = Op 1 1 0 }) ∷ (record { worker = 7; kind = Rollback 1 1 }) ∷ []
+    (record { worker = 3; kind = Begin 0 }) ∷ (record { worker = 7; kind = Begin 1 }) ∷ (record { worker = 7; kind = Op 0 1 0 })
+    ∷ (record { worker = 7; kind = Op 0 1 1 }) ∷ (record { worker = 7; kind = Rollback 1 1 }) ∷ []
 
 -- ---- as its callers see it
 

@@ -29,7 +29,7 @@ pub record IsRowMoved (old new : List (Option Row)) (t : ℕ) (moved : Row → O
 -- what the event of a worker does to the rows
 abbrev pub RowsMove : ℕ → EventKind → List (Option Row) → List (Option Row) → Type 0
 RowsMove w (Begin t) old new = new ≡ old ++ Some (record { worker = w; places = [] }) ∷ []
-RowsMove w (Op t x k) old new = IsRowMoved old new t (λ r. Some (at_too x r))
+RowsMove w (Op k t x) old new = IsRowMoved old new t (λ r. Some (at_too x r))
 RowsMove w (Commit t) old new = IsRowMoved old new t (λ r. None)
 RowsMove w (Abort t) old new = IsRowMoved old new t (λ r. None)
 RowsMove w (Rollback t n) old new = IsRowMoved old new t (λ r. Some (without_places n r))

@@ -16,7 +16,7 @@ use Rattle.object_calls.specs.declared.answer.Answer.TheVariants.{Reply, Busy, N
 
 -- the event of an answer of t's call c at x: one without a reply tells of the call the place of its first operation
 abbrev pub as_event : ℕ → ℕ → ℕ → Answer → EventKind
-as_event t x c (Reply k) = kind.Op t x k
+as_event t x c (Reply k) = kind.Op k t x
 as_event t x c (Busy u) = kind.Busy (place_of c) t x u
 as_event t x c None = kind.None t x (place_of c)
 

@@ -39,7 +39,7 @@ pub fn it_goes_on_agreeing()
 /// What its calls change is what its events do, by the law of each: it counts up, and then takes that
 /// back, or commits.
 pub fn its_calls_are_its_events()
-    ensures counts { AreAccepted → Moves begun counted (take 1 one_up) (record { worker = 7; kind = EventKind.Op 0 1 0 }) }
+    ensures counts { AreAccepted → Moves begun counted (take 1 one_up) (record { worker = 7; kind = EventKind.Op 0 0 1 }) }
     ensures takes_back { AreAccepted → Moves counted begun (take 2 one_up) (record { worker = 7; kind = EventKind.Rollback 0 1 }) }
     ensures commits { AreAccepted → Moves counted committed (take 2 one_up) (record { worker = 7; kind = EventKind.Commit 0 }) }
 {
@@ -103,7 +103,7 @@ pub fn a_call_may_be_refused_memory()
 /// The event of an answer is its transaction's, at its object, and says its call where nothing was
 /// executed: the place of its first operation, without an amount.
 pub fn an_answer_is_an_event()
-    ensures reply { as_event 3 1 2 (Answer.Reply 4) ≡ EventKind.Op 3 1 4 }
+    ensures reply { as_event 3 1 2 (Answer.Reply 4) ≡ EventKind.Op 4 3 1 }
     ensures busy { as_event 3 1 2 (Answer.Busy 5) ≡ EventKind.Busy 2 3 1 5 }
     ensures none { as_event 3 1 2 Answer.None ≡ EventKind.None 3 1 2 }
     ensures busy_for_an_amount { as_event 3 1 (operation_at 2 (Some 17)) (Answer.Busy 5) ≡ EventKind.Busy 2 3 1 5 }

@@ -1,6 +1,8 @@
 -- The numbers of operations: those without an amount have their places, those with one come after them. The lemmas say that nothing is lost.
-use Rattle.std.specs.Prelude.{◌≡◌, ℕ, suc, ◌+◌, ◌-◌, ◌*◌, ◌/◌, ◌%◌, ◌<◌, Bool, true, false, Option, Some, None, is_some, unwrap_or, refl}
+use Rattle.std.specs.Prelude.{◌≡◌, ℕ, suc, ◌+◌, ◌*◌, ◌/◌, ◌%◌, ◌<◌, Bool, true, false, Option, Some, None, List, is_some, length, get_or, unwrap_or, refl}
+use Rattle.std.specs.Int.{w32, from_le_bytes, to_le_bytes}
 use Rattle.std.proofs.Common.{zero, sym, ap, ◌∙◌, arith}
+use Rattle.std.proofs.lemmas.Nat.{le_bytes_4}
 
 -- more than there are places: a place is a byte
 abbrev pub places : ℕ
@@ -48,9 +50,13 @@ pub counted-of-operation : (k : ℕ) (counted : Bool) (n : ℕ) → k < 256 → 
 counted-of-operation k false n small = ap is_some (amount-of-operation k None small)
 counted-of-operation k true n small = ap is_some (amount-of-operation k (Some n) small)
 
-pub amount-of-counted : (k : ℕ) (counted : Bool) (n : ℕ) → k < 256 → (counted ≡ false → n ≡ 0) → unwrap_or (amount_of (operation_at k (counted_amount counted n))) 0 ≡ n
+amount-of-counted : (k : ℕ) (counted : Bool) (n : ℕ) → k < 256 → (counted ≡ false → n ≡ 0) → unwrap_or (amount_of (operation_at k (counted_amount counted n))) 0 ≡ n
 amount-of-counted k false n small none = ap (λ a. unwrap_or a 0) (amount-of-operation k None small) ∙ sym (none refl)
 amount-of-counted k true n small none = ap (λ a. unwrap_or a 0) (amount-of-operation k (Some n) small)
+
+pub bytes-of-counted : (k : ℕ) (counted : Bool) (bytes : List ℕ) → k < 256 → length bytes ≡ 4 → ((i : ℕ) → get_or bytes i 0 < 256) → (counted ≡ false → from_le_bytes w32 bytes ≡ 0)
+    → to_le_bytes w32 (unwrap_or (amount_of (operation_at k (counted_amount counted (from_le_bytes w32 bytes)))) 0) ≡ bytes
+bytes-of-counted k counted bytes small four are none = le_bytes_4 bytes _ four are (amount-of-counted k counted (from_le_bytes w32 bytes) small none)
 
 -- an operation is told by its place and its amount
 pub operation-again : (p : ℕ) → operation_at (place_of p) (amount_of p) ≡ p

@@ -33,11 +33,11 @@ use Rattle.worker_turns.proofs.Refusals.{not_refused}
 
 module _ (o : Object) (s : Summary) (x t c k : ℕ) where
   -- a refusal isn't a reply
-  busy-no_op : (e : Option Entry) → busy_with e t x c ≡ Op t x k → ⊥
+  busy-no_op : (e : Option Entry) → busy_with e t x c ≡ Op k t x → ⊥
   busy-no_op None is = cc
   busy-no_op (Some e) is = cc
 
-  refused-no_op : (found : Option ℕ) → refused o s x t c found ≡ Op t x k → ⊥
+  refused-no_op : (found : Option ℕ) → refused o s x t c found ≡ Op k t x → ⊥
   refused-no_op None is = cc
   refused-no_op (Some j) is = busy-no_op (blocker o s x t j) is
 
@@ -47,14 +47,14 @@ module _ (o : Object) (s : Summary) (x t c k : ℕ) where
       let reply = and_parts (is_reply o s x t c k) (not (is_some (blocker o s x t k))) free in
       (and_parts (is_of_call o c k) (is_legal_for o s x t k) reply.0).0
 
-  answered-of_call : (found : Option ℕ) → first_below (length o.table.ops) (is_free_reply o s x t c) ≡ found → event_of_first o s x t c found ≡ Op t x k
+  answered-of_call : (found : Option ℕ) → first_below (length o.table.ops) (is_free_reply o s x t c) ≡ found → event_of_first o s x t c found ≡ Op k t x
       → is_of_call o c k ≡ true
   answered-of_call None none is = absurd (refused-no_op (first_below (length o.table.ops) (is_reply o s x t c)) is)
   answered-of_call (Some j) finds is =
       let same : j ≡ k = cc in
       free-of_call (first_below-passes (is_free_reply o s x t c) (length o.table.ops) k (finds ∙ ap (λ n. Some n) same))
 
-  reply-of_call : event_of_call o s x t c ≡ Op t x k → is_of_call o c k ≡ true
+  reply-of_call : event_of_call o s x t c ≡ Op k t x → is_of_call o c k ≡ true
   reply-of_call is = answered-of_call (first_below (length o.table.ops) (is_free_reply o s x t c)) refl is
 
 -- ---- a call that was answered
@@ -117,7 +117,7 @@ module _ (old : Stored) (w t : ℕ) (call : Call) (a : Answer) (new : Stored) wh
 
 -- a reply
 reply-answered : (old : Stored) (w t : ℕ) (call : Call) (k : ℕ) (new : Stored) → IsAnswered old w t call (answer.Reply k) new
-    → IsReply (objects old) t call (Op t (call.0) k) × (new ≡ noted old w (Op t (call.0) k))
+    → IsReply (objects old) t call (Op k t (call.0)) × (new ≡ noted old w (Op k t (call.0)))
 reply-answered old w t call k new its = (
   record {
     o = its.o;
@@ -146,11 +146,11 @@ none-answered old w t call new its =
 
 -- at a reply it gets the receipt of the operation, and its try goes on
 pub calls-reply : (old : Stored) (w t done : ℕ) (call : Call) (p : Progress) (new : Stored) (k : ℕ) → IsAnswered old w t call (answer.Reply k) new
-    → (receipts : List Receipt) → receipts ≡ p.receipts ++ receipt old.history w (Op t (call.0) k) ∷ []
+    → (receipts : List Receipt) → receipts ≡ p.receipts ++ receipt old.history w (Op k t (call.0)) ∷ []
     → Calls t done call old w p new (record p { receipts = receipts; phase = Going t (done + 1) })
 calls-reply old w t done call p new k its receipts gets =
     let (reply, makes) = reply-answered old w t call k new its in
-    inl (Op t (call.0) k, reply, makes, ap (λ rs. record p { receipts = rs; phase = Going t (done + 1) }) gets)
+    inl (Op k t (call.0), reply, makes, ap (λ rs. record p { receipts = rs; phase = Going t (done + 1) }) gets)
 
 module _ (old : Stored) (w t done : ℕ) (call : Call) (p : Progress) (new : Stored) (a : Answer) (its : IsAnswered old w t call a new)
     (held receipts : List Receipt) (kept : held ≡ p.receipts) (within : old.forgotten ≤ length old.history)

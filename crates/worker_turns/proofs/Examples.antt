@@ -11,13 +11,13 @@ use Rattle.worker_turns.specs.Examples.{counters, up_and_down, up_and_away, in_t
 -- ---- replies
 
 -- counting up at the first counter, and at the second; and counting down
-pub up : (t : ℕ) → IsReply counters t (0, codes "inc:1") (Op t 0 0)
+pub up : (t : ℕ) → IsReply counters t (0, codes "inc:1") (Op 0 t 0)
 up t = record { o = object_of undo_counter; there = refl; c = 0; number = refl; k = 0; of_call = refl; is = refl }
 
-pub up-second : (t : ℕ) → IsReply counters t (1, codes "inc:1") (Op t 1 0)
+pub up-second : (t : ℕ) → IsReply counters t (1, codes "inc:1") (Op 0 t 1)
 up-second t = record { o = object_of deferred_counter; there = refl; c = 0; number = refl; k = 0; of_call = refl; is = refl }
 
-down : (t : ℕ) → IsReply counters t (0, codes "dec:1") (Op t 0 1)
+down : (t : ℕ) → IsReply counters t (0, codes "dec:1") (Op 1 t 0)
 down t = record { o = object_of undo_counter; there = refl; c = 1; number = refl; k = 1; of_call = refl; is = refl }
 
 -- ---- tries
@@ -28,7 +28,7 @@ in_the_way-broken = record {
   done = 1;
   call = (0, codes "dec:1");
   next = refl;
-  replies = Op 2 0 0 ∷ [];
+  replies = Op 0 2 0 ∷ [];
   are_replies = (up 2, tt);
   answer = Busy 1 2 0 1;
   no_reply = record { c = 1; number = refl; is = inl (1, refl) };
@@ -36,10 +36,10 @@ in_the_way-broken = record {
 }
 
 both_made-whole : IsWhole counters up_and_down 3 both_made
-both_made-whole = record { replies = Op 3 0 0 ∷ Op 3 0 1 ∷ []; are_replies = (up 3, (down 3, tt)); is = refl }
+both_made-whole = record { replies = Op 0 3 0 ∷ Op 1 3 0 ∷ []; are_replies = (up 3, (down 3, tt)); is = refl }
 
 first_made-cut : IsCut counters up_and_away (9, codes "inc:1") first_made
-first_made-cut = record { t = 4; done = 1; next = refl; replies = Op 4 0 0 ∷ []; are_replies = (up 4, tt); is = refl }
+first_made-cut = record { t = 4; done = 1; next = refl; replies = Op 0 4 0 ∷ []; are_replies = (up 4, tt); is = refl }
 
 -- ---- parts
 

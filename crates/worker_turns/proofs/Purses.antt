@@ -29,7 +29,7 @@ four_of_itself =
     let name = call_of (number_table purse) four in
     and_from (nat_lt four (length the_purse.table.ops)) (is_same_call the_purse.table four four) refl ((bytes_eq-Decides name name).1 refl)
 
-pub four-reply : (t : ℕ) → first_op (number_table purse) (codes "take:4") ≡ Some four → IsReply purses t (0, codes "take:4") (Op t 0 four)
+pub four-reply : (t : ℕ) → first_op (number_table purse) (codes "take:4") ≡ Some four → IsReply purses t (0, codes "take:4") (Op four t 0)
 four-reply t first = record {
   o = the_purse;
   there = refl;
@@ -41,10 +41,10 @@ four-reply t first = record {
 }
 
 -- the place alone is none of it
-same_operation : (t k j : ℕ) → Op t 0 k ≡ Op t 0 j → k ≡ j
+same_operation : (t k j : ℕ) → Op k t 0 ≡ Op j t 0 → k ≡ j
 same_operation t k j same = cc
 
-pub place-no_reply : (t : ℕ) → first_op (number_table purse) (codes "take:4") ≡ Some four → IsReply purses t (0, codes "take:4") (Op t 0 2) → ⊥
+pub place-no_reply : (t : ℕ) → first_op (number_table purse) (codes "take:4") ≡ Some four → IsReply purses t (0, codes "take:4") (Op 2 t 0) → ⊥
 place-no_reply t first reply =
     let o : the_purse ≡ reply.o = same_Some the_purse reply.o reply.there in
     let c : four ≡ reply.c = same_Some four reply.c (sym first ∙ reply.number) in

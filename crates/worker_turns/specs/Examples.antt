@@ -29,15 +29,15 @@ up_and_away = (0, codes "inc:1") ∷ (9, codes "inc:1") ∷ []
 
 -- transaction 2 counts up, and finds transaction 1 in its way
 abbrev pub in_the_way : List EventKind
-in_the_way = Begin 2 ∷ Op 2 0 0 ∷ Busy 1 2 0 1 ∷ Abort 2 ∷ []
+in_the_way = Begin 2 ∷ Op 0 2 0 ∷ Busy 1 2 0 1 ∷ Abort 2 ∷ []
 
 -- transaction 3 makes both calls
 abbrev pub both_made : List EventKind
-both_made = Begin 3 ∷ Op 3 0 0 ∷ Op 3 0 1 ∷ Commit 3 ∷ []
+both_made = Begin 3 ∷ Op 0 3 0 ∷ Op 1 3 0 ∷ Commit 3 ∷ []
 
 -- transaction 4 makes the first call alone
 abbrev pub first_made : List EventKind
-first_made = Begin 4 ∷ Op 4 0 0 ∷ Abort 4 ∷ []
+first_made = Begin 4 ∷ Op 0 4 0 ∷ Abort 4 ∷ []
 
 -- a purse of 0 to 9, from which any amount may be taken
 abbrev pub purses : List Object
@@ -48,7 +48,7 @@ purses = object_of (record { kind = Escrow; file = number_file purse }) ∷ []
 -- what worker 7 notes of its begin, its call, and its commit
 abbrev pub told : List Receipt
 told =
-    (record { position = 0; event = record { worker = 7; kind = Begin 0 } }) ∷ (record { position = 1; event = record { worker = 7; kind = Op 0 1 0 } })
+    (record { position = 0; event = record { worker = 7; kind = Begin 0 } }) ∷ (record { position = 1; event = record { worker = 7; kind = Op 0 0 1 } })
     ∷ (record { position = 2; event = record { worker = 7; kind = Commit 0 } }) ∷ []
 
 -- it has one job, to count up at the second counter, and two tries; it noted the first of these and is here

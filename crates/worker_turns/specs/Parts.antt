@@ -27,7 +27,7 @@ pub record IsReply (objects : List Object) (t : ℕ) (call : Call) (e : EventKin
   pub number : number_of objects call ≡ Some c
   pub k : ℕ
   pub of_call : is_of_call o c k ≡ true
-  pub is : e ≡ Op t (call.0) k
+  pub is : e ≡ Op k t (call.0)
 
 -- t's call had none: it was answered `Busy` or `None`, by the place of its first operation
 pub record IsNoReply (objects : List Object) (t : ℕ) (call : Call) (e : EventKind) : Type 0 where

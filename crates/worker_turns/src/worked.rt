@@ -54,8 +54,8 @@ pub fn parts_are_in_order()
 /// A call that takes any amount is named with it. Its reply has the amount; where it has none, the event
 /// says the place alone.
 pub fn a_job_takes_any_amount()
-    ensures reply { IsReply purses 3 (0, codes "take:4") (EventKind.Op 3 0 (operation_at 2 (Some 4))) }
-    ensures no_amount { IsReply purses 3 (0, codes "take:4") (EventKind.Op 3 0 2) → ⊥ }
+    ensures reply { IsReply purses 3 (0, codes "take:4") (EventKind.Op (operation_at 2 (Some 4)) 3 0) }
+    ensures no_amount { IsReply purses 3 (0, codes "take:4") (EventKind.Op 2 3 0) → ⊥ }
     ensures busy { IsNoReply purses 3 (0, codes "take:4") (EventKind.Busy 2 3 0 1) }
     ensures by_number { IsNoReply purses 3 (0, codes "take:4") (EventKind.Busy (operation_at 2 (Some 4)) 3 0 1) → ⊥ }
     ensures too_much { call_fault purses (0, codes "take:10") ≡ Some Refusal.NoCall }

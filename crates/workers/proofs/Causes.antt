@@ -23,7 +23,7 @@ use Rattle.workers.proofs.Follows.{Follows}
 -- an event takes no room back
 room-falls : (happened : EventKind) (before now : ℕ) → CountsTo happened before now → before ≤ suc now
 room-falls (Begin t) before now counts = omega (arith, counts)
-room-falls (Op t x k) before now counts = omega (arith, counts)
+room-falls (Op k t x) before now counts = omega (arith, counts)
 room-falls (Busy c t x u) before now counts = omega (arith, counts)
 room-falls (kind.None t x c) before now counts = omega (arith, counts)
 room-falls (Commit t) before now counts = omega (arith, counts)

@@ -34,7 +34,7 @@ job-done = (
     are_broken = refl;
     last = kinds of_first;
     is_last = record {
-      replies = Op 1 0 0 ∷ [];
+      replies = Op 0 1 0 ∷ [];
       are_replies = (record { o = object_of undo_counter; there = refl; c = 0; number = refl; k = 0; of_call = refl; is = refl }, tt);
       is = refl;
     };

@@ -53,7 +53,7 @@ follows now in_run opens own who objects H e run on =
 
 -- the event neither executes or strikes operations of t nor ends it
 abbrev pub IsApart : ℕ → EventKind → Type 0
-IsApart t (Op u x k) = (u == t) ≡ false
+IsApart t (Op k u x) = (u == t) ≡ false
 IsApart t (Commit u) = (u == t) ≡ false
 IsApart t (Abort u) = (u == t) ≡ false
 IsApart t (Rollback u n) = (u == t) ≡ false
@@ -62,7 +62,7 @@ IsApart t _ = Unit {0}
 -- t's operations still survive
 own-apart : (s : Summary) (t : ℕ) (happened : EventKind) → IsApart t happened → own_after t s happened ≡ of t s.survives
 own-apart s t (Begin u) apart = refl
-own-apart s t (Op u x k) apart = rw apart refl
+own-apart s t (Op k u x) apart = rw apart refl
 own-apart s t (Busy c u x v) apart = refl
 own-apart s t (kind.None u x c) apart = refl
 own-apart s t (Commit u) apart = refl
@@ -72,7 +72,7 @@ own-apart s t (Rollback u n) apart = rw apart refl
 -- t executed nothing by it
 pub done_for-apart : (t : ℕ) (happened : EventKind) → IsApart t happened → done_for t happened ≡ []
 done_for-apart t (Begin u) apart = refl
-done_for-apart t (Op u x k) apart = rw apart refl
+done_for-apart t (Op k u x) apart = rw apart refl
 done_for-apart t (Busy c u x v) apart = refl
 done_for-apart t (kind.None u x c) apart = refl
 done_for-apart t (Commit u) apart = refl
@@ -82,7 +82,7 @@ done_for-apart t (Rollback u n) apart = refl
 -- where t is open, it stays so
 open-apart : (s : Summary) (t : ℕ) (happened : EventKind) → IsApart t happened → is_open s t ≡ true → is_open_after s happened t ≡ true
 open-apart s t (Begin u) apart now = rw now (or-true (t == u))
-open-apart s t (Op u x k) apart now = now
+open-apart s t (Op k u x) apart now = now
 open-apart s t (Busy c u x v) apart now = now
 open-apart s t (kind.None u x c) apart now = now
 open-apart s t (Commit u) apart now = rw (differ_turned t u apart, now) refl
@@ -100,7 +100,7 @@ other-open s t u now ended =
 -- so no event that may come next is of it
 closed-apart : (objects : List Object) (s : Summary) (t : ℕ) (happened : EventKind) → May objects s happened → is_open s t ≡ false → IsApart t happened
 closed-apart objects s t (Begin u) may ended = tt
-closed-apart objects s t (Op u x k) may ended = other-open s t u may.0 ended
+closed-apart objects s t (Op k u x) may ended = other-open s t u may.0 ended
 closed-apart objects s t (Busy c u x v) may ended = tt
 closed-apart objects s t (kind.None u x c) may ended = tt
 closed-apart objects s t (Commit u) may ended = other-open s t u may ended

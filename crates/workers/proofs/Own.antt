@@ -49,7 +49,7 @@ pub leads-own : (o : Start) (H : List Event) (w : ℕ) (happened : EventKind) �
     → (before now : Option ℕ) → Leads happened before now → ((t : ℕ) → before ≡ Some t → IsOwn o H w t) → (t : ℕ) → now ≡ Some t → IsOwn o (H ++ event w happened ∷ []) w t
 leads-own o H w (Begin u) last goes_on before now (was, is) own t given =
     subst (IsOwn o (H ++ event w (Begin u) ∷ []) w) (same_Some u t (sym is ∙ given)) (begins-own o H w u last goes_on)
-leads-own o H w (Op u x k) last goes_on before now (was, is) own t given =
+leads-own o H w (Op k u x) last goes_on before now (was, is) own t given =
     let its = own t (was ∙ sym is ∙ given) in
     stays-own o H _ last w t its (last.opened t ∙ its.still_open)
 leads-own o H w (Busy c u x v) last goes_on before now (was, is) own t given =
@@ -65,7 +65,7 @@ leads-own o H w (Rollback u n) last goes_on before now leads own t given = absur
 -- an event of a worker isn't of a transaction that the worker hasn't open
 pub leads-apart : (happened : EventKind) (before now : Option ℕ) → Leads happened before now → (t : ℕ) → (before ≡ Some t → ⊥) → IsApart t happened
 leads-apart (Begin u) before now leads t other = tt
-leads-apart (Op u x k) before now (was, is) t other = ne_eqb u t (λ same. other (was ∙ ap Some same))
+leads-apart (Op k u x) before now (was, is) t other = ne_eqb u t (λ same. other (was ∙ ap Some same))
 leads-apart (Busy c u x v) before now leads t other = tt
 leads-apart (kind.None u x c) before now leads t other = tt
 leads-apart (Commit u) before now (was, is) t other = ne_eqb u t (λ same. other (was ∙ ap Some same))
@@ -98,11 +98,11 @@ leads-operations H w (Begin u) last es before now (was, is) own ahead t given =
     let is_next : t ≡ begins H = sym (same_Some u t (sym is ∙ given)) ∙ last.may in
     let behind : begins H ≤ t = omega (arith, is_next) in
     last.own t ∙ none-of (begins H) t (surviving H) _ behind last.in_run.survive ∙ sym (done_by-none t es (Begin u) refl ∙ ahead t behind)
-leads-operations H w (Op u x k) last es before now (was, is) own ahead t given =
+leads-operations H w (Op k u x) last es before now (was, is) own ahead t given =
     let mine : (u == t) ≡ true = eq-eqb u t (same_Some u t (sym is ∙ given)) in
     let entry : List Entry = (record { by = u; at = x; op = k }) ∷ [] in
     last.own t ∙ ap (λ b. cond b (of t (surviving H) ++ entry) (of t (surviving H))) mine ∙ ap (λ l. l ++ entry) (own t (was ∙ sym is ∙ given))
-    ∙ ap (λ b. done_by t es ++ cond b entry []) (sym mine) ∙ sym (done_by-more t es (Op u x k))
+    ∙ ap (λ b. done_by t es ++ cond b entry []) (sym mine) ∙ sym (done_by-more t es (Op k u x))
 leads-operations H w (Busy c u x v) last es before now (was, is) own ahead t given =
     last.own t ∙ own t (was ∙ sym is ∙ given) ∙ sym (done_by-none t es (Busy c u x v) refl)
 leads-operations H w (kind.None u x c) last es before now (was, is) own ahead t given =

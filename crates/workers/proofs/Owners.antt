@@ -36,7 +36,7 @@ open-whose s (Begin u) before now (was, is) t going =
       | inl same ↦ inl (is ∙ ap Some (sym (eqb-true t u same)))
       | inr old ↦ inr (old, λ e. none-some t (sym was ∙ e))
     ]
-open-whose s (Op u x k) before now (was, is) t going = kept-open s u t before now was is going
+open-whose s (Op k u x) before now (was, is) t going = kept-open s u t before now was is going
 open-whose s (Busy c u x v) before now (was, is) t going = kept-open s u t before now was is going
 open-whose s (kind.None u x c) before now (was, is) t going = kept-open s u t before now was is going
 open-whose s (Commit u) before now (was, is) t going = left-open s u t before now was going
@@ -47,7 +47,7 @@ open-whose s (Rollback u n) before now leads t going = absurd leads
 pub going-counts : (happened : EventKind) (before now : Option ℕ) → Leads happened before now → (m n : ℕ) → CountsTo happened m n
     → n + cond (is_some before) 1 0 ≡ m + cond (is_some now) 1 0
 going-counts (Begin t) before now (was, is) m n counts = rw (was, is) (omega (arith, counts))
-going-counts (Op t x k) before now (was, is) m n counts = rw (was, is) (omega (arith, counts))
+going-counts (Op k t x) before now (was, is) m n counts = rw (was, is) (omega (arith, counts))
 going-counts (Busy c t x u) before now (was, is) m n counts = rw (was, is) (omega (arith, counts))
 going-counts (kind.None t x c) before now (was, is) m n counts = rw (was, is) (omega (arith, counts))
 going-counts (Commit t) before now (was, is) m n counts = rw (was, is) (omega (arith, counts))

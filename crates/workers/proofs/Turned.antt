@@ -30,7 +30,7 @@ use Rattle.workers.proofs.Causes.{begin-cause, call-cause}
 -- which transaction is open before the worker's event, and which after it
 abbrev pub Leads : EventKind → Option ℕ → Option ℕ → Type 0
 Leads (Begin t) before now = (before ≡ None) × (now ≡ Some t)
-Leads (Op t x k) before now = (before ≡ Some t) × (now ≡ Some t)
+Leads (Op k t x) before now = (before ≡ Some t) × (now ≡ Some t)
 Leads (Busy c t x u) before now = (before ≡ Some t) × (now ≡ Some t)
 Leads (kind.None t x c) before now = (before ≡ Some t) × (now ≡ Some t)
 Leads (Commit t) before now = (before ≡ Some t) × (now ≡ None)

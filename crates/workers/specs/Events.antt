@@ -16,7 +16,7 @@ by w place (e ∷ es) = if e.worker == w then (record { position = place; event 
 
 -- the operation that t executed by this
 abbrev pub done_for : ℕ → EventKind → List Entry
-done_for t (Op u x k) = if u == t then (record { by = u; at = x; op = k }) ∷ [] else []
+done_for t (Op k u x) = if u == t then (record { by = u; at = x; op = k }) ∷ [] else []
 done_for t _ = []
 
 -- the operations that t executed by these

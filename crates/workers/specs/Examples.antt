@@ -17,8 +17,8 @@ start = record {
 -- both began and counted up; worker 0 committed, and worker 1 aborted
 abbrev pub since : List Event
 since =
-    (record { worker = 0; kind = Begin 1 }) ∷ (record { worker = 1; kind = Begin 2 }) ∷ (record { worker = 0; kind = Op 1 0 0 })
-    ∷ (record { worker = 1; kind = Op 2 1 0 }) ∷ (record { worker = 0; kind = Commit 1 }) ∷ (record { worker = 1; kind = Abort 2 }) ∷ []
+    (record { worker = 0; kind = Begin 1 }) ∷ (record { worker = 1; kind = Begin 2 }) ∷ (record { worker = 0; kind = Op 0 1 0 })
+    ∷ (record { worker = 1; kind = Op 0 2 1 }) ∷ (record { worker = 0; kind = Commit 1 }) ∷ (record { worker = 1; kind = Abort 2 }) ∷ []
 
 -- then the history is this
 abbrev pub after_both : List Event
@@ -27,11 +27,11 @@ after_both = one_up ++ since
 -- what worker 0 noted
 abbrev pub of_first : List Receipt
 of_first =
-    (record { position = 3; event = record { worker = 0; kind = Begin 1 } }) ∷ (record { position = 5; event = record { worker = 0; kind = Op 1 0 0 } })
+    (record { position = 3; event = record { worker = 0; kind = Begin 1 } }) ∷ (record { position = 5; event = record { worker = 0; kind = Op 0 1 0 } })
     ∷ (record { position = 7; event = record { worker = 0; kind = Commit 1 } }) ∷ []
 
 -- and worker 1
 abbrev pub of_second : List Receipt
 of_second =
-    (record { position = 4; event = record { worker = 1; kind = Begin 2 } }) ∷ (record { position = 6; event = record { worker = 1; kind = Op 2 1 0 } })
+    (record { position = 4; event = record { worker = 1; kind = Begin 2 } }) ∷ (record { position = 6; event = record { worker = 1; kind = Op 0 2 1 } })
     ∷ (record { position = 8; event = record { worker = 1; kind = Abort 2 } }) ∷ []

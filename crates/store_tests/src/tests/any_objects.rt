@@ -45,7 +45,7 @@ fn events_are_compared(rt: HostRuntime) {
 #[test]
 fn events_are_printed(rt: HostRuntime) -> Result<(), Fail> {
     let text =
-        "Event { worker: 3, kind: Op { t: 1, x: 0, k: Operation { place: 2, counted: true, amount: 7 } } }";
+        "Event { worker: 3, kind: Op { k: Operation { place: 2, amount: Some(7) }, t: 1, x: 0 } }";
     are_debugged(rt.alloc(), &[(event(Operation::with(2, 7)), text)])
 }
 

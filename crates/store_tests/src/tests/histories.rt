@@ -44,7 +44,7 @@ fn entries_are_compared(rt: HostRuntime) {
 
 #[test]
 fn entries_are_printed(rt: HostRuntime) -> Result<(), Fail> {
-    let text = "Entry { by: 1, at: 0, op: Operation { place: 2, counted: false, amount: 0 } }";
+    let text = "Entry { by: 1, at: 0, op: Operation { place: 2, amount: None } }";
     are_debugged(rt.alloc(), &[(entry(), text)])
 }
 

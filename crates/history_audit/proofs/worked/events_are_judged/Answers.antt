@@ -14,7 +14,7 @@ agree : MovedRowsAgree → AreRows [] (summary []) → AreRows two_ups_rows (sum
 agree law start =
     let begun : AreRows (Some [] ∷ []) (summary (take 1 two_ups)) = law two_counters [] (record { worker = 0; kind = Begin 0 }) [] (Some [] ∷ []) start refl refl in
     let one : AreRows (Some (operation 1 0 ∷ []) ∷ []) (summary (take 2 two_ups)) =
-    law two_counters (take 1 two_ups) (record { worker = 0; kind = Op 0 1 0 }) (Some [] ∷ []) (Some (operation 1 0 ∷ []) ∷ []) begun (refl, refl)
+    law two_counters (take 1 two_ups) (record { worker = 0; kind = Op 0 0 1 }) (Some [] ∷ []) (Some (operation 1 0 ∷ []) ∷ []) begun (refl, refl)
     record { its = []; was = refl; becomes = refl }
     in
     let both : AreRows (Some (operation 1 0 ∷ []) ∷ Some [] ∷ []) (summary (take 3 two_ups)) =

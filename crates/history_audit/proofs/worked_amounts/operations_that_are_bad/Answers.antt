@@ -18,7 +18,7 @@ returns c = record {
   second_of_value = bad (operation_at 7 (Some 1)) refl;
   at_a_table = record {
     history = (refl, tt);
-    event = record { worker = 0; kind = kind.Op 0 0 (operation_at 0 (Some 1)) };
+    event = record { worker = 0; kind = kind.Op (operation_at 0 (Some 1)) 0 0 };
     there = refl;
     bad = λ may. false≢true may.1;
   };

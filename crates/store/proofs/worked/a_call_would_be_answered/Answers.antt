@@ -8,5 +8,5 @@ use Rattle.store.proofs.worked.a_call_would_be_answered.Goals as goal
 pub returns-clause-not_past_a_blocker : goal.returns-clause-not_past_a_blocker
 unfolding next
 returns-clause-not_past_a_blocker c = λ would.
-    let is : ◌≡◌ {A = Option EventKind} (Some (Busy 1 1 0 0)) (Some (Op 1 0 1)) = would.1 1 refl in
+    let is : ◌≡◌ {A = Option EventKind} (Some (Busy 1 1 0 0)) (Some (Op 1 1 0)) = would.1 1 refl in
     cc

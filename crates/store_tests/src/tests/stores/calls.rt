@@ -82,6 +82,6 @@ fn calls_are_printed(rt: HostRuntime) -> Result<(), Fail> {
         first: Operation::listed(1),
         operations: 2,
     };
-    let text = "Call { first: Operation { place: 1, counted: false, amount: 0 }, operations: 2 }";
+    let text = "Call { first: Operation { place: 1, amount: None }, operations: 2 }";
     are_debugged(rt.alloc(), &[(call, text)])
 }

@@ -5,4 +5,4 @@ use Rattle.worker_turns.proofs.worked.a_job_takes_three_turns.Goals as goal
 
 -- its call has a reply
 pub returns-clause-calls : goal.returns-clause-calls
-returns-clause-calls c = inl (Op 0 1 0, up-second 0, refl, refl)
+returns-clause-calls c = inl (Op 0 0 1, up-second 0, refl, refl)

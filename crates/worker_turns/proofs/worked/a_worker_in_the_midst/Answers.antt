@@ -12,8 +12,8 @@ returns-clause-told c = record {
   are_parts = refl;
   behind = [];
   are_broken = refl;
-  now = Begin 0 ∷ Op 0 1 0 ∷ [];
-  so_far = (Op 0 1 0 ∷ [], record { within = omega arith; are_replies = (up-second 0, tt) }, refl);
+  now = Begin 0 ∷ Op 0 0 1 ∷ [];
+  so_far = (Op 0 0 1 ∷ [], record { within = omega arith; are_replies = (up-second 0, tt) }, refl);
   are = refl;
   idle = λ at_end. absurd (omega (arith, at_end));
 }

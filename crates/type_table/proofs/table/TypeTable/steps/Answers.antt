@@ -1,4 +1,4 @@
-use Rattle.std.proofs.Common.{ap, subst, sym}
+use Rattle.std.proofs.Common.{subst, sym}
 use Rattle.type_table.specs.Table.{Table, AreSteps}
 use Rattle.type_table.proofs.Steps.{steps-say}
 use Rattle.type_table.proofs.table.TypeTable.steps.Goals as goal

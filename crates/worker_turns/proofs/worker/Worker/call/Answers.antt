@@ -25,7 +25,7 @@ returns-after-answer g c =
     elim c.match-answer.branch [
       | in-Reply v ↦
           let k = v.in-Reply.k in
-          let gets : v.take.new.receipts.items ≡ shown.receipts ++ receipt old.history c.args.w (Op c.args.t c.args.x k) ∷ [] =
+          let gets : v.take.new.receipts.items ≡ shown.receipts ++ receipt old.history c.args.w (Op k c.args.t c.args.x) ∷ [] =
           rw (v.take.ensures.gets, c.reserve.ensures.items, c.event_count-position.ensures.exact) refl in
           rw (← c.self.view_is, v.self-inside-is, v.self-is)
           (calls-reply old c.args.w c.args.t c.args.done call shown new k (subst (λ a. IsAnswered old c.args.w c.args.t call a new) v.in-Reply.is its) v.take.new.receipts.items gets)
